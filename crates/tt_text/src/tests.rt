@@ -1,0 +1,19 @@
+use crate::Text;
+use std::test::Fail;
+
+#[test]
+fn a_text_grows_and_is_copied(rt: HostRuntime) -> Result<(), Fail> {
+    let mut text = Text::from_bytes(rt.alloc(), b"ab")?;
+    text.push_bytes(b"c")?;
+    let copy = text.copy()?;
+    assert_eq!(rt; text.as_bytes(), b"abc".as_slice());
+    assert_eq!(rt; copy.as_bytes(), b"abc".as_slice());
+    Ok(())
+}
+
+#[test]
+fn a_refusal_has_a_message(rt: HostRuntime) -> Result<(), Fail> {
+    let message = format!(in rt.alloc(); "{}", crate::NoMemory)?;
+    assert_eq!(rt; message.as_str(), "no memory");
+    Ok(())
+}
