@@ -1,0 +1,30 @@
+//! The outside, as the rest sees it: sources of bytes, sinks, named files, and the gate that a resumed thread
+//! passes. What an object holds, has got or maps is told where it can tell it: objects in memory tell it, real
+//! files and streams do not.
+#![tactic(auto)]
+
+mod failed;
+mod fault_plan;
+mod files;
+mod gate;
+mod memory_files;
+mod memory_sink;
+mod memory_source;
+mod real_files;
+mod sink;
+mod source;
+mod std_streams;
+
+pub use failed::Failed;
+pub use files::{Files, ReadAnswer};
+pub use gate::{Gate, OpenGate, Slice};
+pub use memory_files::MemoryFiles;
+pub use memory_sink::MemorySink;
+pub use memory_source::MemorySource;
+pub use real_files::RealFiles;
+pub use sink::Sink;
+pub use source::Source;
+pub use std_streams::{StdSink, StdSource};
+
+#[cfg(test)]
+mod tests;

@@ -1,0 +1,152 @@
+ghost use Rattle.std.specs.Prelude.{◌≡◌, ◌≢◌, ◌++◌, ℕ, List, [], ◌∷◌, ◌<◌, length, Option, IfOk, IfSome, IfNone, OnOk, OnErr, IsErrOf, IsErr, Contains, Some, None, slice_index_or};
+ghost use Rattle.tt_devices.specs.Faults.{Rises};
+ghost use Rattle.tt_devices.specs.Memory.{fresh_plan, one_more, bytes_under, IsFirstNamed};
+ghost use Rattle.tt_devices.specs.Names.{Tells, HasName, KeepsOthers};
+
+use crate::fault_plan::FaultPlan;
+use crate::{Failed, Files, ReadAnswer};
+use std::alloc::Global;
+use std::marker::Model;
+use tt_text::NoMemory;
+
+/// A file in memory.
+#[derive(Debug, Drop)]
+struct NamedFile {
+    name: Vec<u8>,
+    bytes: Vec<u8>,
+}
+
+impl Model for NamedFile {
+    ghost use Rattle.tt_devices.specs.Memory.{NamedBytes};
+
+    ghost Value = { NamedBytes };
+
+    ghost view = { λ file. record { name = file.name.items; bytes = file.bytes.items } };
+}
+
+/// Files in memory, which tell their map. Its calls fail where its plans say so.
+#[derive(Debug, Drop)]
+pub struct MemoryFiles {
+    files: Vec<NamedFile>,
+    reads: FaultPlan,
+    writes: FaultPlan,
+    alloc: Global,
+}
+
+impl Model for MemoryFiles {
+    ghost use Rattle.tt_devices.specs.Memory.{Shelf};
+
+    ghost Value = { Shelf };
+
+    ghost view = { λ all. record { files = all.files.items; reads = all.reads; writes = all.writes } };
+}
+
+impl MemoryFiles {
+    /// No files. The reads and the writes whose numbers, each counted from 1, are in the lists fail, but for a read
+    /// of a name that has no bytes.
+    pub fn new(alloc: Global, fail_reads: Vec<u64>, fail_writes: Vec<u64>) -> Self
+        ensures { result ≡ record { files = []; reads = fresh_plan fail_reads.items; writes = fresh_plan fail_writes.items } }
+    {
+        MemoryFiles {
+            files: Vec::new(alloc),
+            reads: FaultPlan::new(fail_reads),
+            writes: FaultPlan::new(fail_writes),
+            alloc,
+        }
+    }
+
+    /// Puts the bytes under the name, in place of those that were there. It counts as no call.
+    ///
+    /// `NoMemory` where memory for them is refused; then the map is as it was.
+    pub fn add(&mut self, name: &str, bytes: &[u8]) -> Result<(), NoMemory>
+        ensures added { OnOk result (bytes_under self.new.files name.now ≡ Some bytes.now) }
+        ensures others { (other : List ℕ) → other ≢ name.now → bytes_under self.new.files other ≡ bytes_under self.old.files other }
+        ensures unchanged { OnErr result (self.new.files ≡ self.old.files) }
+        ensures plans { (self.new.reads ≡ self.old.reads) × (self.new.writes ≡ self.old.writes) }
+    {
+        put(self.alloc, &mut self.files, name.as_bytes(), bytes)
+    }
+
+    /// The bytes under the name, or `None` exactly where it has none.
+    pub fn bytes(&self, name: &str) -> Option<&[u8]>
+        ensures found { IfSome result (λ bytes. bytes_under self.now.files name.now ≡ Some bytes.now) }
+        ensures none { IfNone result (bytes_under self.now.files name.now ≡ None) }
+    {
+        let place = place_of(&self.files, name.as_bytes())?;
+        Some(self.files[place].bytes.as_slice())
+    }
+}
+
+/// Where the first file of this name is.
+fn place_of(files: &[NamedFile], name: &[u8]) -> Option<usize>
+    ensures within { IfSome result (λ place. place < length files.now) }
+    ensures first { IfSome result (IsFirstNamed files.now name.now) }
+    ensures none { IfNone result (bytes_under files.now name.now ≡ None) }
+{
+    for (place, file) in files.iter().enumerate() {
+        if file.name.as_slice() == name {
+            return Some(place);
+        }
+    }
+    None
+}
+
+/// Puts the bytes under the name.
+fn put(alloc: Global, files: &mut Vec<NamedFile>, name: &[u8], bytes: &[u8]) -> Result<(), NoMemory>
+    ensures added { OnOk result (bytes_under files.new.items name.now ≡ Some bytes.now) }
+    ensures others { (other : List ℕ) → other ≢ name.now → bytes_under files.new.items other ≡ bytes_under files.old.items other }
+    ensures unchanged { OnErr result (files.new.items ≡ files.old.items) }
+{
+    let bytes = Vec::from_slice(alloc, bytes)?;
+    match place_of(files, name) {
+        Some(place) => {
+            let file = &mut files[place];
+            file.bytes = bytes;
+        }
+        None => {
+            let name = Vec::from_slice(alloc, name)?;
+            files.push(NamedFile { name, bytes })?;
+        }
+    }
+    Ok(())
+}
+
+impl Files for MemoryFiles {
+    ghost map = { λ all. Some (bytes_under all.files) };
+
+    ghost read_fault_count = { λ all. all.reads.faults };
+
+    ghost write_fault_count = { λ all. all.writes.faults };
+
+    fn read_faults(&self) -> u64 {
+        self.reads.faults()
+    }
+
+    fn write_faults(&self) -> u64 {
+        self.writes.faults()
+    }
+
+    fn read(&mut self, alloc: Global, name: &str) -> Result<Vec<u8>, ReadAnswer> {
+        let fails = self.reads.count_call();
+        let Some(bytes) = self.bytes(name) else {
+            return Err(ReadAnswer::Missing);
+        };
+        if fails {
+            self.reads.count_fault();
+            return Err(ReadAnswer::Failed);
+        }
+        Vec::from_slice(alloc, bytes).map_err(|_| ReadAnswer::NoMemory)
+    }
+
+    fn write(&mut self, name: &str, bytes: &[u8]) -> Result<(), Failed> {
+        if self.writes.count_call() {
+            self.writes.count_fault();
+            return Err(Failed);
+        }
+        if self.add(name, bytes).is_err() {
+            self.writes.count_fault();
+            return Err(Failed);
+        }
+        Ok(())
+    }
+}
