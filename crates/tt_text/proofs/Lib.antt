@@ -1,1 +1,2 @@
+pub mod BraceLemmas
 mod DefinitionExamples

@@ -7,7 +7,7 @@ pub data IsBalanced : List ℕ → Type 0 where
   -- a byte that is no brace and no backslash
   other : {b : ℕ} {text : List ℕ} → b ≢ 123 → b ≢ 125 → b ≢ 92 → IsBalanced text → IsBalanced (b ∷ text)
   -- a backslash with the byte after it
-  escaped : {b escaped : ℕ} {text : List ℕ} → b ≡ 92 → IsBalanced text → IsBalanced (b ∷ escaped ∷ text)
+  escaped : {b next : ℕ} {text : List ℕ} → b ≡ 92 → IsBalanced text → IsBalanced (b ∷ next ∷ text)
   -- a group in braces
   group : {text inner rest : List ℕ} → text ≡ 123 ∷ (inner ++ (125 ∷ rest)) → IsBalanced inner → IsBalanced rest → IsBalanced text
 
@@ -31,19 +31,12 @@ further n (Some m) = Some (n + m)
 abbrev pub closing_brace : (after : Bool) (depth : ℕ) → List ℕ → Option ℕ
 closing_brace after depth [] = None
 closing_brace true depth (b ∷ text) = further 1 (closing_brace false depth text)
-closing_brace false zero (b ∷ text) =
+closing_brace false depth (b ∷ text) =
     elim (mark_of b) [
-      | Opens ↦ further 1 (closing_brace false 1 text)
-      | Closes ↦ Some 0
-      | Escapes ↦ further 1 (closing_brace true zero text)
-      | Letter ↦ further 1 (closing_brace false zero text)
-    ]
-closing_brace false (suc depth) (b ∷ text) =
-    elim (mark_of b) [
-      | Opens ↦ further 1 (closing_brace false (suc (suc depth)) text)
-      | Closes ↦ further 1 (closing_brace false depth text)
-      | Escapes ↦ further 1 (closing_brace true (suc depth) text)
-      | Letter ↦ further 1 (closing_brace false (suc depth) text)
+      | Opens ↦ further 1 (closing_brace false (suc depth) text)
+      | Closes ↦ elim depth [ zero ↦ Some 0 | suc outer ↦ further 1 (closing_brace false outer text) ]
+      | Escapes ↦ further 1 (closing_brace true depth text)
+      | Letter ↦ further 1 (closing_brace false depth text)
     ]
 
 -- how many bytes of a text that follows an open brace stand before the brace that closes it

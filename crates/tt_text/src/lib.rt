@@ -1,6 +1,7 @@
 //! Byte text: every value of Tcl(n) is one.
 #![tactic(auto)]
 
+mod laws;
 mod no_memory;
 mod text;
 
