@@ -1,7 +1,7 @@
 -- What a backslash and the bytes after it stand for (Tcl(n), rule 9, backslash substitution).
 use Rattle.std.specs.Prelude.{ℕ, ◌+◌, Bool, ◌||◌, if◌then◌else◌, nat_le, ◌==◌, List, [], ◌∷◌, length, take, take_while}
 use Rattle.std.specs.Int.{is_in_range}
-use Rattle.std.specs.Char.{encode_utf8, is_ascii_hexdigit}
+use Rattle.std.specs.Char.{encode_utf8, is_digit}
 use Rattle.std.specs.Str.Parse.{digits_value}
 use Rattle.tt_text.specs.Characters.{is_octal_digit}
 
@@ -38,15 +38,15 @@ kind_of b =
 abbrev pub is_space_or_tab : ℕ → Bool
 is_space_or_tab b = b == 32 || b == 9
 
--- at most three octal digits at the front, the third only while the number is at most 255
+-- at most so many digits of the radix at the front
+abbrev pub leading_digits : ℕ → ℕ → List ℕ → List ℕ
+leading_digits radix most text = take_while (λ b. is_digit b radix) (take most text)
+
+-- one to three octal digits at the front, the third only while the number is at most 255
 abbrev pub octal_digits : List ℕ → List ℕ
 octal_digits text =
-    let digits = take_while is_octal_digit (take 3 text) in
+    let digits = leading_digits 8 3 text in
     if nat_le (digits_value 8 digits) 255 then digits else take 2 digits
-
--- at most so many hexadecimal digits at the front
-abbrev pub hexadecimal_digits : ℕ → List ℕ → List ℕ
-hexadecimal_digits most text = take_while is_ascii_hexdigit (take most text)
 
 -- the bytes of a code point in UTF-8, where a surrogate is written as U+FFFD
 abbrev pub character_of : ℕ → List ℕ
@@ -69,7 +69,7 @@ sequence Newline b text = record { value = 32 ∷ []; takes = 1 + length (take_w
 sequence Octal b text =
     let digits = octal_digits (b ∷ text) in
     record { value = character_of (digits_value 8 digits); takes = length digits }
-sequence (Hexadecimal most) b text = hexadecimal_sequence b (hexadecimal_digits most text)
+sequence (Hexadecimal most) b text = hexadecimal_sequence b (leading_digits 16 most text)
 sequence Itself b text = stands_for_itself b
 
 -- the sequence of a backslash before this text: the backslash itself at the end of a text

@@ -2,6 +2,7 @@
 -- is cut into characters as UTF-8 cuts them (Tcl(n), string(n)).
 use Rattle.std.specs.Prelude.{ℕ, Bool, true, false, not, ◌&&◌, ◌||◌, ◌==◌, List, [], ◌∷◌}
 use Rattle.std.specs.Int.{is_in_range}
+use Rattle.std.specs.Char.{is_digit}
 
 -- a byte that the words of a list or of a command may be parted by: 9 to 13 and 32 (Tcl(n))
 abbrev pub is_white_space : ℕ → Bool
@@ -25,7 +26,7 @@ begins_character b = not (continues_character b)
 
 -- an octal digit, `0` to `7` (Tcl(n), rule 9)
 abbrev pub is_octal_digit : ℕ → Bool
-is_octal_digit b = is_in_range 48 55 b
+is_octal_digit b = is_digit b 8
 
 -- a character: the list of its bytes
 abbrev pub Character : Type 0
