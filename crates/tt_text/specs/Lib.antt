@@ -1,0 +1,3 @@
+pub mod Backslash
+pub mod Braces
+pub mod Characters

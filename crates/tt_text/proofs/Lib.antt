@@ -1,0 +1,3 @@
+pub mod BackslashLemmas
+pub mod BraceLemmas
+mod DefinitionExamples
