@@ -1,0 +1,6 @@
+pub mod DigitLemmas
+pub mod LineLemmas
+pub mod RunLemmas
+pub mod PlaceLemmas
+pub mod ReadLemmas
+pub mod LawLemmas

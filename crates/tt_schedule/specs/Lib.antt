@@ -1,0 +1,5 @@
+pub mod Digits
+pub mod Reading
+pub mod Runs
+pub mod Schedule
+pub mod ScheduleText

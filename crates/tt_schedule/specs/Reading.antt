@@ -1,0 +1,19 @@
+use Rattle.std.specs.Prelude.{◌≡◌, ◌≢◌, ℕ, ◌≤◌, List, length}
+use Rattle.std.specs.List.{flat_map}
+use Rattle.tt_schedule.specs.declared.line.Line.{Line}
+use Rattle.tt_schedule.specs.declared.reading.ReadSchedule.{ReadSchedule}
+use Rattle.tt_schedule.specs.declared.reading.ReadSchedule.TheVariants.{Read, Bad}
+use Rattle.tt_schedule.specs.declared.reading.ReadLines.{ReadLines}
+use Rattle.tt_schedule.specs.declared.reading.ReadLines.TheVariants.{Good, Wrong}
+use Rattle.tt_schedule.specs.Runs.{lines_from, AreRuns}
+use Rattle.tt_schedule.specs.ScheduleText.{AreLines, IsScheduleText, line_text}
+
+-- what a text says: the schedule whose text it is, or that it is the text of none
+abbrev pub IsRead : List ℕ → ReadSchedule → Type 0
+IsRead text (Read schedule) = IsScheduleText text schedule.threads
+IsRead text (Bad fault) = (threads : List ℕ) → ¬ (IsScheduleText text threads)
+
+-- what the lines say: the runs that they stand for, or that they are no lines of a schedule
+abbrev pub ReadsLines : List ℕ → ReadLines → Type 0
+ReadsLines text (Good runs) = AreRuns 0 runs.items × (text ≡ flat_map line_text (lines_from 0 runs.items))
+ReadsLines text (Wrong left) = (left ≤ length text) × ((lines : List Line) → AreLines lines → text ≢ flat_map line_text lines)
