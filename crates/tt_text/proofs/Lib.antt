@@ -1,3 +1,4 @@
 pub mod BackslashLemmas
 pub mod BraceLemmas
+pub mod CharacterLemmas
 mod DefinitionExamples

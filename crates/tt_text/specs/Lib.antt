@@ -1,3 +1,4 @@
 pub mod Backslash
 pub mod Braces
 pub mod Characters
+pub mod Glob

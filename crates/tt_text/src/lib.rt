@@ -2,12 +2,14 @@
 #![tactic(auto)]
 
 mod backslashes;
+mod characters;
 pub mod laws;
 mod no_memory;
 mod sequence;
 mod text;
 
 pub use backslashes::backslash;
+pub use characters::char_count;
 pub use no_memory::NoMemory;
 pub use sequence::Backslash;
 pub use text::Text;
