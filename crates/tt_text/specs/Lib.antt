@@ -2,3 +2,4 @@ pub mod Backslash
 pub mod Braces
 pub mod Characters
 pub mod Glob
+pub mod GlobScan

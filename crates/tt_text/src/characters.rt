@@ -1,4 +1,4 @@
-ghost use Rattle.std.specs.Prelude.{◌≡◌, ◌+◌, ◌∷◌, ◌<◌, [], length, MatchOption, IfSome, take_while, count_by};
+ghost use Rattle.std.specs.Prelude.{◌≡◌, ◌+◌, ◌∷◌, ◌<◌, [], length, MatchOption, IfSome, take_while, count_by, bytes_eq};
 ghost use Rattle.tt_text.specs.Characters.{characters, continues_character, begins_character};
 
 /// How many characters the text has (string(n), string length): one for its first byte, and one
@@ -39,4 +39,11 @@ fn continues_character(byte: u8) -> bool
     ensures { result ≡ continues_character byte }
 {
     matches!(byte, 0x80..=0xBF)
+}
+
+// Whether a character is this one byte.
+pub(crate) fn is_byte(character: &[u8], byte: u8) -> bool
+    ensures { result ≡ bytes_eq character.now (byte ∷ []) }
+{
+    character == [byte].as_slice()
 }
