@@ -1,0 +1,4 @@
+pub mod BackslashLemmas
+pub mod BraceLemmas
+pub mod CharacterLemmas
+mod DefinitionExamples
