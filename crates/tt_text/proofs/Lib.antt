@@ -2,3 +2,4 @@ pub mod BackslashLemmas
 pub mod BraceLemmas
 pub mod CharacterLemmas
 mod DefinitionExamples
+pub mod GlobLemmas

@@ -29,6 +29,21 @@ pub record TakesFirst (pattern after : List Character) (c : Character) : Type 0 
   pub takes : (text : List Character) → Matches after text → Matches pattern (c ∷ text)
   pub only : (text : List Character) → Matches pattern text → MatchesAfterFirst after text
 
+-- the text begins with c, and the pattern matches the text after it
+pub record MatchesAfter (c : Character) (pattern text : List Character) : Type 0 where
+  pub rest : List Character
+  pub cut : text ≡ c ∷ rest
+  pub matches : Matches pattern rest
+
+-- the first piece of a pattern means the character c, and is followed by the pattern `after`
+pub record Means (pattern after : List Character) (c : Character) : Type 0 where
+  pub takes : (text : List Character) → Matches after text → Matches pattern (c ∷ text)
+  pub only : (text : List Character) → Matches pattern text → MatchesAfter c after text
+
+-- the pattern matches no text that begins with c
+abbrev pub RefusesFirst : List Character → Character → Type 0
+RefusesFirst pattern c = (text : List Character) → ¬ Matches pattern (c ∷ text)
+
 -- a pattern against a text, up to the pattern's first `*`
 abbrev pub IsSegmentOf : Segment → List Character → List Character → Type 0
 IsSegmentOf Whole pattern text = Matches pattern text
