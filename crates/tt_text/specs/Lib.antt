@@ -1,3 +1,5 @@
 pub mod Backslash
 pub mod Braces
 pub mod Characters
+pub mod Glob
+pub mod GlobScan

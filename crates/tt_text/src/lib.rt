@@ -2,13 +2,18 @@
 #![tactic(auto)]
 
 mod backslashes;
+mod characters;
+mod glob_set;
 pub mod laws;
 mod no_memory;
+mod patterns;
 mod sequence;
 mod text;
 
 pub use backslashes::backslash;
+pub use characters::char_count;
 pub use no_memory::NoMemory;
+pub use patterns::glob;
 pub use sequence::Backslash;
 pub use text::Text;
 

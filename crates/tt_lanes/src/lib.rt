@@ -1,0 +1,9 @@
+//! Scans and counts of bytes, many at a time.
+#![tactic(auto)]
+
+mod classes;
+mod count;
+mod scan;
+
+pub use count::{count_chars, count_newlines};
+pub use scan::{blank_run, next_special};

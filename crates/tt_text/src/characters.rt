@@ -1,0 +1,49 @@
+ghost use Rattle.std.specs.Prelude.{◌≡◌, ◌+◌, ◌∷◌, ◌<◌, [], length, MatchOption, IfSome, take_while, count_by, bytes_eq};
+ghost use Rattle.tt_text.specs.Characters.{characters, continues_character, begins_character};
+
+/// How many characters the text has (string(n), string length): one for its first byte, and one
+/// for each later byte outside 0x80 to 0xBF.
+pub fn char_count(text: &[u8]) -> usize
+    ensures { result ≡ length (characters text.now) }
+{
+    match text.split_first() {
+        None => 0,
+        Some((_, rest)) => 1 + beginning(rest),
+    }
+}
+
+// How many bytes begin a character.
+fn beginning(text: &[u8]) -> usize
+    ensures { result ≡ count_by begins_character text.now }
+{
+    text.iter().filter(|b| !continues_character(**b)).count()
+}
+
+// The first character, and the text after it.
+pub(crate) fn split_character(text: &[u8]) -> Option<(&[u8], &[u8])>
+    ensures cases { MatchOption result (text.now ≡ []) (λ parts. characters text.now ≡ parts.0.now ∷ characters parts.1.now) }
+    ensures shorter { IfSome result (λ parts. length parts.1.now < length text.now) }
+{
+    let (_, rest) = text.split_first()?;
+    Some(text.split_at(1 + continuing(rest)))
+}
+
+// How many bytes at the front go on the character before them.
+fn continuing(text: &[u8]) -> usize
+    ensures { result ≡ length (take_while continues_character text.now) }
+{
+    text.iter().take_while(|b| continues_character(**b)).count()
+}
+
+fn continues_character(byte: u8) -> bool
+    ensures { result ≡ continues_character byte }
+{
+    matches!(byte, 0x80..=0xBF)
+}
+
+// Whether a character is this one byte.
+pub(crate) fn is_byte(character: &[u8], byte: u8) -> bool
+    ensures { result ≡ bytes_eq character.now (byte ∷ []) }
+{
+    character == [byte].as_slice()
+}
