@@ -9,6 +9,7 @@ mod no_memory;
 mod patterns;
 mod sequence;
 mod text;
+mod texts;
 
 pub use backslashes::backslash;
 pub use characters::char_count;
@@ -16,6 +17,7 @@ pub use no_memory::NoMemory;
 pub use patterns::glob;
 pub use sequence::Backslash;
 pub use text::Text;
+pub use texts::Texts;
 
 #[cfg(test)]
 mod tests;

@@ -17,3 +17,13 @@ fn a_refusal_has_a_message(rt: HostRuntime) -> Result<(), Fail> {
     assert_eq!(rt; message.as_str(), "no memory");
     Ok(())
 }
+
+#[test]
+fn texts_are_kept_in_order(rt: HostRuntime) -> Result<(), Fail> {
+    let mut texts = crate::Texts::new(rt.alloc());
+    texts.push(Text::from_bytes(rt.alloc(), b"a")?)?;
+    texts.push(Text::from_bytes(rt.alloc(), b"b")?)?;
+    assert_eq!(rt; texts.as_slice().len(), 2);
+    assert_eq!(rt; texts.as_slice()[1].as_bytes(), b"b".as_slice());
+    Ok(())
+}

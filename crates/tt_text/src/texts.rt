@@ -1,0 +1,48 @@
+ghost use Rattle.std.specs.Prelude.{◌≡◌, ◌++◌, ◌∷◌, [], OnOk, OnErr};
+
+use crate::{NoMemory, Text};
+use std::alloc::Global;
+use std::marker::Model;
+
+/// A list of texts. Contracts see the list.
+#[derive(Debug, Drop)]
+pub struct Texts {
+    items: Vec<Text>,
+}
+
+impl Model for Texts {
+    ghost use Rattle.std.specs.Prelude.{ℕ, List};
+
+    ghost Value = { List (List ℕ) };
+
+    ghost view = { λ texts. texts.items.items };
+}
+
+impl Texts {
+    /// No texts. It takes no memory.
+    pub fn new(alloc: Global) -> Self
+        ensures empty { result ≡ [] }
+    {
+        Texts {
+            items: Vec::new(alloc),
+        }
+    }
+
+    /// The texts, from the first to the last.
+    pub fn as_slice(&self) -> &[Text]
+        ensures items { result.now ≡ self.now }
+    {
+        self.items.as_slice()
+    }
+
+    /// Adds a text at the end.
+    ///
+    /// `NoMemory` where memory for it is refused; then the list is as it was.
+    pub fn push(&mut self, text: Text) -> Result<(), NoMemory>
+        ensures pushed { OnOk result (self.new ≡ self.old ++ text ∷ []) }
+        ensures unchanged { OnErr result (self.new ≡ self.old) }
+    {
+        self.items.push(text)?;
+        Ok(())
+    }
+}
