@@ -1,0 +1,5 @@
+pub mod Machine
+pub mod PlainCode
+pub mod PlainScript
+pub mod Stage
+pub mod Standing
