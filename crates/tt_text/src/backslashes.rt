@@ -115,3 +115,6 @@ fn number(digits: &[u8], radix: u32) -> u32
     }
     number
 }
+
+#[cfg(test)]
+mod tests;
