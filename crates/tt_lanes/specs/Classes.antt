@@ -1,19 +1,23 @@
 -- The bytes that the scans stop at and the counts count.
-use Rattle.std.specs.Prelude.{ℕ, ◌+◌, Bool, not, ◌||◌, ◌==◌, List, [], ◌∷◌, count_by}
+use Rattle.std.specs.Prelude.{ℕ, ◌+◌, Bool, not, ◌&&◌, ◌||◌, ◌==◌, List, [], ◌∷◌, count_by}
 use Rattle.std.specs.Int.{is_in_range}
 
--- a byte that means something in a command (Tcl(n), rules 1 to 9): white space, or one of `; " { } [ ] $ \`
-abbrev pub is_special : ℕ → Bool
-is_special b =
-    is_in_range 9 13 b || b == 32 || b == 59 || b == 34 || b == 123 || b == 125 || b == 91 || b == 93 || b == 36 || b == 92
-
--- white space that ends no command (Tcl(n), rule 3): white space other than newline
-abbrev pub is_blank : ℕ → Bool
-is_blank b = b == 9 || is_in_range 11 13 b || b == 32
+-- a byte that the words of a command may be parted by: 9 to 13 and 32 (Tcl(n))
+abbrev pub is_white_space : ℕ → Bool
+is_white_space b = is_in_range 9 13 b || b == 32
 
 -- the end of a line (Tcl(n), rule 1)
 abbrev pub is_newline : ℕ → Bool
 is_newline b = b == 10
+
+-- white space that ends no command (Tcl(n), rule 3)
+abbrev pub is_blank : ℕ → Bool
+is_blank b = is_white_space b && not (is_newline b)
+
+-- a byte that means something in a command (Tcl(n), rules 1 to 9): white space, or one of `; " { } [ ] $ \`
+abbrev pub is_special : ℕ → Bool
+is_special b =
+    is_white_space b || b == 59 || b == 34 || b == 123 || b == 125 || b == 91 || b == 93 || b == 36 || b == 92
 
 -- a byte that begins a character wherever it stands (string(n))
 abbrev pub begins_character : ℕ → Bool

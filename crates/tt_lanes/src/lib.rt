@@ -7,3 +7,6 @@ mod scan;
 
 pub use count::{count_chars, count_newlines};
 pub use scan::{blank_run, next_special};
+
+#[cfg(test)]
+mod tests;

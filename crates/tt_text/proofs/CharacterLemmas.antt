@@ -1,10 +1,10 @@
 -- How a text is cut into characters.
-use Rattle.std.proofs.Common.{◌≡◌, ℕ, suc, ◌+◌, Bool, true, false, cond, not, List, [], ◌∷◌, length, take, drop, refl, sym, ap, ◌∙◌, arith, zero-add}
+use Rattle.std.proofs.Common.{◌≡◌, ℕ, suc, ◌+◌, Bool, true, false, cond, not, List, [], ◌∷◌, length, take, drop, refl, sym, ap, subst, ◌∙◌, arith, zero-add}
 use Rattle.std.specs.Prelude.{take_while, count_by}
 use Rattle.std.specs.List.{prefix_len}
 use Rattle.std.proofs.lemmas.List.Folds.{length-prefix_len}
 use Rattle.std.proofs.lemmas.List.Sums.{sum_by-cons}
-use Rattle.tt_text.specs.Characters.{Character, characters, begin_with, continues_character, begins_character}
+use Rattle.tt_text.specs.Characters.{CharacterLaws, IsCutInto, Character, characters, begin_with, continues_character, begins_character}
 
 joins : (b next : ℕ) (more : List ℕ) (characters : List Character) → continues_character next ≡ true
     → begin_with b ((next ∷ more) ∷ characters) ≡ (b ∷ next ∷ more) ∷ characters
@@ -65,3 +65,32 @@ count_characters b (c ∷ text) =
 
 pub count_of_text : (b n : ℕ) (text rest : List ℕ) → text ≡ b ∷ rest → n ≡ count_by begins_character rest → 1 + n ≡ length (characters text)
 count_of_text b n text rest e counted = ap (λ k. 1 + k) counted ∙ sym (count_characters b rest) ∙ sym (ap (λ t. length (characters t)) e)
+
+-- one byte more before a text that is cut into characters
+
+join_cut : (b n : ℕ) (more text : List ℕ) (cut : List Character) → continues_character n ≡ true → IsCutInto text ((n ∷ more) ∷ cut)
+    → IsCutInto (b ∷ text) ((b ∷ n ∷ more) ∷ cut)
+join_cut b n more text cut e h =
+    record { joined = ap (λ t. b ∷ t) h.joined; each = ((e, h.each.0), h.each.1); apart = h.apart }
+
+stay_cut : (b n : ℕ) (more text : List ℕ) (cut : List Character) → continues_character n ≡ false → IsCutInto text ((n ∷ more) ∷ cut)
+    → IsCutInto (b ∷ text) ((b ∷ []) ∷ (n ∷ more) ∷ cut)
+stay_cut b n more text cut e h =
+    record { joined = ap (λ t. b ∷ t) h.joined; each = (tt, h.each); apart = (ap not e, h.apart) }
+
+more_cut : (b n : ℕ) (more text : List ℕ) (cut : List Character) (continues : Bool) → continues_character n ≡ continues
+    → IsCutInto text ((n ∷ more) ∷ cut) → IsCutInto (b ∷ text) (begin_with b ((n ∷ more) ∷ cut))
+more_cut b n more text cut true e h = subst (IsCutInto (b ∷ text)) (sym (joins b n more cut e)) (join_cut b n more text cut e h)
+more_cut b n more text cut false e h = subst (IsCutInto (b ∷ text)) (sym (stays b n more cut e)) (stay_cut b n more text cut e h)
+
+begin_cut : (b : ℕ) (text : List ℕ) (cut : List Character) → IsCutInto text cut → IsCutInto (b ∷ text) (begin_with b cut)
+begin_cut b text [] h = record { joined = ap (λ t. b ∷ t) h.joined; each = (tt, tt); apart = tt }
+begin_cut b text ([] ∷ cut) h = absurd h.each.0
+begin_cut b text ((n ∷ more) ∷ cut) h = more_cut b n more text cut (continues_character n) refl h
+
+cut_of : (text : List ℕ) → IsCutInto text (characters text)
+cut_of [] = record { joined = refl; each = tt; apart = tt }
+cut_of (b ∷ text) = begin_cut b text (characters text) (cut_of text)
+
+pub character_laws : CharacterLaws
+character_laws = record { cut = cut_of; count = count_characters }

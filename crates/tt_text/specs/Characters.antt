@@ -1,6 +1,7 @@
 -- The bytes of a text by kind, and its characters. A text is a list of bytes in no encoding; it
 -- is cut into characters as UTF-8 cuts them (Tcl(n), string(n)).
-use Rattle.std.specs.Prelude.{ℕ, Bool, true, false, not, ◌&&◌, ◌||◌, ◌==◌, List, [], ◌∷◌}
+use Rattle.std.specs.Prelude.{◌≡◌, ℕ, ◌+◌, Bool, true, false, not, ◌&&◌, ◌||◌, ◌==◌, List, [], ◌∷◌, length, flat_map, count_by, IsTrue}
+use Rattle.std.specs.List.{AllByRecursion}
 use Rattle.std.specs.Int.{is_in_range}
 use Rattle.std.specs.Char.{is_digit}
 
@@ -46,3 +47,29 @@ begin_with b ((next ∷ more) ∷ characters) =
 abbrev pub characters : List ℕ → List Character
 characters [] = []
 characters (b ∷ text) = begin_with b (characters text)
+
+-- one character: a first byte, and bytes that go on it
+abbrev pub IsCharacter : Character → Type 0
+IsCharacter [] = ⊥
+IsCharacter (b ∷ more) = AllByRecursion (λ c. IsTrue (continues_character c)) more
+
+-- a character that begins where it stands, whatever is before it
+abbrev pub BeginsAnywhere : Character → Type 0
+BeginsAnywhere [] = ⊥
+BeginsAnywhere (b ∷ more) = IsTrue (begins_character b)
+
+-- the characters after the first one
+abbrev pub later_characters : List Character → List Character
+later_characters [] = []
+later_characters (first ∷ later) = later
+
+-- a text cut into characters: joined they are the text, and no two of them could be one
+pub record IsCutInto (text : List ℕ) (cut : List Character) : Type 0 where
+  pub joined : flat_map (λ c. c) cut ≡ text
+  pub each : AllByRecursion IsCharacter cut
+  pub apart : AllByRecursion BeginsAnywhere (later_characters cut)
+
+-- `characters` cuts each text so, and their number is one for the first byte and one for each that begins a character
+pub record CharacterLaws : Type 0 where
+  pub cut : (text : List ℕ) → IsCutInto text (characters text)
+  pub count : (b : ℕ) (text : List ℕ) → length (characters (b ∷ text)) ≡ 1 + count_by begins_character text

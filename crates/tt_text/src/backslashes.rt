@@ -14,6 +14,7 @@ pub fn backslash(text: &[u8], at: usize) -> Backslash
     requires { slice_get text.now at ≡ Some BACKSLASH }
     ensures value { take result.len result.bytes ≡ (backslash (drop (at + 1) text.now)).value }
     ensures next { result.next ≡ at + 1 + (backslash (drop (at + 1) text.now)).takes }
+    ensures within { result.next ≤ length text.now }
 {
     let after = &text[at + 1..];
     let Some((&first, rest)) = after.split_first() else {
@@ -52,6 +53,7 @@ fn octal_digits(text: &[u8]) -> &[u8]
     ensures value { result.now ≡ octal_digits text.now }
     ensures digits { AllDigits 8 result.now }
     ensures few { length result.now ≤ 3 }
+    ensures within { length result.now ≤ length text.now }
 {
     let digits = leading_digits(text, 3, 8);
     if number(digits, 8) <= 255 {
@@ -90,6 +92,7 @@ fn hexadecimal(letter: u8, text: &[u8], most: usize, next: usize) -> Backslash
     requires room { next + length text.now < 2 ^ 64 }
     ensures value { take result.len result.bytes ≡ (hexadecimal_sequence letter (leading_digits 16 most text.now)).value }
     ensures next { result.next + 1 ≡ next + (hexadecimal_sequence letter (leading_digits 16 most text.now)).takes }
+    ensures within { result.next ≤ next + length text.now }
 {
     let digits = leading_digits(text, most, 16);
     if digits.is_empty() {
@@ -115,3 +118,6 @@ fn number(digits: &[u8], radix: u32) -> u32
     }
     number
 }
+
+#[cfg(test)]
+mod tests;

@@ -47,3 +47,14 @@ pub(crate) fn is_byte(character: &[u8], byte: u8) -> bool
 {
     character == [byte].as_slice()
 }
+
+#[cfg(test)]
+mod tests {
+    use super::*;
+
+    #[test]
+    fn characters_are_counted_by_first_bytes(rt: HostRuntime) {
+        assert_eq!(rt; char_count(b"\xC3\xA9a\xE2\x82\xAC"), 3);
+        assert_eq!(rt; char_count(b"\x80\x80a"), 2);
+    }
+}

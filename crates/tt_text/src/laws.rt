@@ -1,8 +1,14 @@
 //! What the definitions that other crates cite say together. Nothing runs here.
-ghost use Rattle.tt_text.specs.Braces.{MatchingBraceLaw, BalancedLaw};
+ghost use Rattle.tt_text.specs.Braces.{BalancedLaw, MatchingBraceLaw};
+ghost use Rattle.tt_text.specs.Characters.{CharacterLaws};
 
 /// The matching brace is the one up to which the text is balanced (Tcl(n), rule 6).
 pub fn matching_brace_law()
     ensures law { MatchingBraceLaw }
     ensures balanced { BalancedLaw }
+{}
+
+/// A text is its characters, and no two of them could be one (string(n)).
+pub fn character_law()
+    ensures { CharacterLaws }
 {}

@@ -131,3 +131,6 @@ fn is_same(character: &[u8], other: &[u8]) -> bool
 {
     character == other
 }
+
+#[cfg(test)]
+mod tests;

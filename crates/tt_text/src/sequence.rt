@@ -4,9 +4,9 @@ ghost use Rattle.tt_text.specs.Backslash.{character_of};
 /// A backslash sequence (Tcl(n), rule 9): what it stands for, and where the text goes on.
 #[derive(Clone, Copy, Debug, PartialEq, Eq)]
 pub struct Backslash {
-    /// What it stands for, and zeros after that.
+    /// The first `len` of them are what it stands for.
     pub bytes: [u8; 4],
-    /// How many of `bytes` it stands for, 1 to 4.
+    /// At most 4.
     pub len: u8,
     /// The place after the sequence.
     pub next: usize,

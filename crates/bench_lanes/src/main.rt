@@ -1,0 +1,93 @@
+//! The lane kernels beside loops that go a byte at a time.
+//!
+//! Without arguments it says whether both answer the same over 1 MiB. With the argument `times` it
+//! also prints how long each takes for a byte.
+#![tactic(auto)]
+
+mod plain;
+
+use std::env;
+use std::rt::Clock;
+use std::time::Instant;
+
+const SIZE: usize = 1 << 20;
+
+const ROUNDS: usize = 64;
+
+fn main(rt: HostRuntime) -> anyhow::Result<()> {
+    let is_timed = env::args(&rt)?.any(|word| word.as_str() == "times");
+    let letters = vec![in rt.alloc(); b'a'; SIZE]?;
+    let blanks = vec![in rt.alloc(); b' '; SIZE]?;
+    compare(
+        &rt,
+        "next_special",
+        &letters,
+        is_timed,
+        |b| tt_lanes::next_special(b, 0),
+        plain::next_special,
+    )?;
+    compare(
+        &rt,
+        "blank_run",
+        &blanks,
+        is_timed,
+        |b| tt_lanes::blank_run(b, 0),
+        plain::blank_run,
+    )?;
+    compare(
+        &rt,
+        "count_newlines",
+        &letters,
+        is_timed,
+        |b| tt_lanes::count_newlines(b),
+        plain::count_newlines,
+    )?;
+    compare(
+        &rt,
+        "count_chars",
+        &letters,
+        is_timed,
+        |b| tt_lanes::count_chars(b),
+        plain::count_chars,
+    )
+}
+
+fn compare<K: Fn(&[u8]) -> usize, P: Fn(&[u8]) -> usize>(
+    rt: &(impl Clock + Print),
+    name: &str,
+    bytes: &[u8],
+    is_timed: bool,
+    kernel: K,
+    plain: P,
+) -> anyhow::Result<()>
+    requires kernel { K.IsAlwaysCallable kernel }
+    requires plain { P.IsAlwaysCallable plain }
+{
+    let answers = if kernel(bytes) == plain(bytes) {
+        "the same"
+    } else {
+        "DIFFERENT"
+    };
+    if !is_timed {
+        println!(rt; "{name}: {answers}")?;
+        return Ok(());
+    }
+    let fast = picoseconds(rt, bytes, kernel)?;
+    let slow = picoseconds(rt, bytes, plain)?;
+    println!(rt; "{name}: {answers}, {fast} ps a byte, the plain loop {slow} ps")?;
+    Ok(())
+}
+
+// How long a call takes for a byte. Each round begins a byte later, so that no call is left out.
+fn picoseconds<F: Fn(&[u8]) -> usize>(rt: &impl Clock, bytes: &[u8], f: F) -> anyhow::Result<u128>
+    requires { F.IsAlwaysCallable f }
+{
+    let start = Instant::now(rt)?;
+    let mut answers = 0;
+    for round in 0..ROUNDS.min(bytes.len()) {
+        answers |= f(&bytes[round..]);
+    }
+    let time = start.elapsed(rt)?;
+    anyhow::ensure!(answers < 2 * SIZE, "an answer past the end");
+    Ok(time.as_nanos() * 1000 / (ROUNDS * SIZE) as u128)
+}
