@@ -1,8 +1,8 @@
-use Rattle.std.proofs.Common.{◌≡◌, ◌≢◌, ◌<◌, ◌≤◌, ◌+◌, ℕ, List, [], ◌∷◌, ◌++◌, length, refl, sym, ap, ◌∙◌, subst, arith, length-append}
+use Rattle.std.proofs.Common.{◌≡◌, ◌≢◌, ◌≤◌, ◌+◌, ℕ, List, [], ◌∷◌, ◌++◌, length, refl, sym, ◌∙◌, subst, arith, length-append}
 use Rattle.tt_core.specs.PlainCode.{meaning}
 use Rattle.tt_core.specs.declared.plain.First as code
 use Rattle.tt_core.specs.declared.plain.First.TheVariants as read
-use Rattle.tt_core.specs.PlainScript.{First, Nothing, Puts, Other, first, IsScriptOf, IsPlain, most_commands}
+use Rattle.tt_core.specs.PlainScript.{Nothing, Puts, Other, first, IsScriptOf, IsPlain, most_commands}
 
 -- a script begins with `puts` commands of these words, and then comes the rest
 abbrev pub HasFront : List ℕ → List (List ℕ) → List ℕ → Type 0

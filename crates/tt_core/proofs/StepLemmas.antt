@@ -1,26 +1,10 @@
-use Rattle.std.proofs.Common.{◌≡◌, ◌≢◌, ◌≤◌, ◌+◌, ◌%◌, ℕ, zero, suc, List, [], ◌∷◌, ◌++◌, length, drop, Bool, true, false, Option, Some, None, refl, sym, ap, ◌∙◌, subst, arith, append-nil, append_assoc, option_and_then, IsSome, IsNone}
-use Rattle.tt_devices.specs.Streams.{Grows, GrowsByPart}
-use Rattle.tt_core.specs.declared.fault.StepFault.{StepFault}
-use Rattle.tt_core.specs.declared.fault.StepFault.TheVariants.{NotEnabled, NoMemory, WriteFault}
+use Rattle.std.proofs.Common.{◌≡◌, ◌≢◌, ◌≤◌, ℕ, zero, suc, List, [], ◌∷◌, ◌++◌, length, drop, Option, Some, None, refl, sym, ap, ◌∙◌, subst, arith, append-nil, append_assoc, option_and_then, IsSome, IsNone}
+use Rattle.tt_devices.specs.Streams.{Grows, GrowsByPart, Grows-same, Grows-append}
+use Rattle.tt_core.specs.declared.fault.StepFault.TheVariants.{NoMemory, WriteFault}
 use Rattle.tt_core.specs.declared.standing.Standing.TheVariants.{Running, Over, Failed}
 use Rattle.tt_core.specs.PlainScript.{First, Nothing, Puts, Other, first}
-use Rattle.tt_core.specs.Machine.{Beginning, Machine, Reply, Go, Request, WriteOut, End, Thread, Script, Live, request_of, request_after, start_machine, step, run_from, run, asked, step_asked, step_unless, after_answer, act}
-use Rattle.tt_core.specs.Stage.{HasWritten, IsCutShort}
-use Rattle.tt_core.specs.Standing.{IsAt, StandsAt, IsStanding, kept_of}
-
--- nothing is put
-pub grows-nothing : (got : Option (List ℕ)) → Grows got got []
-grows-nothing None = tt
-grows-nothing (Some bytes) = sym (append-nil bytes)
-
--- two pieces one after the other
-pub grows-more : (old mid new : Option (List ℕ)) (piece more : List ℕ) → Grows old mid piece → Grows mid new more → Grows old new (piece ++ more)
-grows-more None None None piece more p q = tt
-grows-more None None (Some new) piece more p q = absurd q
-grows-more None (Some mid) new piece more p q = absurd p
-grows-more (Some old) None new piece more p q = absurd p
-grows-more (Some old) (Some mid) None piece more p q = absurd q
-grows-more (Some old) (Some mid) (Some new) piece more p q = q ∙ (ap (λ (bytes : List ℕ). bytes ++ more) p ∙ append_assoc old piece more)
+use Rattle.tt_core.specs.Machine.{Beginning, Machine, Reply, Go, WriteOut, End, request_of, request_after, start_machine, step, run_from, run, asked, after_answer, act}
+use Rattle.tt_core.specs.Standing.{IsAt, IsStanding}
 
 -- a step and nothing after it
 run_from-one : (after : Option Machine) → option_and_then (λ next. run_from next []) after ≡ after
@@ -48,8 +32,8 @@ begins beginning out err = record {
   ran = refl;
   within = omega arith;
   stands = record { over = refl; threads = refl; before = []; replies = refl; stands = λ more. refl };
-  out = grows-nothing out;
-  err = grows-nothing err;
+  out = Grows-same out;
+  err = Grows-same err;
 }
 
 -- what main asks where it stands
@@ -136,7 +120,7 @@ stands-wrote beginning threads place after old_out mid_out new_out old_err new_e
   ran = run-more beginning threads 1 is.machine is.ran ∙ step-write is.machine beginning.script place word (drop after beginning.script) is.stands e;
   within = within;
   stands = at-write is.machine beginning.script place after word is.stands e;
-  out = grows-more old_out mid_out new_out is.machine.shared.out (word ++ 10 ∷ []) is.out grew;
+  out = Grows-append old_out mid_out new_out is.machine.shared.out (word ++ 10 ∷ []) is.out grew;
   err = is.err;
 }
 
@@ -156,7 +140,7 @@ stands-cut beginning threads place after old_out mid_out new_out old_err new_err
     part = grew.part;
     rest = grew.rest;
     cut = ap (λ (piece : List ℕ). is.machine.shared.out ++ piece) grew.cut ∙ sym (append_assoc is.machine.shared.out grew.part grew.rest);
-    grew = grows-more old_out mid_out new_out is.machine.shared.out grew.part is.out grew.grew;
+    grew = Grows-append old_out mid_out new_out is.machine.shared.out grew.part is.out grew.grew;
   };
   err = record {
     earlier = threads;

@@ -1,8 +1,8 @@
-use Rattle.std.proofs.Common.{◌≡◌, ◌<◌, ◌≤◌, ◌+◌, ◌-◌, ℕ, List, [], ◌∷◌, ◌++◌, length, take, drop, Bool, true, false, refl, sym, ap, ◌∙◌, arith, suc, inl, inr, if◌then◌else◌, ◌==◌, length-drop, ◌&&◌, not, nat_eq, codes}
+use Rattle.std.proofs.Common.{◌≡◌, ◌≤◌, ◌+◌, ◌-◌, ℕ, List, [], ◌∷◌, length, take, drop, Bool, true, false, sym, ap, ◌∙◌, arith, suc, inl, inr, if◌then◌else◌, ◌==◌, length-drop, ◌&&◌, not, nat_eq, codes}
 use Rattle.std.specs.List.{prefix_len, starts_with}
 use Rattle.std.proofs.lemmas.List.{drop-drop, drop_all}
 use Rattle.std.proofs.lemmas.Bool.{cases_lt}
-use Rattle.tt_core.specs.PlainScript.{First, Nothing, Puts, Other, first, is_space, is_blank, is_word_byte, is_braced_byte, ends_command, after_spaces, puts_of, braced, word_first, spaced_word_first, command_first}
+use Rattle.tt_core.specs.PlainScript.{First, Puts, Other, first, is_space, is_blank, is_word_byte, is_braced_byte, ends_command, after_spaces, puts_of, braced, word_first, spaced_word_first, command_first}
 
 -- the rest is what is left of the text after some bytes
 pub record IsAfter (text rest : List ℕ) : Type 0 where

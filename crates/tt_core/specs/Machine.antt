@@ -1,6 +1,6 @@
 -- The machine that a script runs on: what threads ask, what they are answered, and what that does to what they share
 -- (thread(n), puts(n), exit(n)).
-use Rattle.std.specs.Prelude.{◌≡◌, ℕ, zero, suc, ◌+◌, ◌-◌, ◌%◌, ◌<◌, Bool, true, false, ◌==◌, List, [], ◌∷◌, ◌++◌, length, Option, Some, None, slice_get, slice_set, if◌then◌else◌, option_and_then, option_map}
+use Rattle.std.specs.Prelude.{ℕ, zero, suc, ◌-◌, ◌%◌, Bool, true, ◌==◌, List, [], ◌∷◌, ◌++◌, Option, Some, None, slice_get, slice_set, if◌then◌else◌, option_and_then}
 use Rattle.tt_core.specs.PlainScript.{First, Nothing, Puts, Other, first}
 
 -- what a run begins with: the script of main, its name, its arguments, and the most units of a thread

@@ -1,7 +1,5 @@
 -- A system as contracts see it, and what it has written.
-use Rattle.std.specs.Prelude.{◌≡◌, ℕ, List, [], ◌∷◌, ◌++◌, Option, Some, None, IsSome, option_and_then, option_map}
-use Rattle.std.specs.Coded.{Coded, code_by, coded×, coded_ℕ, coded_list, coded_option}
-use Rattle.std.specs.Prelude.{refl}
+use Rattle.std.specs.Prelude.{◌≡◌, ℕ, List, [], ◌∷◌, ◌++◌, Option, Some, None, IsSome, option_and_then}
 use Rattle.tt_devices.specs.Streams.{Grows}
 use Rattle.tt_core.specs.declared.fault.StepFault.{StepFault}
 use Rattle.tt_core.specs.declared.fault.StepFault.TheVariants.{WriteFault}

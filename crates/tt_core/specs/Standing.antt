@@ -4,7 +4,7 @@ use Rattle.tt_core.specs.declared.fault.StepFault.{StepFault}
 use Rattle.tt_core.specs.declared.fault.StepFault.TheVariants.{NotEnabled}
 use Rattle.tt_core.specs.declared.standing.Standing.{Standing}
 use Rattle.tt_core.specs.declared.standing.Standing.TheVariants.{Running, Over, Failed}
-use Rattle.tt_core.specs.Machine.{Beginning, Machine, Reply, Thread, Script, Live, request_after, run}
+use Rattle.tt_core.specs.Machine.{Beginning, Machine, Reply, Script, Live, request_after, run}
 use Rattle.tt_core.specs.PlainScript.{Nothing, Puts, first}
 use Rattle.tt_core.specs.Stage.{HasWritten}
 use Rattle.tt_core.specs.declared.action.Action.{Action}

@@ -1,4 +1,4 @@
-use Rattle.std.proofs.Common.{◌≡◌, ◌≢◌, ◌++◌, ◌∷◌, [], ap, sym, refl, None, IsSome, drop}
+use Rattle.std.proofs.Common.{◌≡◌, ap, refl, None, IsSome, drop}
 use Rattle.tt_core.specs.PlainScript.{first, Other}
 use Rattle.tt_core.specs.Stage.{next_of}
 use Rattle.tt_core.specs.Standing.{kept_of}

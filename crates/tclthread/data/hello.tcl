@@ -1,0 +1,2 @@
+puts hi
+puts {hello from tclthread}

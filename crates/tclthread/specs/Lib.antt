@@ -1,0 +1,5 @@
+pub mod Answer
+pub mod CommandLine
+pub mod Ended
+pub mod Prepared
+pub mod Status

@@ -1,0 +1,179 @@
+use crate::ended::Ended;
+use crate::session::session;
+use crate::status::{Place, Status};
+use std::alloc::Global;
+use std::sync::Wait;
+use std::test::Fail;
+use std::thread::Threads;
+use tt_devices::{MemoryFiles, MemorySink, MemorySource, OpenGate};
+
+/// What a replay left: the words of its status, its exit code, how many steps it took, and what it wrote.
+#[derive(Drop)]
+struct Left {
+    status: String,
+    exit: u8,
+    steps: u64,
+    output: Vec<u8>,
+}
+
+/// The words of a status.
+fn status_words(alloc: Global, status: &Status) -> Result<String, Fail> {
+    Ok(match status {
+        Status::Done(code) => format!(in alloc; "done {code}")?,
+        Status::Usage => format!(in alloc; "usage")?,
+        Status::NoFile(name) => format!(in alloc; "no file of {} bytes", name.as_bytes().len())?,
+        Status::BadSchedule(Place::Byte(_)) => format!(in alloc; "bad schedule")?,
+        Status::BadSchedule(Place::Entry(number)) => format!(in alloc; "bad entry {number}")?,
+        Status::ScheduleEnded => format!(in alloc; "schedule ended")?,
+        Status::BadScript => format!(in alloc; "bad script")?,
+        Status::ReadFault => format!(in alloc; "read fault")?,
+        Status::WriteFault => format!(in alloc; "write fault")?,
+        Status::NoMemory => format!(in alloc; "no memory")?,
+    })
+}
+
+/// Calls the program over devices in memory: the files `script` and `schedule`, and these calls that fail.
+fn call<R: Threads + Wait + Sync + AllocGlobal>(
+    rt: &R,
+    words: &[&str],
+    script: &[u8],
+    schedule: &[u8],
+    fail_reads: &[u64],
+    fail_puts: &[u64],
+) -> Result<Left, Fail> {
+    let alloc = rt.alloc();
+    let mut owned = Vec::new(alloc);
+    for word in words {
+        owned.push(String::from_str(alloc, word)?)?;
+    }
+    let fail_reads = Vec::from_slice(alloc, fail_reads)?;
+    let fail_puts = Vec::from_slice(alloc, fail_puts)?;
+    let mut files = MemoryFiles::new(alloc, fail_reads, Vec::new(alloc));
+    files.add("script", script)?;
+    files.add("schedule", schedule)?;
+    let input = MemorySource::new(Vec::new(alloc), Vec::new(alloc));
+    let output = MemorySink::new(alloc, fail_puts);
+    let errors = MemorySink::new(alloc, Vec::new(alloc));
+    let ended = session(
+        rt, alloc, &owned, &mut files, input, output, errors, &OpenGate,
+    );
+    let Ended {
+        status,
+        schedule,
+        output,
+        ..
+    } = ended;
+    Ok(Left {
+        status: status_words(alloc, &status)?,
+        exit: status.exit(),
+        steps: schedule.len(),
+        output: Vec::from_slice(alloc, output.bytes())?,
+    })
+}
+
+const WORDS: [&str; 3] = ["--replay", "schedule", "script"];
+
+#[test]
+fn scripts_are_replayed_as_far_as_their_schedules_go(rt: HostRuntime) -> Result<(), Fail> {
+    let rows: [(&[u8], &[u8], &str, u8, u64, &[u8]); 12] = [
+        (b"puts hi", b"schedule 1\n1 2\n", "done 0", 0, 2, b"hi\n"),
+        (b"", b"schedule 1\n1 1\n", "done 0", 0, 1, b""),
+        (
+            b" \n puts  a\n\n puts {b c} \n",
+            b"schedule 1\n1 3\n",
+            "done 0",
+            0,
+            3,
+            b"a\nb c\n",
+        ),
+        (b"puts {}", b"schedule 1\n1 2\n", "done 0", 0, 2, b"\n"),
+        (b"puts hi", b"schedule 1\n2 1\n", "bad entry 1", 108, 0, b""),
+        (b"", b"schedule 1\n1 2\n", "bad entry 2", 108, 1, b""),
+        (b"", b"schedule 1\n", "schedule ended", 109, 0, b""),
+        (
+            b"puts a\nputs b",
+            b"schedule 1\n1 1\n",
+            "schedule ended",
+            109,
+            1,
+            b"a\n",
+        ),
+        (b"puts $x", b"schedule 1\n1 1\n", "bad script", 110, 0, b""),
+        (
+            b"puts {-a}",
+            b"schedule 1\n1 1\n",
+            "bad script",
+            110,
+            0,
+            b"",
+        ),
+        (
+            b"puts a puts b",
+            b"schedule 1\n1 1\n",
+            "bad script",
+            110,
+            0,
+            b"",
+        ),
+        (b"puts $x", b"schedule 1\n1 2", "bad schedule", 108, 0, b""),
+    ];
+    for (script, schedule, status, exit, steps, output) in rows {
+        let left = call(&rt, &WORDS, script, schedule, &[], &[])?;
+        assert_eq!(rt; left.status.as_str(), status);
+        assert_eq!(rt; left.exit, exit);
+        assert_eq!(rt; left.steps, steps);
+        assert_eq!(rt; left.output.as_slice(), output);
+    }
+    Ok(())
+}
+
+#[test]
+fn wrong_words_and_missing_files_have_their_answers(rt: HostRuntime) -> Result<(), Fail> {
+    let rows: [(&[&str], &str, u8); 8] = [
+        (&[], "usage", 106),
+        (&["--replay", "schedule"], "usage", 106),
+        (&["--replay", "schedule", "script", "more"], "usage", 106),
+        (&["--replay", "", "script"], "usage", 106),
+        (&["--replay", "schedule", ""], "usage", 106),
+        (&["--record", "schedule", "script"], "usage", 106),
+        (
+            &["--replay", "schedule", "other"],
+            "no file of 5 bytes",
+            107,
+        ),
+        (&["--replay", "none", "script"], "no file of 4 bytes", 107),
+    ];
+    for (words, status, exit) in rows {
+        let left = call(&rt, words, b"puts hi", b"schedule 1\n1 2\n", &[], &[])?;
+        assert_eq!(rt; left.status.as_str(), status);
+        assert_eq!(rt; left.exit, exit);
+        assert_eq!(rt; left.steps, 0);
+    }
+    Ok(())
+}
+
+#[test]
+fn faults_end_the_run_where_they_come(rt: HostRuntime) -> Result<(), Fail> {
+    let rows: [(&[u64], &[u64], &str, u8, u64, &[u8]); 4] = [
+        (&[1], &[], "read fault", 104, 0, b""),
+        (&[2], &[], "read fault", 104, 0, b""),
+        (&[], &[1], "write fault", 105, 1, b"a"),
+        (&[], &[2], "write fault", 105, 2, b"a\nb"),
+    ];
+    for (fail_reads, fail_puts, status, exit, steps, output) in rows {
+        let schedule = b"schedule 1\n1 3\n";
+        let left = call(
+            &rt,
+            &WORDS,
+            b"puts a\nputs b",
+            schedule,
+            fail_reads,
+            fail_puts,
+        )?;
+        assert_eq!(rt; left.status.as_str(), status);
+        assert_eq!(rt; left.exit, exit);
+        assert_eq!(rt; left.steps, steps);
+        assert_eq!(rt; left.output.as_slice(), output);
+    }
+    Ok(())
+}
