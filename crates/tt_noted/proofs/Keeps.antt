@@ -122,7 +122,7 @@ module _ {S N : Type 0} (fits : S → List N → Type 0) (count : ℕ) where
         all = length-set r.notes place note ∙ r.all;
         each_note = each_stays (Stands (set r.notes place note) r.owner count) s.views id w
             (λ k c has. let t = get_one k (place, note) c has in subst (λ (y : ℕ × (ℕ × N)). Stands (set r.notes place note) r.owner count id y.0 w y.1) (λ i. (sym t.0 i, sym t.1 i))
-                record { counted = mine.counted; stands = get_set_same r.notes place old note mine.stands; owned = mine.owned })
+            record { counted = mine.counted; stands = get_set_same r.notes place old note mine.stands; owned = mine.owned })
             (λ at' k u c other there has. let st = r.each_note at' k u c there has in record {
               counted = st.counted;
               stands = get_set_other r.notes place c.0 note (λ same. other (ap (λ (y : ℕ × ℕ). y.0) (sym st.owned ∙ (ap r.owner same ∙ mine.owned)))) ∙ st.stands;
@@ -157,7 +157,7 @@ module _ {S N : Type 0} (fits : S → List N → Type 0) (count : ℕ) where
       → Allows Rule slots id me 0 (λ x. (x + 1) % 18446744073709551616) (noted (step slots 0 1 0 none) me)
   note_keeps slots id place me old entered kept some_slot notes turn held keeps_fit =
       subst (λ (m : Sat S N). Allows Rule slots id m 0 (λ x. (x + 1) % 18446744073709551616) (noted (step slots 0 1 0 none) m)) (λ i. (view me.0.count (sym notes i) (sym turn i), sym held i))
-          (note_steps slots id me.0.count place old entered kept some_slot keeps_fit)
+      (note_steps slots id me.0.count place old entered kept some_slot keeps_fit)
 
   pub split_keeps : (id : ℕ) (v : View S N) → v.turn ≡ None → Splits Rule id v (rest_of v) (first_of v)
   split_keeps id v no_turn s r at = let new : ℕ = length s.views in let vs : List (View S N) = set s.views id (rest_of v) in
@@ -168,12 +168,12 @@ module _ {S N : Type 0} (fits : S → List N → Type 0) (count : ℕ) where
         all = r.all;
         each_note = λ at' k u c there has. ⊎_elim
             (λ (in_old : get_elem? vs at' ≡ some u). each_stays P s.views id (rest_of v)
-                (λ k' d here. let st = r.each_note id (suc k') v d at (sym (get_drop v.notes k') ∙ here) in record { counted = st.counted; stands = st.stands; owned = given_next id new k' _ st.owned })
-                (λ j k' w d other there' here. let st = r.each_note j k' w d there' here in record { counted = st.counted; stands = st.stands; owned = given_other id new j k' _ other st.owned })
-                at' k u c in_old has)
+            (λ k' d here. let st = r.each_note id (suc k') v d at (sym (get_drop v.notes k') ∙ here) in record { counted = st.counted; stands = st.stands; owned = given_next id new k' _ st.owned })
+            (λ j k' w d other there' here. let st = r.each_note j k' w d there' here in record { counted = st.counted; stands = st.stands; owned = given_other id new j k' _ other st.owned })
+            at' k u c in_old has)
             (λ (last : (at' ≡ length vs) × (first_of v ≡ u)).
-                let got = get_take v.notes k c (ap (λ (w : View S N). slice_get w.notes k) last.1 ∙ has) in let st = r.each_note id 0 v c at got.1 in
-                record { counted = ap (λ (w : View S N). w.count) (sym last.1) ∙ st.counted; stands = st.stands; owned = given_first id new _ st.owned ∙ (λ i. (sym (last.0 ∙ long) i, sym got.0 i)) })
+            let got = get_take v.notes k c (ap (λ (w : View S N). slice_get w.notes k) last.1 ∙ has) in let st = r.each_note id 0 v c at got.1 in
+            record { counted = ap (λ (w : View S N). w.count) (sym last.1) ∙ st.counted; stands = st.stands; owned = given_first id new _ st.owned ∙ (λ i. (sym (last.0 ∙ long) i, sym got.0 i)) })
             (at_end vs (first_of v) u at' there);
         free = λ even. let f = r.free even in record {
           kept = f.kept;
@@ -207,13 +207,13 @@ module _ {S N : Type 0} (fits : S → List N → Type 0) (count : ℕ) where
         all = r.all;
         each_note = each_stays P vs other spent (λ k d here. absurd (none_get k d here))
             (λ j k u d apart' there' here. dite (ℕ_discrete j id)
-                (λ same. let is : both ≡ u = some-injective both u (sym (set_there s.views id v both at) ∙ (ap (λ (z : ℕ). get_elem? vs z) (sym same) ∙ there')) in
-                    subst (λ (y : ℕ × View S N). P y.0 k y.1 d) (λ i. (sym same i, is i)) (⊎_elim
-                    (λ (in_w : slice_get w.notes k ≡ Some d). let st = r.each_note other k w d was in_w in record { counted = counted; stands = st.stands; owned = merged_other id other n k _ st.owned })
-                    (λ (in_v : (m : ℕ) × (k ≡ n + m) × (slice_get v.notes m ≡ Some d)). let st = r.each_note id in_v.0 v d at in_v.2 in
-                        record { counted = counted; stands = st.stands; owned = merged_own id other n in_v.0 _ apart st.owned ∙ (λ i. (id, sym in_v.1 i)) })
-                    (get_append w.notes v.notes k d (ap (λ (y : View S N). slice_get y.notes k) is ∙ here))))
-                (λ else. let st = r.each_note j k u d (at_other s.views id j both u else there') here in record { counted = st.counted; stands = st.stands; owned = merged_rest id other n j k _ apart' else st.owned }));
+            (λ same. let is : both ≡ u = some-injective both u (sym (set_there s.views id v both at) ∙ (ap (λ (z : ℕ). get_elem? vs z) (sym same) ∙ there')) in
+            subst (λ (y : ℕ × View S N). P y.0 k y.1 d) (λ i. (sym same i, is i)) (⊎_elim
+            (λ (in_w : slice_get w.notes k ≡ Some d). let st = r.each_note other k w d was in_w in record { counted = counted; stands = st.stands; owned = merged_other id other n k _ st.owned })
+            (λ (in_v : (m : ℕ) × (k ≡ n + m) × (slice_get v.notes m ≡ Some d)). let st = r.each_note id in_v.0 v d at in_v.2 in
+            record { counted = counted; stands = st.stands; owned = merged_own id other n in_v.0 _ apart st.owned ∙ (λ i. (id, sym in_v.1 i)) })
+            (get_append w.notes v.notes k d (ap (λ (y : View S N). slice_get y.notes k) is ∙ here))))
+            (λ else. let st = r.each_note j k u d (at_other s.views id j both u else there') here in record { counted = st.counted; stands = st.stands; owned = merged_rest id other n j k _ apart' else st.owned }));
         free = λ even. let f = r.free even in record {
           kept = f.kept;
           home = f.home;
@@ -265,10 +265,10 @@ module _ {S N : Type 0} (fits : S → List N → Type 0) (count : ℕ) where
       → Final (Seen Rule id v) words slots → (kept : Kept S N) × (get_elem? slots 0 ≡ some (Some kept)) × FitsAll fits (view count v.notes None) kept.state
   closed_fits id v words slots some_note no_turn every last = let s = last.0 in let r : Rule s = last.1.0 in let at = last.1.1 in
       let even : get_or s.words 0 0 % 2 ≡ 0 = dite (ℕ_discrete (get_or s.words 0 0 % 2) 1)
-          (λ odd. let h = r.held odd in let st = r.each_note h.holder 0 h.own h.note h.has h.has_note in let place : ℕ = h.note.0 in
-              let inside : place < count = subst (λ (n : ℕ). place < n) r.all (slice_get_within r.notes place h.note.1 st.stands) in let mine = every place inside in
-              let st' = r.each_note id mine.0 v (place, mine.1) at mine.2 in
-              let same : h.holder ≡ id = ap (λ (y : ℕ × ℕ). y.0) (sym st.owned ∙ st'.owned) in
-              absurd (no_both v.turn h.state no_turn (turn_at s v h.holder id h.own h.state same h.has at h.turn)))
-          (λ ne. omega arith) in
+      (λ odd. let h = r.held odd in let st = r.each_note h.holder 0 h.own h.note h.has h.has_note in let place : ℕ = h.note.0 in
+      let inside : place < count = subst (λ (n : ℕ). place < n) r.all (slice_get_within r.notes place h.note.1 st.stands) in let mine = every place inside in
+      let st' = r.each_note id mine.0 v (place, mine.1) at mine.2 in
+      let same : h.holder ≡ id = ap (λ (y : ℕ × ℕ). y.0) (sym st.owned ∙ st'.owned) in
+      absurd (no_both v.turn h.state no_turn (turn_at s v h.holder id h.own h.state same h.has at h.turn)))
+      (λ ne. omega arith) in
       let f = r.free even in (f.kept, last.4 0 (Some f.kept) f.home, (r.notes, r.all, (λ k place note has. (r.each_note id k v (place, note) at has).stands), f.fit))

@@ -2,3 +2,4 @@ pub mod Lists
 pub mod Owners
 pub mod Keeps
 pub mod Passes
+pub mod Gathering

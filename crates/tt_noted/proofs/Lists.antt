@@ -56,6 +56,15 @@ module _ {A : Type 0} where
   get_append (x ∷ xs) m zero a e = inl e
   get_append (x ∷ xs) m (suc k) a e = ⊎_elim inl (λ t. inr (t.0, omega (arith, t.1), t.2)) (get_append xs m k a e)
 
+  pub get_front : (l m : List A) (k : ℕ) (a : A) → slice_get l k ≡ Some a → slice_get (l ++ m) k ≡ Some a
+  get_front [] m k a e = absurd (none_get k a e)
+  get_front (x ∷ xs) m zero a e = e
+  get_front (x ∷ xs) m (suc k) a e = get_front xs m k a e
+
+  pub get_behind : (l m : List A) (j : ℕ) → slice_get (l ++ m) (length l + j) ≡ slice_get m j
+  get_behind [] m j = let same : 0 + j ≡ j = omega arith in ap (slice_get m) same
+  get_behind (x ∷ xs) m j = let next : length (x ∷ xs) + j ≡ suc (length xs + j) = omega arith in ap (slice_get (x ∷ (xs ++ m))) next ∙ get_behind xs m j
+
   pub get_end : (l : List A) (a b : A) (j : ℕ) → slice_get (l ++ a ∷ []) j ≡ Some b → (slice_get l j ≡ Some b) ⊎ ((j ≡ length l) × (b ≡ a))
   get_end l a b j e = ⊎_elim inl (λ t. let last = get_one t.0 a b t.2 in inr (t.1 ∙ omega (arith, last.0), last.1)) (get_append l (a ∷ []) j b e)
 

@@ -1,5 +1,5 @@
 -- What contracts see of a pass and of a turn.
-use Rattle.std.specs.Prelude.{◌≡◌, ℕ, ◌+◌, ◌-◌, ◌<◌, ◌≤◌, List, [], ◌∷◌, length, map, slice_get, slice_set, Option, Some, None}
+use Rattle.std.specs.Prelude.{◌≡◌, ℕ, ◌+◌, ◌-◌, ◌<◌, ◌≤◌, List, [], ◌∷◌, ◌++◌, length, map, slice_get, slice_set, Option, Some, None}
 use Rattle.std.specs.Option.{option_map}
 use Rattle.std.specs.List.{All, Any}
 use Rattle.tt_noted.specs.declared.tie.Tie.{Ghosts}
@@ -64,6 +64,11 @@ module _ {T S N : Type 0} {tie : Ghosts T S N} where
     pub of_lock : All (IsPassOf lock) passes
     pub no_turn : All (λ p. turn_of p ≡ None) passes
     pub all : (number : ℕ) → 0 < number → number ≤ count_of lock → Any (λ p. number_of p ≡ number) passes
+
+  -- the notes of these passes, each with its place
+  abbrev pub notes_in : List (Pass T S N tie) → List (ℕ × N)
+  notes_in [] = []
+  notes_in (p ∷ ps) = p.seat.me.0.notes ++ notes_in ps
 
   -- the state fits the notes of these passes, listed by number
   abbrev pub FitsNotesOf : (S → List N → Type 0) → Noted T S N → List (Pass T S N tie) → S → Type 0

@@ -24,13 +24,10 @@ pub struct Noted<T: Tie> {
     // How many passes rest.
     resting: AtomicU64,
     ghost sized: { (table.shared.table_id.words ≡ 1) × (table.shared.table_id.slots ≡ 1) },
+    ghost some: { 0 < table.shared.key.count },
 }
 
-fn slot_of<T: Tie>(
-    alloc: Global,
-    state: T::State,
-    note: &T::Note,
-) -> Result<Vec<Slot<T>>, T::State>
+fn slot_of<T: Tie>(alloc: Global, state: T::State, note: &T::Note) -> Result<Vec<Slot<T>>, T::State>
     ensures ok { IfOk result (λ v. HasOnly state v.items) }
     ensures err { IfErr result (λ s. s ≡ state) }
 {
@@ -55,7 +52,7 @@ fn state_of<T: Tie>(mut slots: Vec<Slot<T>>) -> T::State
 
 impl<T: Tie> Noted<T> {
     ghost use Rattle.tt_noted.specs.Rule.{view, holding, leaving, FitsAll, LeavesFit};
-    ghost use Rattle.tt_noted.specs.Passes.{count_of, number_of, note_of, turn_of, entered_of, IsPassOf, IsSamePass, IsFresh, AreFresh, FitsNotes, KeepsFit, AreAllPassesOf, FitsNotesOf};
+    ghost use Rattle.tt_noted.specs.Passes.{count_of, number_of, note_of, turn_of, entered_of, IsPassOf, IsSamePass, IsFresh, AreFresh, FitsNotes, KeepsFit, AreAllPassesOf, FitsNotesOf, notes_in};
 
     // The lock, with the seat that has all notes.
     fn lay(
@@ -64,7 +61,7 @@ impl<T: Tie> Noted<T> {
         n: u32,
         note: &T::Note,
     ) -> Result<(Noted<T>, Place<T>), T::State>
-        requires { T.fits state (replicate n note.now) }
+        requires { (0 < n) × T.fits state (replicate n note.now) }
         ensures ok { IfOk result (λ r. (count_of r.0 ≡ n) × (r.1.table_id ≡ r.0.table.shared.table_id) × (r.1.me ≡ (view n (enumerate_from 0 (replicate n note.now)) None, []))) }
         ensures err { IfErr result (λ s. s ≡ state) }
     {
@@ -223,5 +220,42 @@ impl<T: Tie> Noted<T> {
             shared.park(rt, 0, (pass.left % (1 << 32)) as u32);
         }
         self.resting.fetch_sub(1, SeqCst);
+    }
+
+    // The seat that has the notes of all passes.
+    fn gather(&self, mut passes: Vec<Pass<T>>) -> Place<T>
+        requires { AreAllPassesOf self.now passes.items }
+        ensures table { result.table_id ≡ self.now.table.shared.table_id }
+        ensures view { (result.me.0.turn ≡ None) × (result.me.0.count ≡ count_of self.now) }
+        ensures notes { result.me.0.notes ≡ notes_in passes.items }
+    {
+        let Pass {
+            number: _,
+            left: _,
+            mut seat,
+        } = passes.pop().unwrap();
+        while let Some(pass) = passes.pop() {
+            let Pass {
+                number: _,
+                left: _,
+                seat: own,
+            } = pass;
+            self.table.shared.join_seat::<ByNote>(&mut seat, own);
+        }
+        passes.destroy_empty();
+        seat
+    }
+
+    /// Ends the lock, given all of its passes, and answers the state, which fits their notes.
+    pub fn close(self, passes: Vec<Pass<T>>) -> T::State
+        requires all { AreAllPassesOf self passes.items }
+        ensures fits { FitsNotesOf T.fits self passes.items result }
+    {
+        let seat = self.gather(passes);
+        let Noted { table, resting: _ } = self;
+        let mut closed = table.close_with(seat);
+        let Kept { state, note: _ } = closed.take(0).unwrap();
+        closed.free();
+        state
     }
 }
