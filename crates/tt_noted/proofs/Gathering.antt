@@ -10,7 +10,6 @@ use Rattle.tt_noted.specs.declared.tie.Tie.{Ghosts}
 use Rattle.tt_noted.specs.declared.pass.Pass.{Pass}
 use Rattle.tt_noted.specs.declared.noted.Noted.{Noted}
 use Rattle.tt_noted.specs.declared.table.View.{View}
-use Rattle.tt_noted.specs.declared.table.Kept.{Kept}
 use Rattle.tt_noted.specs.Rule.{IsKept, view, both_of, FitsAll}
 use Rattle.tt_noted.specs.Passes.{count_of, number_of, note_of, turn_of, IsPassOf, Tells, AreAllPassesOf, FitsNotesOf, notes_in}
 use Rattle.tt_noted.proofs.Keeps.{closed_fits}
@@ -32,7 +31,7 @@ module _ {T S N : Type 0} {tie : Ghosts T S N} where
   notes_in-append (q ∷ qs) p = ap (λ (xs : List (ℕ × N)). q.seat.me.0.notes ++ xs) (notes_in-append qs p) ∙ sym (append_assoc q.seat.me.0.notes (notes_in qs) p.seat.me.0.notes)
 
   -- the seat has the notes of the passes that are no longer in the rest, and these are free passes of the lock
-  pub record IsGathering (lock : Noted T S N) (every rest : List (Pass T S N tie)) (seat : Seat (Option (Kept S N)) (View S N)) : Type 0 where
+  pub record IsGathering (lock : Noted T S N) (every rest : List (Pass T S N tie)) (seat : Seat (Option S) (View S N)) : Type 0 where
     pub of_table : seat.table_id ≡ lock.table.shared.table_id
     pub no_turn : seat.me.0.turn ≡ None
     pub count : seat.me.0.count ≡ count_of lock
@@ -53,12 +52,12 @@ module _ {T S N : Type 0} {tie : Ghosts T S N} where
   }
 
   -- a pass of those that are left
-  pub next_pass : (lock : Noted T S N) (every rest left : List (Pass T S N tie)) (p : Pass T S N tie) (seat : Seat (Option (Kept S N)) (View S N)) → IsGathering lock every rest seat → rest ≡ left ++ p ∷ []
+  pub next_pass : (lock : Noted T S N) (every rest left : List (Pass T S N tie)) (p : Pass T S N tie) (seat : Seat (Option S) (View S N)) → IsGathering lock every rest seat → rest ≡ left ++ p ∷ []
       → IsPassOf lock p × (turn_of p ≡ None)
   next_pass lock every rest left p seat so e =
       (all_last (IsPassOf lock) left p (subst (All (IsPassOf lock)) e so.of_lock), all_last (λ (q : Pass T S N tie). turn_of q ≡ None) left p (subst (All (λ (q : Pass T S N tie). turn_of q ≡ None)) e so.free))
 
-  pub continues : (lock : Noted T S N) (every rest left : List (Pass T S N tie)) (p : Pass T S N tie) (seat after : Seat (Option (Kept S N)) (View S N)) → IsGathering lock every rest seat → rest ≡ left ++ p ∷ []
+  pub continues : (lock : Noted T S N) (every rest left : List (Pass T S N tie)) (p : Pass T S N tie) (seat after : Seat (Option S) (View S N)) → IsGathering lock every rest seat → rest ≡ left ++ p ∷ []
       → after.table_id ≡ seat.table_id → after.me.0 ≡ both_of seat.me.0 p.seat.me.0 → IsGathering lock every left after
   continues lock every rest left p seat after so e table now = let v : View S N = seat.me.0 in let own : List (ℕ × N) = p.seat.me.0.notes in let t = one_note own (p.number - 1) p.numbered.1 in record {
     of_table = table ∙ so.of_table;
@@ -97,8 +96,8 @@ module _ {T S N : Type 0} {tie : Ghosts T S N} where
   )
 
   -- what the slot of a closed lock has
-  pub closed_state : (fits : S → List N → Type 0) (lock : Noted T S N) (passes : List (Pass T S N tie)) (id : ℕ) (v : View S N) (words : List ℕ) (slots : List (Option (Kept S N))) (result : Option (Kept S N))
+  pub closed_state : (fits : S → List N → Type 0) (lock : Noted T S N) (passes : List (Pass T S N tie)) (id : ℕ) (v : View S N) (words : List ℕ) (slots : List (Option S)) (result : Option S)
       → 0 < count_of lock → v.turn ≡ None → AreAllPassesOf lock passes → v.notes ≡ notes_in passes → Final (Seen (IsKept fits (count_of lock)) id v) words slots → get_elem? slots 0 ≡ some result
-      → (kept : Kept S N) × (result ≡ Some kept) × FitsNotesOf fits lock passes kept.state
+      → (state : S) × (result ≡ Some state) × FitsNotesOf fits lock passes state
   closed_state fits lock passes id v words slots result one no_turn are same last at = let t = closed_fits fits (count_of lock) id v words slots one no_turn (every_place lock passes v.notes are same) last in
-      (t.0, some-injective result (Some t.0) (sym at ∙ t.1), fits_passes fits lock passes v.notes t.0.state same t.2)
+      (t.0, some-injective result (Some t.0) (sym at ∙ t.1), fits_passes fits lock passes v.notes t.0 same t.2)

@@ -10,7 +10,6 @@ use prog.Atomic.{either}
 use Rattle.atomic_table.specs.Table.{State, Me, step, keeps, takes, gives, stepped, Allows, Splits, Joins, opening, Final, Seen}
 use Rattle.atomic_table.proofs.Lists.{at_set, set_here, set_else, set_again, at_longer}
 use Rattle.tt_noted.specs.declared.table.View.{View}
-use Rattle.tt_noted.specs.declared.table.Kept.{Kept}
 use Rattle.tt_noted.specs.declared.table.Opening.{Opening}
 use Rattle.tt_noted.specs.Rule.{Board, Sat, view, first_view, rest_of, first_of, both_of, spent, holding, leaving, Agrees, FitsAll, IsFree, IsHeld, Stands, IsKept, took, noted}
 use Rattle.tt_noted.proofs.Owners.{given, given_first, given_next, given_other, merged, merged_other, merged_own, merged_rest}
@@ -49,9 +48,6 @@ module _ {S N : Type 0} where
 no_both : {S : Type 0} (o : Option S) (x : S) → o ≡ None → o ≡ Some x → ⊥
 no_both o x a b = cc
 
-same_kept : {K : Type 0} (x y : ℕ × Option K) (k l : K) → x ≡ (0, Some k) → y ≡ (0, Some l) → x ∷ [] ≡ y ∷ [] → k ≡ l
-same_kept {K} x y k l is is' e = let pair : x ≡ y = cc in let inside : Some k ≡ Some l = ap (λ (p : ℕ × Option K). p.1) (sym is ∙ (pair ∙ is')) in cc
-
 -- a number that is odd and below 2 ^ 64 goes to an even one
 next_is_even : (n : ℕ) → n < 18446744073709551616 → n % 2 ≡ 1 → (n + 1) % 18446744073709551616 % 2 ≡ 0
 next_is_even n small odd = omega arith
@@ -64,8 +60,8 @@ module _ {S N : Type 0} (fits : S → List N → Type 0) (count : ℕ) where
   unmoved s r id v at = subst (λ (x : List ℕ × List (View S N)). Rule record { words = x.0; homes = s.homes; views = x.1 }) (λ i. (sym (set-get_or s.words 0 0) i, sym (set_again s.views id v at) i)) r
 
   taken : (s : Board S N) (r : Rule s) (id old : ℕ) (v : View S N) (c : ℕ × N) → get_elem? s.views id ≡ some v → slice_get v.notes 0 ≡ Some c → old % 2 ≡ 0 → (f : IsFree fits r.notes s)
-      → Rule record { words = set s.words 0 (old + 1); homes = set s.homes 0 none; views = set s.views id (holding v f.kept.state) }
-  taken s r id old v c at has even f = let w : View S N = holding v f.kept.state in let one = r.one_word in let now = get_or-set_same s.words 0 (old + 1) 0 (omega arith) in record {
+      → Rule record { words = set s.words 0 (old + 1); homes = set s.homes 0 none; views = set s.views id (holding v f.state) }
+  taken s r id old v c at has even f = let w : View S N = holding v f.state in let one = r.one_word in let now = get_or-set_same s.words 0 (old + 1) 0 (omega arith) in record {
     notes = r.notes;
     owner = r.owner;
     one_word = length-set s.words 0 (old + 1) ∙ r.one_word;
@@ -76,7 +72,7 @@ module _ {S N : Type 0} (fits : S → List N → Type 0) (count : ℕ) where
     free = λ z. absurd (omega arith);
     held = λ _. record {
       holder = id;
-      state = f.kept.state;
+      state = f.state;
       own = w;
       has = set_there s.views id v w at;
       turn = refl;
@@ -90,13 +86,13 @@ module _ {S N : Type 0} (fits : S → List N → Type 0) (count : ℕ) where
   pub take_keeps : (slots id old : ℕ) (me : Sat S N) (c : ℕ × N) → old % 2 ≡ 0 → slice_get me.0.notes 0 ≡ Some c
       → Allows Rule slots id me 0 (λ n. either (eqb n old) (old + 1) n) (took fits (step slots 0 old (old + 1) none) me)
   take_keeps slots id old me c even has s r deep at small = let n : ℕ = get_or s.words 0 0 in dite (ℕ_discrete n old)
-      (λ hit. let f = r.free (ap (λ (k : ℕ). k % 2) hit ∙ even) in let w : View S N = holding me.0 f.kept.state in (
+      (λ hit. let f = r.free (ap (λ (k : ℕ). k % 2) hit ∙ even) in let w : View S N = holding me.0 f.state in (
         w,
-        takes 0 (Some f.kept),
+        takes 0 (Some f.state),
         f.home,
-        subst (λ b. Rule (stepped s 0 (either b (old + 1) n) id me.1 w (takes 0 (Some f.kept)))) (sym (eq-eqb n old hit)) (taken s r id old me.0 c at has even f),
+        subst (λ b. Rule (stepped s 0 (either b (old + 1) n) id me.1 w (takes 0 (Some f.state)))) (sym (eq-eqb n old hit)) (taken s r id old me.0 c at has even f),
         (
-          (λ _. (f.kept, refl, (r.notes, r.all ∙ sym (r.each_note id 0 me.0 c at has).counted, (λ k place note there. (r.each_note id k me.0 (place, note) at there).stands), f.fit))),
+          (λ _. (f.state, refl, (r.notes, r.all ∙ sym (r.each_note id 0 me.0 c at has).counted, (λ k place note there. (r.each_note id k me.0 (place, note) at there).stands), f.fit))),
           λ miss. absurd (miss hit),
         ),
       ))
@@ -109,11 +105,11 @@ module _ {S N : Type 0} (fits : S → List N → Type 0) (count : ℕ) where
       ))
 
   -- the note step of the seat that has the turn, where the state that it put fits with the new note
-  noted_to : (s : Board S N) (r : Rule s) (id place x : ℕ) (old : N) (n : ℕ) (entered : S) (kept : Kept S N) → 0 < length s.homes
-      → get_elem? s.views id ≡ some (view n ((place, old) ∷ []) (Some entered)) → x % 2 ≡ 0 → fits kept.state (set r.notes place kept.note.value)
+  noted_to : (s : Board S N) (r : Rule s) (id place x : ℕ) (old note : N) (n : ℕ) (entered state : S) → 0 < length s.homes
+      → get_elem? s.views id ≡ some (view n ((place, old) ∷ []) (Some entered)) → x % 2 ≡ 0 → fits state (set r.notes place note)
       → ((at : ℕ) (v : View S N) → at ≢ id → get_elem? s.views at ≡ some v → v.turn ≡ None)
-      → Rule record { words = set s.words 0 x; homes = set s.homes 0 (some (Some kept)); views = set s.views id (view n ((place, kept.note.value) ∷ []) None) }
-  noted_to s r id place x old n entered kept deep at even fit alone = let note : N = kept.note.value in let w : View S N = view n ((place, note) ∷ []) None in
+      → Rule record { words = set s.words 0 x; homes = set s.homes 0 (some (Some state)); views = set s.views id (view n ((place, note) ∷ []) None) }
+  noted_to s r id place x old note n entered state deep at even fit alone = let w : View S N = view n ((place, note) ∷ []) None in
       let mine = r.each_note id 0 (view n ((place, old) ∷ []) (Some entered)) (place, old) at refl in
       let one = r.one_word in let now = get_or-set_same s.words 0 x 0 (omega arith) in record {
         notes = set r.notes place note;
@@ -128,36 +124,36 @@ module _ {S N : Type 0} (fits : S → List N → Type 0) (count : ℕ) where
               stands = get_set_other r.notes place c.0 note (λ same. other (ap (λ (y : ℕ × ℕ). y.0) (sym st.owned ∙ (ap r.owner same ∙ mine.owned)))) ∙ st.stands;
               owned = st.owned;
             });
-        free = λ _. record { kept = kept; home = set_here s.homes 0 (some (Some kept)) deep; fit = fit; no_turn = no_turns s.views id w refl alone };
+        free = λ _. record { state = state; home = set_here s.homes 0 (some (Some state)) deep; fit = fit; no_turn = no_turns s.views id w refl alone };
         held = λ z. absurd (omega arith);
       }
 
-  note_steps : (slots id n place : ℕ) (old : N) (entered : S) (kept : Kept S N) → 0 < slots
-      → ((all : List N) → length all ≡ n → slice_get all place ≡ Some old → fits entered all → fits kept.state (set all place kept.note.value))
-      → Allows Rule slots id (view n ((place, old) ∷ []) (Some entered), (0, Some kept) ∷ []) 0 (λ x. (x + 1) % 18446744073709551616) (noted (step slots 0 1 0 none) (view n ((place, old) ∷ []) (Some entered), (0, Some kept) ∷ []))
-  note_steps slots id n place old entered kept some_slot keeps_fit s r deep at small = let v : View S N = view n ((place, old) ∷ []) (Some entered) in let x : ℕ = get_or s.words 0 0 in
+  note_steps : (slots id n place : ℕ) (old note : N) (entered state : S) → 0 < slots
+      → ((all : List N) → length all ≡ n → slice_get all place ≡ Some old → fits entered all → fits state (set all place note))
+      → Allows Rule slots id (view n ((place, old) ∷ []) (Some entered), (0, Some state) ∷ []) 0 (λ x. (x + 1) % 18446744073709551616) (noted (Some note) (step slots 0 1 0 none) (view n ((place, old) ∷ []) (Some entered), (0, Some state) ∷ []))
+  note_steps slots id n place old note entered state some_slot keeps_fit s r deep at small = let v : View S N = view n ((place, old) ∷ []) (Some entered) in let x : ℕ = get_or s.words 0 0 in
       let odd : x % 2 ≡ 1 = dite (ℕ_discrete (x % 2) 0) (λ even. absurd (no_both v.turn entered ((r.free even).no_turn id v at) refl)) (λ ne. omega arith) in
       let h = r.held odd in
       let same : h.holder ≡ id = dite (ℕ_discrete id h.holder) (λ e. sym e) (λ other. absurd (no_both v.turn entered (h.no_other id v other at) refl)) in
       let own : h.own ≡ v = some-injective h.own v (sym h.has ∙ (ap (λ (k : ℕ). get_elem? s.views k) same ∙ at)) in
-      let state : h.state ≡ entered = let e : Some h.state ≡ Some entered = sym h.turn ∙ ap (λ (u : View S N). u.turn) own in cc in
+      let taken : h.state ≡ entered = let e : Some h.state ≡ Some entered = sym h.turn ∙ ap (λ (u : View S N). u.turn) own in cc in
       let mine = r.each_note id 0 v (place, old) at refl in (
-        view n ((place, kept.note.value) ∷ []) None,
+        view n ((place, note) ∷ []) None,
         gives,
         tt,
-        noted_to s r id place ((x + 1) % 18446744073709551616) old n entered kept (omega arith) at (next_is_even x small odd)
-            (keeps_fit r.notes (r.all ∙ sym mine.counted) mine.stands (subst (λ (y : S). fits y r.notes) state h.fit))
+        noted_to s r id place ((x + 1) % 18446744073709551616) old note n entered state (omega arith) at (next_is_even x small odd)
+            (keeps_fit r.notes (r.all ∙ sym mine.counted) mine.stands (subst (λ (y : S). fits y r.notes) taken h.fit))
             (λ at' u other there. h.no_other at' u (λ e. other (e ∙ same)) there),
-        λ kept' is. ap (λ (x : Kept S N). (view n ((place, x.note.value) ∷ []) None, [])) (same_kept (0, Some kept) (0, Some kept') kept kept' refl refl is),
+        refl,
       )
 
-  pub note_keeps : (slots id place : ℕ) (me : Sat S N) (old : N) (entered : S) (kept : Kept S N) → 0 < slots
-      → me.0.notes ≡ (place, old) ∷ [] → me.0.turn ≡ Some entered → me.1 ≡ (0, Some kept) ∷ []
-      → ((all : List N) → length all ≡ me.0.count → slice_get all place ≡ Some old → fits entered all → fits kept.state (set all place kept.note.value))
-      → Allows Rule slots id me 0 (λ x. (x + 1) % 18446744073709551616) (noted (step slots 0 1 0 none) me)
-  note_keeps slots id place me old entered kept some_slot notes turn held keeps_fit =
-      subst (λ (m : Sat S N). Allows Rule slots id m 0 (λ x. (x + 1) % 18446744073709551616) (noted (step slots 0 1 0 none) m)) (λ i. (view me.0.count (sym notes i) (sym turn i), sym held i))
-      (note_steps slots id me.0.count place old entered kept some_slot keeps_fit)
+  pub note_keeps : (slots id place : ℕ) (me : Sat S N) (old note : N) (entered state : S) → 0 < slots
+      → me.0.notes ≡ (place, old) ∷ [] → me.0.turn ≡ Some entered → me.1 ≡ (0, Some state) ∷ []
+      → ((all : List N) → length all ≡ me.0.count → slice_get all place ≡ Some old → fits entered all → fits state (set all place note))
+      → Allows Rule slots id me 0 (λ x. (x + 1) % 18446744073709551616) (noted (Some note) (step slots 0 1 0 none) me)
+  note_keeps slots id place me old note entered state some_slot notes turn held keeps_fit =
+      subst (λ (m : Sat S N). Allows Rule slots id m 0 (λ x. (x + 1) % 18446744073709551616) (noted (Some note) (step slots 0 1 0 none) m)) (λ i. (view me.0.count (sym notes i) (sym turn i), sym held i))
+      (note_steps slots id me.0.count place old note entered state some_slot keeps_fit)
 
   pub split_keeps : (id : ℕ) (v : View S N) → v.turn ≡ None → Splits Rule id v (rest_of v) (first_of v)
   split_keeps id v no_turn s r at = let new : ℕ = length s.views in let vs : List (View S N) = set s.views id (rest_of v) in
@@ -176,7 +172,7 @@ module _ {S N : Type 0} (fits : S → List N → Type 0) (count : ℕ) where
             record { counted = ap (λ (w : View S N). w.count) (sym last.1) ∙ st.counted; stands = st.stands; owned = given_first id new _ st.owned ∙ (λ i. (sym (last.0 ∙ long) i, sym got.0 i)) })
             (at_end vs (first_of v) u at' there);
         free = λ even. let f = r.free even in record {
-          kept = f.kept;
+          state = f.state;
           home = f.home;
           fit = f.fit;
           no_turn = λ at' u there. ⊎_elim (λ (in_old : get_elem? vs at' ≡ some u). no_turns s.views id (rest_of v) no_turn (λ j w _ there'. f.no_turn j w there') at' u in_old)
@@ -215,7 +211,7 @@ module _ {S N : Type 0} (fits : S → List N → Type 0) (count : ℕ) where
             (get_append w.notes v.notes k d (ap (λ (y : View S N). slice_get y.notes k) is ∙ here))))
             (λ else. let st = r.each_note j k u d (at_other s.views id j both u else there') here in record { counted = st.counted; stands = st.stands; owned = merged_rest id other n j k _ apart' else st.owned }));
         free = λ even. let f = r.free even in record {
-          kept = f.kept;
+          state = f.state;
           home = f.home;
           fit = f.fit;
           no_turn = no_turns vs other spent refl (λ j u _ there'. no_turns s.views id both no_turn (λ i x _ here. f.no_turn i x here) j u there');
@@ -243,26 +239,26 @@ module _ {S N : Type 0} (fits : S → List N → Type 0) (count : ℕ) where
         owned = λ i. (sym here.0 i, place i);
       }
 
-  pub opening_holds : (o : Opening N) (kept : Kept S N) → o.count ≡ count → fits kept.state (replicate count o.note.value) → Rule (opening (0 ∷ []) (Some kept ∷ []) (first_view o))
-  opening_holds o kept is fit = let notes : List N = replicate o.count o.note.value in record {
+  pub opening_holds : (o : Opening N) (state : S) → o.count ≡ count → fits state (replicate count o.note.value) → Rule (opening (0 ∷ []) (Some state ∷ []) (first_view o))
+  opening_holds o state is fit = let notes : List N = replicate o.count o.note.value in record {
     notes = notes;
     owner = λ p. (0, p);
     one_word = refl;
     all = length-replicate o.count o.note.value ∙ is;
     each_note = λ at k v c there has. first_stands o is at k v c there has;
     free = λ _. record {
-      kept = kept;
+      state = state;
       home = refl;
-      fit = subst (λ (n : ℕ). fits kept.state (replicate n o.note.value)) (sym is) fit;
+      fit = subst (λ (n : ℕ). fits state (replicate n o.note.value)) (sym is) fit;
       no_turn = λ at v there. ap (λ (u : View S N). u.turn) (sym (only (first_view o) at v there).1);
     };
     held = λ odd. absurd (omega arith);
   }
 
   -- once one view has every note and no turn, the slot has a state that fits them
-  pub closed_fits : (id : ℕ) (v : View S N) (words : List ℕ) (slots : List (Option (Kept S N))) → 0 < count → v.turn ≡ None
+  pub closed_fits : (id : ℕ) (v : View S N) (words : List ℕ) (slots : List (Option S)) → 0 < count → v.turn ≡ None
       → ((place : ℕ) → place < count → (k : ℕ) × (note : N) × (slice_get v.notes k ≡ Some (place, note)))
-      → Final (Seen Rule id v) words slots → (kept : Kept S N) × (get_elem? slots 0 ≡ some (Some kept)) × FitsAll fits (view count v.notes None) kept.state
+      → Final (Seen Rule id v) words slots → (state : S) × (get_elem? slots 0 ≡ some (Some state)) × FitsAll fits (view count v.notes None) state
   closed_fits id v words slots some_note no_turn every last = let s = last.0 in let r : Rule s = last.1.0 in let at = last.1.1 in
       let even : get_or s.words 0 0 % 2 ≡ 0 = dite (ℕ_discrete (get_or s.words 0 0 % 2) 1)
       (λ odd. let h = r.held odd in let st = r.each_note h.holder 0 h.own h.note h.has h.has_note in let place : ℕ = h.note.0 in
@@ -271,4 +267,4 @@ module _ {S N : Type 0} (fits : S → List N → Type 0) (count : ℕ) where
       let same : h.holder ≡ id = ap (λ (y : ℕ × ℕ). y.0) (sym st.owned ∙ st'.owned) in
       absurd (no_both v.turn h.state no_turn (turn_at s v h.holder id h.own h.state same h.has at h.turn)))
       (λ ne. omega arith) in
-      let f = r.free even in (f.kept, last.4 0 (Some f.kept) f.home, (r.notes, r.all, (λ k place note has. (r.each_note id k v (place, note) at has).stands), f.fit))
+      let f = r.free even in (f.state, last.4 0 (Some f.state) f.home, (r.notes, r.all, (λ k place note has. (r.each_note id k v (place, note) at has).stands), f.fit))

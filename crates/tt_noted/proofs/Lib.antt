@@ -3,3 +3,4 @@ pub mod Owners
 pub mod Keeps
 pub mod Passes
 pub mod Gathering
+pub mod Callers

@@ -79,6 +79,5 @@ module _ {A : Type 0} where
   get_numbered (suc n) i (suc k) a c e = let t = get_numbered n (i + 1) k a c e in let next : (i + 1) + k ≡ i + suc k = omega arith in (t.0 ∙ (λ j. (next j, a)), t.1)
 
 -- what a list of one slot has, read in two ways
-pub same_held : {K : Type 0} (l rest : List (ℕ × Option K)) (o : Option K) (k k' : K) → l ≡ (0, Some k) ∷ [] → l ≡ (0, o) ∷ rest → o ≡ Some k' → k ≡ k'
-same_held {K} l rest o k k' one first is = let x : ℕ × Option K = (0, Some k) in let y : ℕ × Option K = (0, o) in let head : x ∷ [] ≡ y ∷ rest = sym one ∙ first in let pair : x ≡ y = cc in
-    let inside : Some k ≡ Some k' = ap (λ (p : ℕ × Option K). p.1) pair ∙ is in cc
+pub same_held : {K : Type 0} (l rest : List (ℕ × K)) (a b : K) → l ≡ (0, a) ∷ [] → l ≡ (0, b) ∷ rest → a ≡ b
+same_held {K} l rest a b one first = let x : ℕ × K = (0, a) in let y : ℕ × K = (0, b) in let head : x ∷ [] ≡ y ∷ rest = sym one ∙ first in let pair : x ≡ y = cc in ap (λ (p : ℕ × K). p.1) pair

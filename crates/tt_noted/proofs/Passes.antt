@@ -7,7 +7,6 @@ use Rattle.tt_noted.specs.declared.pass.Pass.{Pass}
 use Rattle.tt_noted.specs.declared.pass.Turn.{Turn}
 use Rattle.tt_noted.specs.declared.noted.Noted.{Noted}
 use Rattle.tt_noted.specs.declared.table.View.{View}
-use Rattle.tt_noted.specs.declared.table.Kept.{Kept}
 use Rattle.tt_noted.specs.Rule.{Sat, view, first_of, holding, leaving, Agrees, FitsAll, LeavesFit}
 use Rattle.tt_noted.specs.Passes.{count_of, number_of, note_of, turn_of, entered_of, IsPassOf, IsFresh, Tells, FitsNotes, KeepsFit}
 use Rattle.tt_noted.proofs.Lists.{get_end, numbered_next}
@@ -26,12 +25,12 @@ module _ {S N : Type 0} where
   first_note v place e = let t = one_note v.notes place e in ((place, t.0), ap (λ (xs : List (ℕ × N)). slice_get xs 0) t.1)
 
   -- a take that began at a seat with no slot
-  pub took_all : (fits : S → List N → Type 0) (m n after : Sat S N) (kept : Kept S N) → n ≡ m → m.1 ≡ [] → after ≡ (holding n.0 kept.state, (0, Some kept) ∷ n.1) → FitsAll fits n.0 kept.state
-      → (k : Kept S N) × (after ≡ (holding m.0 k.state, (0, Some k) ∷ [])) × FitsAll fits m.0 k.state
-  took_all fits m n after kept same none now fit = (
-    kept,
-    now ∙ (λ i. (holding (same i).0 kept.state, (0, Some kept) ∷ (ap (λ (x : Sat S N). x.1) same ∙ none) i)),
-    subst (λ (x : Sat S N). FitsAll fits x.0 kept.state) same fit,
+  pub took_all : (fits : S → List N → Type 0) (m n after : Sat S N) (state : S) → n ≡ m → m.1 ≡ [] → after ≡ (holding n.0 state, (0, Some state) ∷ n.1) → FitsAll fits n.0 state
+      → (x : S) × (after ≡ (holding m.0 x, (0, Some x) ∷ [])) × FitsAll fits m.0 x
+  took_all fits m n after state same none now fit = (
+    state,
+    now ∙ (λ i. (holding (same i).0 state, (0, Some state) ∷ (ap (λ (x : Sat S N). x.1) same ∙ none) i)),
+    subst (λ (x : Sat S N). FitsAll fits x.0 state) same fit,
   )
 
   -- the notes after a leave

@@ -1,19 +1,23 @@
 -- The rule of the table under the lock, and what its steps tell.
-use Rattle.std.specs.Prelude.{◌≡◌, ◌≢◌, ℕ, ◌%◌, ◌<◌, List, [], ◌∷◌, ◌++◌, map, length, take, drop, replicate, slice_get, slice_index, slice_set, Option, Some, None}
+use Rattle.std.specs.Prelude.{◌≡◌, ◌≢◌, ℕ, ◌%◌, ◌<◌, List, [], ◌∷◌, ◌++◌, map, length, take, drop, replicate, slice_get, slice_index, slice_set, Option, Some, None, IfSome}
 use Rattle.std.specs.List.{enumerate_from}
 use mathlib.Core.Option.{some}
 use lib.ListN.{get_elem?}
-use Rattle.atomic_table.specs.Table.{State, Me, Step}
+use Rattle.atomic_table.specs.Table.{State, Me, Step, rest}
 use Rattle.tt_noted.specs.declared.table.View.{View}
-use Rattle.tt_noted.specs.declared.table.Kept.{Kept}
 use Rattle.tt_noted.specs.declared.table.Opening.{Opening}
 
 -- the table, and what a seat knows and holds
 abbrev pub Board : Type 0 → Type 0 → Type 0
-Board S N = State (Option (Kept S N)) (View S N)
+Board S N = State (Option S) (View S N)
 
 abbrev pub Sat : Type 0 → Type 0 → Type 0
-Sat S N = Me (Option (Kept S N)) (View S N)
+Sat S N = Me (Option S) (View S N)
+
+-- the slots that a pass's seat holds between two calls: the empty one, while its turn is out
+abbrev pub held_with : {S : Type 0} → Option S → List (ℕ × Option S)
+held_with None = []
+held_with (Some state) = (0, None) ∷ []
 
 module _ {S N : Type 0} where
   -- the view with these notes, which is the holder's where it has a turn
@@ -48,11 +52,6 @@ module _ {S N : Type 0} where
   abbrev pub leaving : View S N → N → View S N
   leaving v note = view v.count (map (λ c. (c.0, note)) v.notes) None
 
-  -- the slots that a pass's seat holds between two calls: the empty one, while its turn is out
-  abbrev pub held_with : Option S → List (ℕ × Option (Kept S N))
-  held_with None = []
-  held_with (Some state) = (0, None) ∷ []
-
   -- each note of the view stands at its place among all notes
   abbrev pub Agrees : View S N → List N → Type 0
   Agrees v notes = (k place : ℕ) (note : N) → slice_get v.notes k ≡ Some (place, note) → slice_get notes place ≡ Some note
@@ -67,15 +66,11 @@ module _ {S N : Type 0} where
       (place : ℕ) × (old : N) × (entered : S) × (v.notes ≡ (place, old) ∷ []) × (v.turn ≡ Some entered)
       × ((notes : List N) → length notes ≡ v.count → slice_get notes place ≡ Some old → fits entered notes → fits state (slice_set notes place note))
 
-  -- the slots hold this state alone
-  abbrev pub HasOnly : S → List (Option (Kept S N)) → Type 0
-  HasOnly state slots = (kept : Kept S N) × (slots ≡ Some kept ∷ []) × (kept.state ≡ state)
-
   -- the slot has a state that fits the notes, and no view is the holder's
   pub record IsFree (fits : S → List N → Type 0) (notes : List N) (s : Board S N) : Type 0 where
-    pub kept : Kept S N
-    pub home : get_elem? s.homes 0 ≡ some (some (Some kept))
-    pub fit : fits kept.state notes
+    pub state : S
+    pub home : get_elem? s.homes 0 ≡ some (some (Some state))
+    pub fit : fits state notes
     pub no_turn : (at : ℕ) (v : View S N) → get_elem? s.views at ≡ some v → v.turn ≡ None
 
   -- one view is the holder's and no other, it has a note, and the state in it fits the notes
@@ -107,11 +102,11 @@ module _ {S N : Type 0} where
     pub held : slice_index s.words 0 % 2 ≡ 1 → IsHeld fits notes s
 
   -- the seat is the holder's, and has the slot with a state that fits all notes. Where the word had changed, so did nothing
-  abbrev pub took : (S → List N → Type 0) → Step (Option (Kept S N)) → Sat S N → ℕ → Sat S N → Type 0
+  abbrev pub took : (S → List N → Type 0) → Step (Option S) → Sat S N → ℕ → Sat S N → Type 0
   took fits st m found m' =
-      (found ≡ st.first → (kept : Kept S N) × (m' ≡ (holding m.0 kept.state, (0, Some kept) ∷ m.1)) × FitsAll fits m.0 kept.state)
+      (found ≡ st.first → (state : S) × (m' ≡ (holding m.0 state, (0, Some state) ∷ m.1)) × FitsAll fits m.0 state)
       × (found ≢ st.first → m' ≡ m)
 
-  -- the seat gave the slot back, and its note is the one that was put with the state
-  abbrev pub noted : Step (Option (Kept S N)) → Sat S N → ℕ → Sat S N → Type 0
-  noted st m found m' = (kept : Kept S N) → m.1 ≡ (0, Some kept) ∷ [] → m' ≡ (leaving m.0 kept.note.value, [])
+  -- the seat gave its slot back, and its note is the new one
+  abbrev pub noted : Option N → Step (Option S) → Sat S N → ℕ → Sat S N → Type 0
+  noted note st m found m' = IfSome note (λ x. m' ≡ (leaving m.0 x, rest m.1))

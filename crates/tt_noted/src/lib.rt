@@ -9,3 +9,6 @@ mod tie;
 pub use noted::Noted;
 pub use pass::{Pass, Turn};
 pub use tie::Tie;
+
+#[cfg(test)]
+mod tests;

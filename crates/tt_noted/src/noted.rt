@@ -1,14 +1,14 @@
 //! The lock.
 ghost use Rattle.std.specs.Prelude.{◌≡◌, ◌-◌, ◌<◌, ◌≤◌, [], ◌∷◌, ◌++◌, length, replicate, slice_get, Some, None, IfOk, IfErr, vec_len, vec_capacity};
 ghost use Rattle.std.specs.List.{enumerate_from};
-ghost use Rattle.tt_noted.specs.Rule.{HasOnly};
 
 use crate::pass::{Pass, Turn};
-use crate::table::{Board, ByNote, Kept, Note, Opening, Place, Slot, Take};
+use crate::table::{Board, ByNote, Leaves, Note, Opening, Place, Take};
 use crate::tie::Tie;
 use atomic_table::{Refused, Table};
 use std::alloc::Global;
 use std::hint::spin_loop;
+use std::marker::Brand;
 use std::snapshot::Snapshot;
 use std::sync::Wait;
 use std::sync::atomic::AtomicU64;
@@ -27,29 +27,6 @@ pub struct Noted<T: Tie> {
     ghost some: { 0 < table.shared.key.count },
 }
 
-fn slot_of<T: Tie>(alloc: Global, state: T::State, note: &T::Note) -> Result<Vec<Slot<T>>, T::State>
-    ensures ok { IfOk result (λ v. HasOnly state v.items) }
-    ensures err { IfErr result (λ s. s ≡ state) }
-{
-    let Ok(mut slots) = Vec::with_capacity(alloc, 1) else {
-        return Err(state);
-    };
-    slots.push_reserved(Some(Kept {
-        state,
-        note: Snapshot::of(note),
-    }));
-    Ok(slots)
-}
-
-fn state_of<T: Tie>(mut slots: Vec<Slot<T>>) -> T::State
-    requires { (state : _) × HasOnly state slots.items }
-    ensures { HasOnly result slots.items }
-{
-    let Kept { state, note: _ } = slots.pop().unwrap().unwrap();
-    slots.destroy_empty();
-    state
-}
-
 impl<T: Tie> Noted<T> {
     ghost use Rattle.tt_noted.specs.Rule.{view, holding, leaving, FitsAll, LeavesFit};
     ghost use Rattle.tt_noted.specs.Passes.{count_of, number_of, note_of, turn_of, entered_of, IsPassOf, IsSamePass, IsFresh, AreFresh, FitsNotes, KeepsFit, AreAllPassesOf, FitsNotesOf, notes_in};
@@ -65,7 +42,10 @@ impl<T: Tie> Noted<T> {
         ensures ok { IfOk result (λ r. (count_of r.0 ≡ n) × (r.1.table_id ≡ r.0.table.shared.table_id) × (r.1.me ≡ (view n (enumerate_from 0 (replicate n note.now)) None, []))) }
         ensures err { IfErr result (λ s. s ≡ state) }
     {
-        let slots = slot_of::<T>(alloc, state, note)?;
+        let Ok(mut slots) = Vec::with_capacity(alloc, 1) else {
+            return Err(state);
+        };
+        slots.push_reserved(Some(state));
         let opening = Opening {
             count: n,
             note: Snapshot::of(note),
@@ -75,7 +55,11 @@ impl<T: Tie> Noted<T> {
                 let resting = AtomicU64::new(0);
                 Ok((Noted { table, resting }, seat))
             }
-            Err(Refused { slots }) => Err(state_of::<T>(slots)),
+            Err(Refused { mut slots }) => {
+                let state = slots.pop().unwrap().unwrap();
+                slots.destroy_empty();
+                Err(state)
+            }
         }
     }
 
@@ -130,7 +114,7 @@ impl<T: Tie> Noted<T> {
         requires has_note { (c : _) × (slice_get seat.old.me.0.notes 0 ≡ Some c) }
         requires no_slot { seat.old.me.1 ≡ [] }
         ensures same { (seat.new.table_id ≡ seat.old.table_id) × (seat.new.id ≡ seat.old.id) }
-        ensures took { (kept : _) × (seat.new.me ≡ (holding seat.old.me.0 kept.state, (0, Some kept) ∷ [])) × FitsAll T.fits seat.old.me.0 kept.state }
+        ensures took { (state : _) × (seat.new.me ≡ (holding seat.old.me.0 state, (0, Some state) ∷ [])) × FitsAll T.fits seat.old.me.0 state }
     {
         let shared = &self.table.shared;
         let mut tries = 0;
@@ -162,7 +146,7 @@ impl<T: Tie> Noted<T> {
     {
         let seat = &mut pass.seat;
         self.take(rt, seat);
-        let Kept { state, note: _ } = self.table.shared.exchange(seat, 0, None).unwrap();
+        let state = self.table.shared.exchange(seat, 0, None).unwrap();
         Turn {
             entered: Snapshot::of(&state),
             state,
@@ -170,21 +154,23 @@ impl<T: Tie> Noted<T> {
     }
 
     // Gives the slot back with the state, and the view its new note. The result is word 0 from then on.
-    fn put_back(&self, seat: &mut Place<T>, state: T::State, note: &T::Note) -> u64
+    fn put_back<K: Leaves<T::Note>>(
+        &self,
+        seat: &mut Place<T>,
+        state: T::State,
+        _note: &T::Note,
+    ) -> u64
         requires of_table { seat.old.table_id ≡ self.now.table.shared.table_id }
         requires held { seat.old.me.1 ≡ (0, None) ∷ [] }
-        requires fits { LeavesFit T.fits seat.old.me.0 state note.now }
+        requires note { K.note ≡ Some _note.now }
+        requires fits { LeavesFit T.fits seat.old.me.0 state _note.now }
         ensures same { (seat.new.table_id ≡ seat.old.table_id) × (seat.new.id ≡ seat.old.id) }
-        ensures noted { seat.new.me ≡ (leaving seat.old.me.0 note.now, []) }
+        ensures noted { seat.new.me ≡ (leaving seat.old.me.0 _note.now, []) }
     {
         let shared = &self.table.shared;
-        let kept = Kept {
-            state,
-            note: Snapshot::of(note),
-        };
-        let found = shared.exchange(seat, 0, Some(kept));
+        let found = shared.exchange(seat, 0, Some(state));
         let None = found else { unreachable!() };
-        shared.fetch_add::<Note>(seat, 0, 1).wrapping_add(1)
+        shared.fetch_add::<Note<K>>(seat, 0, 1).wrapping_add(1)
     }
 
     /// Puts the state back with the pass's new note, gives the lock up, and wakes the passes that rest.
@@ -202,7 +188,7 @@ impl<T: Tie> Noted<T> {
             left,
             seat,
         } = pass;
-        *left = self.put_back(seat, state, &note);
+        *left = self.put_back::<Brand>(seat, state, &note);
         if self.resting.load(SeqCst) > 0 {
             self.table.shared.wake_all(0);
         }
@@ -254,7 +240,7 @@ impl<T: Tie> Noted<T> {
         let seat = self.gather(passes);
         let Noted { table, resting: _ } = self;
         let mut closed = table.close_with(seat);
-        let Kept { state, note: _ } = closed.take(0).unwrap();
+        let state = closed.take(0).unwrap();
         closed.free();
         state
     }

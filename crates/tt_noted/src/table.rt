@@ -1,11 +1,12 @@
 //! The table under the lock: its rule, and the names of its steps.
+ghost use Rattle.std.specs.Prelude.{Option, None};
 ghost use Rattle.tt_noted.specs.Rule.{IsKept, first_view, rest_of, first_of, both_of, spent, took, noted};
 
 use crate::tie::Tie;
 use atomic_table::{Join, Play, Seat, Split, Table, TableRule};
 use std::alloc::Global;
 use std::collections::LinkedList;
-use std::marker::PhantomData;
+use std::marker::{Brand, PhantomData};
 use std::snapshot::Snapshot;
 
 /// What a seat at the table knows. No value of it is made.
@@ -16,12 +17,6 @@ pub struct View<S, N> {
     pub notes: LinkedList<(u32, N)>,
     /// Where the view is the holder's: the state as it was taken.
     pub turn: Option<S>,
-}
-
-/// The state in the slot, with the note that its holder leaves.
-pub struct Kept<S, N> {
-    pub state: S,
-    pub note: Snapshot<N>,
 }
 
 /// How many notes there are, and what each is at first.
@@ -36,7 +31,7 @@ pub struct OneHolder<T> {
     tie: PhantomData<T>,
 }
 
-pub type Slot<T> = Option<Kept<<T as Tie>::State, <T as Tie>::Note>>;
+pub type Slot<T> = Option<<T as Tie>::State>;
 
 pub type Known<T> = View<<T as Tie>::State, <T as Tie>::Note>;
 
@@ -59,11 +54,22 @@ impl<T: Tie> Play<Slot<T>, Known<T>> for Take<T> {
     ghost then = { took T.fits };
 }
 
-/// Word 0 goes from an odd number to the next one.
-pub struct Note;
+/// The note that a pass leaves with. Each leave picks it.
+pub trait Leaves<N> {
+    ghost note: { Option N };
+}
 
-impl<S, N> Play<Option<Kept<S, N>>, View<S, N>> for Note {
-    ghost then = { noted };
+impl<N> Leaves<N> for Brand {
+    ghost note = { None };
+}
+
+/// Word 0 goes from an odd number to the next one.
+pub struct Note<K> {
+    note: PhantomData<K>,
+}
+
+impl<S, N, K: Leaves<N>> Play<Option<S>, View<S, N>> for Note<K> {
+    ghost then = { noted K.note };
 }
 
 /// The new seat gets the first note.

@@ -1,0 +1,38 @@
+-- For callers: the passes of a lock, as it was made and after work by each of them.
+use Rattle.std.proofs.Common.{◌≡◌, ℕ, zero, suc, ◌+◌, ◌-◌, ◌<◌, ◌≤◌, List, [], ◌∷◌, length, get_or, sym, refl, ap, ◌∙◌, subst, arith, Option, Some, None, slice_get}
+use Rattle.std.specs.List.{All, Any}
+use Rattle.std.proofs.lemmas.Option.{slice_get_read, slice_get-get_or}
+use Rattle.tt_noted.specs.declared.tie.Tie.{Ghosts}
+use Rattle.tt_noted.specs.declared.pass.Pass.{Pass}
+use Rattle.tt_noted.specs.declared.noted.Noted.{Noted}
+use Rattle.tt_noted.specs.Passes.{count_of, number_of, turn_of, IsPassOf, IsSamePass, IsFresh, AreFresh, AreAllPassesOf}
+
+element : {A : Type 0} (xs : List A) (i : ℕ) → i < length xs → (x : A) × (get_or xs i x ≡ x)
+element [] i inside = absurd (omega arith)
+element (x ∷ xs) zero inside = (x, refl)
+element (x ∷ xs) (suc i) inside = element xs i (omega arith)
+
+either_default : {A : Type 0} (xs : List A) (i : ℕ) (a b : A) → i < length xs → get_or xs i a ≡ get_or xs i b
+either_default [] i a b inside = absurd (omega arith)
+either_default (x ∷ xs) zero a b inside = refl
+either_default (x ∷ xs) (suc i) a b inside = either_default xs i a b (omega arith)
+
+module _ {T S N : Type 0} {tie : Ghosts T S N} (lock : Noted T S N) where
+  -- the passes of a new lock are all of its passes
+  pub all_fresh : (n : ℕ) (note : N) (passes : List (Pass T S N tie)) → AreFresh lock n note passes → count_of lock ≡ n → AreAllPassesOf lock passes
+  all_fresh n note passes fresh count = record {
+    of_lock = λ k d inside. (fresh.1 k (get_or passes k d) (slice_get-get_or passes k d inside)).of_lock;
+    no_turn = λ k d inside. (fresh.1 k (get_or passes k d) (slice_get-get_or passes k d inside)).no_turn;
+    all = λ number above below. let long = fresh.0 in let inside : number - 1 < length passes = omega arith in let x = element passes (number - 1) inside in
+        let is = (fresh.1 (number - 1) x.0 (slice_get_read passes (length passes) (number - 1) x.0 refl inside (sym x.1))).numbered in (number - 1, x.0, inside, x.1, omega arith);
+  }
+
+  -- they still are where each is the same pass as before, with no turn out
+  pub all_same : (before after : List (Pass T S N tie)) → AreAllPassesOf lock before → length after ≡ length before
+      → ((i : ℕ) (d : Pass T S N tie) → i < length before → IsSamePass lock (get_or before i d) (get_or after i d) × (turn_of (get_or after i d) ≡ None)) → AreAllPassesOf lock after
+  all_same before after are long same = record {
+    of_lock = λ k d inside. (same k d (omega arith)).0.0;
+    no_turn = λ k d inside. (same k d (omega arith)).1;
+    all = λ number above below. let t = are.all number above below in let old : t.0 < length before = t.2 in let inside : t.0 < length after = omega arith in let d : Pass T S N tie = t.1 in
+        let did = same t.0 d old in (t.0, get_or after t.0 d, inside, either_default after t.0 (get_or after t.0 d) d inside, did.0.1 ∙ (ap number_of t.3 ∙ t.4));
+  }
