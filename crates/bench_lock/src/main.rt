@@ -1,17 +1,22 @@
-//! Enters and leaves of the noted lock, beside std's `Mutex`. With the argument `time` it prints how many there were in a second.
+//! Counts under the noted lock and under std's `Mutex`, by 1, 2, 4 and 64 threads. With the argument `time` it prints how often each was taken in a second.
 #![tactic(auto)]
 
 ghost use Rattle.std.specs.Prelude.{◌≡◌, ◌≤◌, None};
 ghost use Rattle.tt_noted.specs.Passes.{IsPassOf, IsSamePass, turn_of};
 
 use std::alloc::{AllocError, Global};
-use std::env;
-use std::io;
+use std::io::Print;
+use std::rt::Clock;
 use std::sync::{Mutex, Wait};
-use std::thread;
 use std::thread::Threads;
-use std::time::Instant;
+use std::time::{Duration, Instant};
+use std::{env, io, thread};
 use tt_noted::{Noted, Pass, Tie};
+
+// Enters and leaves of all threads together, with and without the argument `time`.
+const TIMED: u64 = 1 << 22;
+
+const UNTIMED: u64 = 1 << 12;
 
 // A count of which nothing is claimed.
 struct Count;
@@ -67,24 +72,55 @@ fn by_mutex<R: Threads + Wait + Sync>(
     alloc: Global,
     threads: u32,
     rounds: u64,
-) -> Result<u64, AllocError> {
+) -> Result<u64, AllocError>
+    requires { 1 ≤ threads }
+{
     let lock = Mutex::new(0);
     let mut places = Vec::from_elem(alloc, 0u8, threads as usize)?;
-    thread::for_each_mut(rt, places.as_mut_slice(), threads as usize, &|_, _| {
-        count_under_mutex(rt, &lock, rounds)
-    });
+    thread::for_each_mut(
+        rt,
+        places.as_mut_slice(),
+        threads as usize,
+        &|_, _| { count_under_mutex(rt, &lock, rounds) },
+    );
     Ok(lock.into_inner())
 }
 
+// How many in a second, where so many took so long.
+fn per_second(count: u64, took: Duration) -> u128 {
+    u128::from(count) * 1_000_000 / took.as_micros().max(1)
+}
+
+// Counts with as many threads, and prints what was counted, or with `timed` how fast.
+fn compare<R: Threads + Wait + Clock + Print + Sync>(
+    rt: &R,
+    alloc: Global,
+    threads: u32,
+    timed: bool,
+) -> io::Result<()>
+    requires { (1 ≤ threads) × (threads ≤ 64) }
+{
+    let total = if timed { TIMED } else { UNTIMED };
+    let rounds = total / u64::from(threads);
+    let start = Instant::now(rt)?;
+    let noted = by_noted(rt, alloc, threads, rounds)?;
+    let middle = Instant::now(rt)?;
+    let mutex = by_mutex(rt, alloc, threads, rounds)?;
+    let end = Instant::now(rt)?;
+    if !timed {
+        println!(rt; "{threads} threads: Noted counts {noted}, Mutex counts {mutex}")?;
+        return Ok(());
+    }
+    let noted = per_second(noted, middle.duration_since(start));
+    let mutex = per_second(mutex, end.duration_since(middle));
+    println!(rt; "{threads} threads: Noted {noted} a second, Mutex {mutex} a second")?;
+    Ok(())
+}
+
 fn main(rt: HostRuntime) -> io::Result<()> {
-    for threads in [1u32, 2, 4, 64] {
-        let rounds = 1 << 20 >> threads.ilog2();
-        let start = Instant::now(&rt)?;
-        let noted = by_noted(&rt, rt.alloc(), threads, rounds)?;
-        let middle = Instant::now(&rt)?;
-        let mutex = by_mutex(&rt, rt.alloc(), threads, rounds)?;
-        let end = Instant::now(&rt)?;
-        println!(rt; "{threads}: noted {noted} in {:?}, mutex {mutex} in {:?}", middle.duration_since(start).as_micros(), end.duration_since(middle).as_micros())?;
+    let timed = env::args(&rt)?.any(|word| word.as_str() == "time");
+    for threads in [1, 2, 4, 64] {
+        compare(&rt, rt.alloc(), threads, timed)?;
     }
     Ok(())
 }

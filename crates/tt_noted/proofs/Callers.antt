@@ -1,6 +1,7 @@
 -- For callers: the passes of a lock, as it was made and after work by each of them.
-use Rattle.std.proofs.Common.{◌≡◌, ℕ, zero, suc, ◌+◌, ◌-◌, ◌<◌, ◌≤◌, List, [], ◌∷◌, length, get_or, sym, refl, ap, ◌∙◌, subst, arith, Option, Some, None, slice_get}
+use Rattle.std.proofs.Common.{◌≡◌, ℕ, zero, suc, ◌+◌, ◌-◌, ◌<◌, ◌≤◌, List, [], ◌∷◌, ◌++◌, length, get_or, take, drop, append-nil, sym, refl, ap, ◌∙◌, subst, arith, Option, Some, None, slice_get}
 use Rattle.std.specs.List.{All, Any}
+use Rattle.std.proofs.lemmas.List.{drop_all, take_all}
 use Rattle.std.proofs.lemmas.Option.{slice_get_read, slice_get-get_or}
 use Rattle.tt_noted.specs.declared.tie.Tie.{Ghosts}
 use Rattle.tt_noted.specs.declared.pass.Pass.{Pass}
@@ -16,6 +17,10 @@ either_default : {A : Type 0} (xs : List A) (i : ℕ) (a b : A) → i < length x
 either_default [] i a b inside = absurd (omega arith)
 either_default (x ∷ xs) zero a b inside = refl
 either_default (x ∷ xs) (suc i) a b inside = either_default xs i a b (omega arith)
+
+-- what a vector has once a slice of all of it was written
+pub written_back : {A : Type 0} (xs ys : List A) (n : ℕ) → length ys ≡ length xs → n ≡ length xs → take n (ys ++ drop (length ys) xs) ≡ ys
+written_back xs ys n long whole = ap (λ zs. take n (ys ++ zs)) (drop_all (length ys) xs (omega arith)) ∙ (ap (take n) (append-nil ys) ∙ take_all n ys (omega arith))
 
 module _ {T S N : Type 0} {tie : Ghosts T S N} (lock : Noted T S N) where
   -- the passes of a new lock are all of its passes

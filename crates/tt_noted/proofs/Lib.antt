@@ -4,3 +4,4 @@ pub mod Keeps
 pub mod Passes
 pub mod Gathering
 pub mod Callers
+pub mod Counts

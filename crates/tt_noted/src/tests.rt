@@ -1,4 +1,4 @@
-ghost use Rattle.std.specs.Prelude.{◌≡◌, ◌+◌, ◌%◌, ◌^◌, ◌<◌, ◌≤◌, sum, Some, None};
+ghost use Rattle.std.specs.Prelude.{◌≡◌, ◌+◌, ◌%◌, ◌^◌, ◌<◌, ◌≤◌, sum, Some, None, if◌then◌else◌};
 ghost use Rattle.tt_noted.specs.Passes.{IsPassOf, IsSamePass, note_of, turn_of};
 
 use crate::{Noted, Pass, Tie};
@@ -6,7 +6,7 @@ use std::alloc::{AllocError, Global};
 use std::sync::Wait;
 use std::test::Fail;
 use std::thread;
-use std::thread::{Threads, join};
+use std::thread::Threads;
 
 const ROUNDS: u64 = 10_000;
 
@@ -23,7 +23,15 @@ impl Tie for Counted {
     ghost fits = { λ count notes. count.value ≡ sum notes % 2 ^ 64 };
 }
 
-// Adds one to the count, as the pass notes.
+#[derive(Clone, Copy)]
+enum Work {
+    // Each pass adds when it enters.
+    Add,
+    // Two passes add by turns, and each rests until it is its turn.
+    TakeTurns,
+}
+
+// Adds one to the count.
 fn add_one<R: Wait>(rt: &R, lock: &Noted<Counted>, pass: &mut Pass<Counted>, noted: u64)
     requires pass { IsPassOf lock.now pass.old × (turn_of pass.old ≡ None) }
     requires noted { (note_of pass.old ≡ Some noted) × (noted + 1 < 2 ^ 64) }
@@ -35,6 +43,50 @@ fn add_one<R: Wait>(rt: &R, lock: &Noted<Counted>, pass: &mut Pass<Counted>, not
     lock.leave(pass, turn, noted + 1);
 }
 
+// Adds one to the count if it leaves this remainder by 2.
+fn try_add_one<R: Wait>(
+    rt: &R,
+    lock: &Noted<Counted>,
+    pass: &mut Pass<Counted>,
+    noted: u64,
+    remainder: u64,
+) -> bool
+    requires pass { IsPassOf lock.now pass.old × (turn_of pass.old ≡ None) }
+    requires noted { (note_of pass.old ≡ Some noted) × (noted + 1 < 2 ^ 64) }
+    ensures pass { IsSamePass lock.now pass.old pass.new × (turn_of pass.new ≡ None) }
+    ensures noted { note_of pass.new ≡ (if result then Some (noted + 1) else Some noted) }
+{
+    let mut turn = lock.enter(rt, pass);
+    if *turn.state % 2 != remainder {
+        lock.leave(pass, turn, noted);
+        return false;
+    }
+    *turn.state = turn.state.wrapping_add(1);
+    lock.leave(pass, turn, noted + 1);
+    true
+}
+
+fn rest_and_add<R: Wait>(
+    rt: &R,
+    lock: &Noted<Counted>,
+    pass: &mut Pass<Counted>,
+    noted: u64,
+    remainder: u64,
+)
+    requires pass { IsPassOf lock.now pass.old × (turn_of pass.old ≡ None) }
+    requires noted { (note_of pass.old ≡ Some noted) × (noted + 1 < 2 ^ 64) }
+    ensures pass { IsSamePass lock.now pass.old pass.new × (turn_of pass.new ≡ None) }
+    ensures noted { note_of pass.new ≡ Some (noted + 1) }
+{
+    for _ in rt.forever() {
+        if try_add_one(rt, lock, pass, noted, remainder) {
+            return;
+        }
+        lock.rest(rt, pass);
+    }
+    unreachable!()
+}
+
 fn add_many<R: Wait>(rt: &R, lock: &Noted<Counted>, pass: &mut Pass<Counted>)
     requires { IsPassOf lock.now pass.old × (turn_of pass.old ≡ None) × (note_of pass.old ≡ Some 0) }
     ensures { IsSamePass lock.now pass.old pass.new × (turn_of pass.new ≡ None) }
@@ -44,35 +96,78 @@ fn add_many<R: Wait>(rt: &R, lock: &Noted<Counted>, pass: &mut Pass<Counted>)
     }
 }
 
-fn made(alloc: Global, n: u32) -> Result<(Noted<Counted>, Vec<Pass<Counted>>), AllocError>
-    requires { (1 ≤ n) × (n ≤ 64) }
+fn take_turns<R: Wait>(rt: &R, lock: &Noted<Counted>, pass: &mut Pass<Counted>, remainder: u64)
+    requires { IsPassOf lock.now pass.old × (turn_of pass.old ≡ None) × (note_of pass.old ≡ Some 0) }
+    ensures { IsSamePass lock.now pass.old pass.new × (turn_of pass.new ≡ None) }
 {
-    let zero = Box::new(alloc, 0)?;
-    match Noted::new(alloc, zero, n, &0) {
-        Ok(made) => Ok(made),
-        Err(_zero) => Err(AllocError),
+    for noted in 0..RESTS {
+        rest_and_add(rt, lock, pass, noted, remainder);
     }
 }
 
-// The count at the close, after n threads each added to it.
-fn count_of_threads<R: Threads + Wait + Sync>(
+fn do_work<R: Wait>(
+    rt: &R,
+    lock: &Noted<Counted>,
+    pass: &mut Pass<Counted>,
+    work: Work,
+    place: usize,
+)
+    requires { IsPassOf lock.now pass.old × (turn_of pass.old ≡ None) × (note_of pass.old ≡ Some 0) }
+    ensures { IsSamePass lock.now pass.old pass.new × (turn_of pass.new ≡ None) }
+{
+    match work {
+        Work::Add => add_many(rt, lock, pass),
+        Work::TakeTurns => take_turns(rt, lock, pass, place as u64),
+    }
+}
+
+// The count at the close, after n threads did the work.
+fn total_after<R: Threads + Wait + Sync>(
     rt: &R,
     alloc: Global,
     n: u32,
+    work: Work,
 ) -> Result<u64, AllocError>
     requires { (1 ≤ n) × (n ≤ 64) }
 {
-    let (lock, mut passes) = made(alloc, n)?;
-    thread::for_each_mut(rt, passes.as_mut_slice(), n as usize, &|_, pass: &mut Pass<Counted>| {
-        add_many(rt, &lock, pass)
-    });
+    let zero = Box::new(alloc, 0)?;
+    let Ok((lock, mut passes)) = Noted::<Counted>::new(alloc, zero, n, &0) else {
+        return Err(AllocError);
+    };
+    let shared = &lock;
+    let each = |place: usize, pass: &mut Pass<Counted>|
+        requires { IsPassOf shared.now pass.now × (turn_of pass.now ≡ None) × (note_of pass.now ≡ Some 0) }
+        ensures { IsSamePass shared.entry.now pass.entry.now pass.exit.now × (turn_of pass.exit.now ≡ None) }
+    { do_work(rt, shared, pass, work, place) };
+    thread::for_each_mut(rt, passes.as_mut_slice(), n as usize, &each);
     Ok(*lock.close(passes))
 }
 
 #[test]
 fn threads_count_as_they_note(rt: HostRuntime) -> Result<(), Fail> {
     for n in [1, 2, 4, 64] {
-        assert_eq!(rt; count_of_threads(&rt, rt.alloc(), n)?, u64::from(n) * ROUNDS);
+        let count = total_after(&rt, rt.alloc(), n, Work::Add)?;
+        assert_eq!(rt; count, u64::from(n) * ROUNDS, "{n} passes");
     }
+    Ok(())
+}
+
+#[test]
+fn a_pass_rests_until_another_leaves(rt: HostRuntime) -> Result<(), Fail> {
+    let count = total_after(&rt, rt.alloc(), 2, Work::TakeTurns)?;
+    assert_eq!(rt; count, 2 * RESTS);
+    Ok(())
+}
+
+#[test]
+fn passes_are_numbered_from_1(rt: HostRuntime) -> Result<(), Fail> {
+    let zero = Box::new(rt.alloc(), 0)?;
+    let Ok((lock, passes)) = Noted::<Counted>::new(rt.alloc(), zero, 3, &0) else {
+        return Err(Fail::from(AllocError));
+    };
+    for (k, pass) in passes.iter().enumerate() {
+        assert_eq!(rt; pass.number() as usize, k + 1);
+    }
+    assert_eq!(rt; *lock.close(passes), 0);
     Ok(())
 }
