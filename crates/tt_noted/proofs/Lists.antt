@@ -41,6 +41,10 @@ module _ {A : Type 0} where
   get_take (x ∷ xs) zero a e = (refl, e)
   get_take (x ∷ xs) (suc k) a e = absurd (none_get k a e)
 
+  pub take_first : (l : List A) (a : A) → slice_get l 0 ≡ Some a → slice_get (take 1 l) 0 ≡ Some a
+  take_first [] a e = e
+  take_first (x ∷ xs) a e = e
+
   pub get_one : (k : ℕ) (a b : A) → slice_get (a ∷ []) k ≡ Some b → (k ≡ 0) × (b ≡ a)
   get_one zero a b e = (refl, cc)
   get_one (suc k) a b e = absurd (none_get k b e)
@@ -67,6 +71,11 @@ module _ {A : Type 0} where
 
   pub get_end : (l : List A) (a b : A) (j : ℕ) → slice_get (l ++ a ∷ []) j ≡ Some b → (slice_get l j ≡ Some b) ⊎ ((j ≡ length l) × (b ≡ a))
   get_end l a b j e = ⊎_elim inl (λ t. let last = get_one t.0 a b t.2 in inr (t.1 ∙ omega (arith, last.0), last.1)) (get_append l (a ∷ []) j b e)
+
+  pub numbered_at : (n i k : ℕ) (a : A) → k < n → slice_get (enumerate_from i (replicate n a)) k ≡ Some (i + k, a)
+  numbered_at zero i k a h = absurd (omega arith)
+  numbered_at (suc n) i zero a h = let here : i ≡ i + 0 = omega arith in ap (λ (j : ℕ). Some (j, a)) here
+  numbered_at (suc n) i (suc k) a h = let next : (i + 1) + k ≡ i + suc k = omega arith in numbered_at n (i + 1) k a (omega arith) ∙ ap (λ (j : ℕ). Some (j, a)) next
 
   -- the first of the elements from place k on
   pub numbered_next : (n k : ℕ) (a : A) → k < n → enumerate_from k (replicate (n - k) a) ≡ (k, a) ∷ enumerate_from (k + 1) (replicate (n - (k + 1)) a)

@@ -91,6 +91,13 @@ module _ {S N : Type 0} where
     pub stands : slice_get notes c.0 ≡ Some c.1
     pub owned : owner c.0 ≡ (at, k)
 
+  -- the note at the place is a view's
+  pub record HasPlace (views : List (View S N)) (owner : ℕ → ℕ × ℕ) (place : ℕ) : Type 0 where
+    pub own : View S N
+    pub note : N
+    pub has : get_elem? views (owner place).0 ≡ some own
+    pub at : slice_get own.notes (owner place).1 ≡ Some (place, note)
+
   -- Where word 0 is even, the state is in the slot and fits all notes. Where it is odd, one view is the holder's, and the state in it fits all notes
   pub record IsKept (fits : S → List N → Type 0) (count : ℕ) (s : Board S N) : Type 0 where
     pub notes : List N
@@ -98,6 +105,7 @@ module _ {S N : Type 0} where
     pub one_word : length s.words ≡ 1
     pub all : length notes ≡ count
     pub each_note : (at k : ℕ) (v : View S N) (c : ℕ × N) → get_elem? s.views at ≡ some v → slice_get v.notes k ≡ Some c → Stands notes owner count at k v c
+    pub each_place : (place : ℕ) → place < count → HasPlace s.views owner place
     pub free : slice_index s.words 0 % 2 ≡ 0 → IsFree fits notes s
     pub held : slice_index s.words 0 % 2 ≡ 1 → IsHeld fits notes s
 

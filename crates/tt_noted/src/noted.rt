@@ -24,7 +24,7 @@ pub struct Noted<T: Tie> {
     // How many passes rest.
     resting: AtomicU64,
     ghost sized: { (table.shared.table_id.words ≡ 1) × (table.shared.table_id.slots ≡ 1) },
-    ghost some: { 0 < table.shared.key.count },
+    ghost has_pass: { 0 < table.shared.key.count },
 }
 
 impl<T: Tie> Noted<T> {
