@@ -1,5 +1,5 @@
 -- For callers: the passes of a lock, as it was made and after work by each of them.
-use Rattle.std.proofs.Common.{◌≡◌, ℕ, zero, suc, ◌+◌, ◌-◌, ◌<◌, ◌≤◌, List, [], ◌∷◌, ◌++◌, length, get_or, take, drop, append-nil, sym, refl, ap, ◌∙◌, subst, arith, None}
+use Rattle.std.proofs.Common.{◌≡◌, ℕ, zero, suc, ◌-◌, ◌<◌, List, [], ◌∷◌, ◌++◌, length, get_or, take, drop, append-nil, sym, refl, ap, ◌∙◌, subst, arith, None}
 use Rattle.std.proofs.lemmas.List.{drop_all, take_all}
 use Rattle.std.proofs.lemmas.Option.{slice_get_read, slice_get-get_or}
 use Rattle.tt_noted.specs.declared.tie.Tie.{Ghosts}
@@ -52,6 +52,6 @@ module _ {T S N : Type 0} {tie : Ghosts T S N} (lock : Noted T S N) where
       → AreAllPassesOf lock (take n (after ++ drop (length after) before))
   all_written before slice after n are same long whole each = let as_long : length after ≡ length before = long ∙ ap length same in
       subst (AreAllPassesOf lock) (sym (written_back before after n as_long whole)) (all_same before after are as_long (λ i d inside.
-          let t = each i d (subst (λ (xs : List (Pass T S N tie)). i < length xs) (sym same) inside) in
-          let was : t.0 ≡ get_or before i d = t.2 ∙ ap (λ (xs : List (Pass T S N tie)). get_or xs i d) same in
-          subst (λ (z : Pass T S N tie × Pass T S N tie). IsSamePass lock z.0 z.1 × (turn_of z.1 ≡ None)) (λ j. (was j, t.3 j)) (t.4, t.5)))
+      let t = each i d (subst (λ (xs : List (Pass T S N tie)). i < length xs) (sym same) inside) in
+      let was : t.0 ≡ get_or before i d = t.2 ∙ ap (λ (xs : List (Pass T S N tie)). get_or xs i d) same in
+      subst (λ (z : Pass T S N tie × Pass T S N tie). IsSamePass lock z.0 z.1 × (turn_of z.1 ≡ None)) (λ j. (was j, t.3 j)) (t.4, t.5)))

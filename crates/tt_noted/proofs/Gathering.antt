@@ -1,7 +1,7 @@
 -- The notes of all passes, as their seats are joined into one.
-use Rattle.std.proofs.Common.{◌≡◌, ℕ, zero, suc, ◌+◌, ◌-◌, ◌<◌, ◌≤◌, List, [], ◌∷◌, ◌++◌, map, length, get_or, sym, refl, ap, ◌∙◌, subst, arith, append_assoc, append-nil, Option, Some, None, slice_get}
-use Rattle.std.specs.List.{All, Any}
-use Rattle.std.proofs.lemmas.List.Elements.{All-nil, All-cons, All-head, All-tail, All-get_or}
+use Rattle.std.proofs.Common.{◌≡◌, ℕ, zero, suc, ◌+◌, ◌-◌, ◌<◌, List, [], ◌∷◌, ◌++◌, length, get_or, sym, ap, ◌∙◌, subst, arith, append_assoc, append-nil, Option, Some, None, slice_get}
+use Rattle.std.specs.List.{All}
+use Rattle.std.proofs.lemmas.List.Elements.{All-nil, All-cons, All-head, All-tail}
 use mathlib.Core.Option.{some, some-injective}
 use lib.ListN.{get_elem?}
 use Rattle.atomic_table.specs.Table.{Final, Seen}
@@ -11,7 +11,7 @@ use Rattle.tt_noted.specs.declared.pass.Pass.{Pass}
 use Rattle.tt_noted.specs.declared.noted.Noted.{Noted}
 use Rattle.tt_noted.specs.declared.table.View.{View}
 use Rattle.tt_noted.specs.Rule.{IsKept, view, both_of, FitsAll}
-use Rattle.tt_noted.specs.Passes.{count_of, number_of, note_of, turn_of, IsPassOf, Tells, AreAllPassesOf, FitsNotesOf, notes_in}
+use Rattle.tt_noted.specs.Passes.{count_of, turn_of, IsPassOf, AreAllPassesOf, FitsNotesOf, notes_in}
 use Rattle.tt_noted.proofs.Keeps.{closed_fits}
 use Rattle.tt_noted.proofs.Lists.{get_front, get_behind}
 use Rattle.tt_noted.proofs.Passes.{one_note, first, first_note}

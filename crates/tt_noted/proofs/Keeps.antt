@@ -1,5 +1,5 @@
 -- Each step keeps the rule.
-use Rattle.std.proofs.Common.{◌≡◌, ◌≢◌, ◌⊎◌, ℕ, zero, suc, ◌+◌, ◌-◌, ◌*◌, ◌%◌, ◌^◌, ◌<◌, eqb, cond, List, [], ◌∷◌, ◌++◌, map, length, replicate, get_or, set, sym, refl, ap, ◌∙◌, subst, ⊎_elim, inl, inr, arith, Option, Some, None, slice_get, length-set, get_or-set_same, eq-eqb, ne_eqb}
+use Rattle.std.proofs.Common.{◌≡◌, ◌≢◌, ℕ, zero, suc, ◌+◌, ◌-◌, ◌%◌, ◌<◌, eqb, List, [], ◌∷◌, ◌++◌, length, replicate, get_or, set, sym, refl, ap, ◌∙◌, subst, ⊎_elim, arith, Option, Some, None, slice_get, length-set, get_or-set_same, eq-eqb, ne_eqb}
 use mathlib.Core.Logic.{dite}
 use mathlib.Core.Option.{none, some, some-injective, some-ne-none}
 use native.Mathlib.Decide.{ℕ_discrete}
@@ -7,11 +7,11 @@ use lib.ListN.{get_elem?, length-replicate}
 use Rattle.std.proofs.lemmas.Option.{slice_get_within}
 use lib.Seq.{set-get_or}
 use prog.Atomic.{either}
-use Rattle.atomic_table.specs.Table.{State, Me, step, keeps, takes, gives, stepped, Allows, Splits, Joins, opening, Final, Seen}
+use Rattle.atomic_table.specs.Table.{step, keeps, takes, gives, stepped, Allows, Splits, Joins, opening, Final, Seen}
 use Rattle.atomic_table.proofs.Lists.{at_set, set_here, set_else, set_again, at_longer, at_last}
 use Rattle.tt_noted.specs.declared.table.View.{View}
 use Rattle.tt_noted.specs.declared.table.Opening.{Opening}
-use Rattle.tt_noted.specs.Rule.{Board, Sat, view, first_view, rest_of, first_of, both_of, spent, holding, leaving, Agrees, FitsAll, IsFree, IsHeld, Stands, HasPlace, IsKept, took, noted}
+use Rattle.tt_noted.specs.Rule.{Board, Sat, view, first_view, rest_of, first_of, both_of, spent, holding, FitsAll, IsFree, Stands, HasPlace, IsKept, took, noted}
 use Rattle.tt_noted.proofs.Owners.{given, given_first, given_next, given_other, merged, merged_other, merged_own, merged_rest}
 use Rattle.tt_noted.proofs.Lists.{set_there, at_end, none_get, get_set_same, get_set_other, get_drop, get_take, take_first, get_front, get_behind, numbered_at, get_one, get_append, get_numbered}
 
@@ -50,8 +50,8 @@ module _ {S N : Type 0} where
       → ((k : ℕ) (note : N) → slice_get v.notes k ≡ Some (place, note) → (new : N) × (slice_get w.notes k ≡ Some (place, new))) → HasPlace vs owner place → HasPlace (set vs id w) owner place
   place_stays vs owner id v w place at same h = dite (ℕ_discrete (owner place).0 id)
       (λ mine. let is : h.own ≡ v = some-injective h.own v (sym h.has ∙ (ap (λ (k : ℕ). get_elem? vs k) mine ∙ at)) in
-          let t = same (owner place).1 h.note (ap (λ (u : View S N). slice_get u.notes (owner place).1) (sym is) ∙ h.at) in
-          record { own = w; note = t.0; has = ap (λ (k : ℕ). get_elem? (set vs id w) k) mine ∙ set_there vs id v w at; at = t.1 })
+      let t = same (owner place).1 h.note (ap (λ (u : View S N). slice_get u.notes (owner place).1) (sym is) ∙ h.at) in
+      record { own = w; note = t.0; has = ap (λ (k : ℕ). get_elem? (set vs id w) k) mine ∙ set_there vs id v w at; at = t.1 })
       (λ other. record { own = h.own; note = h.note; has = set_else vs id (owner place).0 w other ∙ h.has; at = h.at })
 
   at_other : (vs : List (View S N)) (id at : ℕ) (w v : View S N) → at ≢ id → get_elem? (set vs id w) at ≡ some v → get_elem? vs at ≡ some v
@@ -139,7 +139,7 @@ module _ {S N : Type 0} (fits : S → List N → Type 0) (count : ℕ) where
             });
         each_place = λ p inside. place_stays s.views r.owner id (view n ((place, old) ∷ []) (Some entered)) w p at
             (λ k other here. let t = get_one k (place, old) (p, other) here in let same : place ≡ p = ap (λ (y : ℕ × N). y.0) (sym t.1) in
-                (note, ap (λ (j : ℕ). slice_get w.notes j) t.0 ∙ ap (λ (q : ℕ). Some (q, note)) same)) (r.each_place p inside);
+            (note, ap (λ (j : ℕ). slice_get w.notes j) t.0 ∙ ap (λ (q : ℕ). Some (q, note)) same)) (r.each_place p inside);
         free = λ _. record { state = state; home = set_here s.homes 0 (some (Some state)) deep; fit = fit; no_turn = no_turns s.views id w refl alone };
         held = λ z. absurd (omega arith);
       }
@@ -189,12 +189,12 @@ module _ {S N : Type 0} (fits : S → List N → Type 0) (count : ℕ) where
             (at_end vs (first_of v) u at' there);
         each_place = λ place inside. let h = r.each_place place inside in let x : ℕ × ℕ = r.owner place in let all : List (View S N) = vs ++ first_of v ∷ [] in dite (ℕ_discrete x.0 id)
             (λ mine. let is : h.own ≡ v = some-injective h.own v (sym h.has ∙ (ap (λ (k : ℕ). get_elem? s.views k) mine ∙ at)) in
-                let here : slice_get v.notes x.1 ≡ Some (place, h.note) = ap (λ (u : View S N). slice_get u.notes x.1) (sym is) ∙ h.at in dite (ℕ_discrete x.1 0)
-                (λ none_before. placed all owner place (new, 0) (first_of v) h.note (given_first id new x (λ i. (mine i, none_before i))) (at_last vs (first_of v) new long)
-                (take_first v.notes (place, h.note) (ap (λ (k : ℕ). slice_get v.notes k) (sym none_before) ∙ here)))
-                (λ some_before. let k : ℕ = x.1 - 1 in let next : x.1 ≡ suc k = omega arith in
-                    placed all owner place (id, k) (rest_of v) h.note (given_next id new k x (λ i. (mine i, next i))) (at_longer vs (first_of v ∷ []) id (rest_of v) (set_there s.views id v (rest_of v) at))
-                    (get_drop v.notes k ∙ (ap (λ (j : ℕ). slice_get v.notes j) (sym next) ∙ here))))
+            let here : slice_get v.notes x.1 ≡ Some (place, h.note) = ap (λ (u : View S N). slice_get u.notes x.1) (sym is) ∙ h.at in dite (ℕ_discrete x.1 0)
+            (λ none_before. placed all owner place (new, 0) (first_of v) h.note (given_first id new x (λ i. (mine i, none_before i))) (at_last vs (first_of v) new long)
+            (take_first v.notes (place, h.note) (ap (λ (k : ℕ). slice_get v.notes k) (sym none_before) ∙ here)))
+            (λ some_before. let k : ℕ = x.1 - 1 in let next : x.1 ≡ suc k = omega arith in
+            placed all owner place (id, k) (rest_of v) h.note (given_next id new k x (λ i. (mine i, next i))) (at_longer vs (first_of v ∷ []) id (rest_of v) (set_there s.views id v (rest_of v) at))
+            (get_drop v.notes k ∙ (ap (λ (j : ℕ). slice_get v.notes j) (sym next) ∙ here))))
             (λ else. placed all owner place x h.own h.note (given_other id new x.0 x.1 x else refl) (at_longer vs (first_of v ∷ []) x.0 h.own (set_else s.views id x.0 (rest_of v) else ∙ h.has)) h.at);
         free = λ even. let f = r.free even in record {
           state = f.state;
@@ -238,14 +238,14 @@ module _ {S N : Type 0} (fits : S → List N → Type 0) (count : ℕ) where
         each_place = λ place inside. let h = r.each_place place inside in let x : ℕ × ℕ = r.owner place in let after : List (View S N) = set vs other spent in
             let stays : get_elem? after id ≡ some both = set_else vs other id spent (λ e. apart (sym e)) ∙ set_there s.views id v both at in dite (ℕ_discrete x.0 other)
             (λ theirs. let is : h.own ≡ w = some-injective h.own w (sym h.has ∙ (ap (λ (k : ℕ). get_elem? s.views k) theirs ∙ was)) in
-                placed after owner place (id, x.1) both h.note (merged_other id other n x.1 x (λ i. (theirs i, x.1))) stays
-                (get_front w.notes v.notes x.1 (place, h.note) (ap (λ (u : View S N). slice_get u.notes x.1) (sym is) ∙ h.at)))
+            placed after owner place (id, x.1) both h.note (merged_other id other n x.1 x (λ i. (theirs i, x.1))) stays
+            (get_front w.notes v.notes x.1 (place, h.note) (ap (λ (u : View S N). slice_get u.notes x.1) (sym is) ∙ h.at)))
             (λ not_theirs. dite (ℕ_discrete x.0 id)
-                (λ mine. let is : h.own ≡ v = some-injective h.own v (sym h.has ∙ (ap (λ (k : ℕ). get_elem? s.views k) mine ∙ at)) in
-                    placed after owner place (id, n + x.1) both h.note (merged_own id other n x.1 x apart (λ i. (mine i, x.1))) stays
-                    (get_behind w.notes v.notes x.1 ∙ (ap (λ (u : View S N). slice_get u.notes x.1) (sym is) ∙ h.at)))
-                (λ else. placed after owner place x h.own h.note (merged_rest id other n x.0 x.1 x not_theirs else refl)
-                    (set_else vs other x.0 spent not_theirs ∙ (set_else s.views id x.0 both else ∙ h.has)) h.at));
+            (λ mine. let is : h.own ≡ v = some-injective h.own v (sym h.has ∙ (ap (λ (k : ℕ). get_elem? s.views k) mine ∙ at)) in
+            placed after owner place (id, n + x.1) both h.note (merged_own id other n x.1 x apart (λ i. (mine i, x.1))) stays
+            (get_behind w.notes v.notes x.1 ∙ (ap (λ (u : View S N). slice_get u.notes x.1) (sym is) ∙ h.at)))
+            (λ else. placed after owner place x h.own h.note (merged_rest id other n x.0 x.1 x not_theirs else refl)
+            (set_else vs other x.0 spent not_theirs ∙ (set_else s.views id x.0 both else ∙ h.has)) h.at));
         free = λ even. let f = r.free even in record {
           state = f.state;
           home = f.home;

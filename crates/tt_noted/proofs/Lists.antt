@@ -1,5 +1,5 @@
 -- Lists read by `slice_get` and `get_elem?`, after an edit.
-use Rattle.std.proofs.Common.{◌≡◌, ◌≢◌, ◌⊎◌, ℕ, zero, suc, ◌+◌, ◌-◌, ◌<◌, List, [], ◌∷◌, ◌++◌, length, replicate, set, take, drop, sym, refl, ap, ◌∙◌, inl, inr, ⊎_elim, arith, Option, Some, None, slice_get}
+use Rattle.std.proofs.Common.{◌≡◌, ◌≢◌, ◌⊎◌, ℕ, zero, suc, ◌+◌, ◌-◌, ◌<◌, List, [], ◌∷◌, ◌++◌, length, replicate, set, take, drop, sym, refl, ap, ◌∙◌, inl, inr, ⊎_elim, arith, Some, slice_get}
 use Rattle.std.specs.List.{enumerate_from}
 use mathlib.Core.Option.{some, some-injective, some-ne-none}
 use lib.ListN.{get_elem?}

@@ -1,5 +1,5 @@
 -- What the parts of a pass say of its seat.
-use Rattle.std.proofs.Common.{◌≡◌, ℕ, zero, suc, ◌+◌, ◌-◌, ◌<◌, ◌⊎◌, ⊎_elim, List, [], ◌∷◌, ◌++◌, map, length, take, replicate, sym, refl, ap, ◌∙◌, subst, arith, Option, Some, None, slice_get}
+use Rattle.std.proofs.Common.{◌≡◌, ℕ, ◌+◌, ◌-◌, ◌<◌, ⊎_elim, List, [], ◌∷◌, ◌++◌, map, length, take, replicate, sym, ap, ◌∙◌, subst, Option, Some, None, slice_get}
 use Rattle.std.specs.Option.{option_map}
 use Rattle.std.specs.List.{enumerate_from}
 use Rattle.tt_noted.specs.declared.tie.Tie.{Ghosts}
@@ -7,8 +7,8 @@ use Rattle.tt_noted.specs.declared.pass.Pass.{Pass}
 use Rattle.tt_noted.specs.declared.pass.Turn.{Turn}
 use Rattle.tt_noted.specs.declared.noted.Noted.{Noted}
 use Rattle.tt_noted.specs.declared.table.View.{View}
-use Rattle.tt_noted.specs.Rule.{Sat, view, first_of, holding, leaving, Agrees, FitsAll, LeavesFit}
-use Rattle.tt_noted.specs.Passes.{count_of, number_of, note_of, turn_of, entered_of, IsPassOf, IsFresh, Tells, FitsNotes, KeepsFit}
+use Rattle.tt_noted.specs.Rule.{Sat, view, first_of, holding, leaving, FitsAll, LeavesFit}
+use Rattle.tt_noted.specs.Passes.{count_of, turn_of, entered_of, IsPassOf, IsFresh, KeepsFit}
 use Rattle.tt_noted.proofs.Lists.{get_end, numbered_next}
 
 pub one_note : {N : Type 0} (xs : List (ℕ × N)) (place : ℕ) → map (λ c. c.0) xs ≡ place ∷ [] → (note : N) × (xs ≡ (place, note) ∷ [])

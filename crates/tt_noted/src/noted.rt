@@ -18,7 +18,7 @@ use std::thread::yield_now;
 // Tries to take the lock before the thread begins to yield.
 const SPINS: u32 = 16;
 
-/// A lock whose holder knows that the state fits the notes of all passes.
+/// A lock round one state, for 1 to 64 passes. Threads share it by reference, and it ends in `close`.
 pub struct Noted<T: Tie> {
     table: Board<T>,
     // How many passes rest.
@@ -79,8 +79,8 @@ impl<T: Tie> Noted<T> {
         }
     }
 
-    /// A lock round the state, with `n` passes in order, from number 1, each with this note.
-    /// The state comes back where there is no memory.
+    /// A lock round the state, and its `n` passes, 1 to 64, in order from number 1, each with this note.
+    /// `Err` means that there was no memory, and hands the state back.
     pub fn new(
         alloc: Global,
         state: T::State,
@@ -135,8 +135,8 @@ impl<T: Tie> Noted<T> {
         unreachable!()
     }
 
-    /// Takes the lock, and the state out of it. It may wait.
-    /// The state fits the notes of all passes, this pass's own among them.
+    /// Takes the lock, and the state out of it, which fits the notes of all passes, this pass's own among them.
+    /// It waits while another pass has its turn.
     pub fn enter<R: Wait>(&self, rt: &R, pass: &mut Pass<T>) -> Turn<T>
         requires own { IsPassOf self.now pass.old }
         requires no_turn { turn_of pass.old ≡ None }
@@ -173,7 +173,8 @@ impl<T: Tie> Noted<T> {
         shared.fetch_add::<Note<K>>(seat, 0, 1).wrapping_add(1)
     }
 
-    /// Puts the state back with the pass's new note, gives the lock up, and wakes the passes that rest.
+    /// Puts the state back, gives the pass its new note and the lock up, and wakes the passes that rest.
+    /// Whatever the other notes are, the state has to fit with the new note if it fitted with the old one as it was entered.
     pub fn leave(&self, pass: &mut Pass<T>, turn: Turn<T>, note: T::Note)
         requires own { IsPassOf self.now pass.old }
         requires turn { turn_of pass.old ≡ Some (entered_of turn) }
@@ -194,7 +195,8 @@ impl<T: Tie> Noted<T> {
         }
     }
 
-    /// Waits for a leave. It may end for no reason, and begins no wait where a pass has entered or left since this pass's own last leave.
+    /// Waits for another pass's leave. It may end for no reason, and begins no wait where a pass has entered or left
+    /// since this pass's own last leave.
     pub fn rest<R: Wait>(&self, rt: &R, pass: &mut Pass<T>)
         requires own { IsPassOf self.now pass.old }
         requires no_turn { turn_of pass.old ≡ None }
@@ -232,7 +234,7 @@ impl<T: Tie> Noted<T> {
         seat
     }
 
-    /// Ends the lock, given all of its passes, and answers the state, which fits their notes.
+    /// Ends the lock, given all of its passes in any order, and answers the state, which fits their notes.
     pub fn close(self, passes: Vec<Pass<T>>) -> T::State
         requires all { AreAllPassesOf self passes.items }
         ensures fits { FitsNotesOf T.fits self passes.items result }

@@ -6,7 +6,7 @@ use crate::table::Place;
 use crate::tie::Tie;
 use std::snapshot::Snapshot;
 
-/// The right to enter one lock, with a number and a note. It is given up by `Noted::close` alone.
+/// The right to enter one lock, with a number and a note. It may go to another thread, and ends in `Noted::close`.
 pub struct Pass<T: Tie> {
     pub(crate) number: u32,
     /// Word 0 as this pass's last leave made it.
@@ -16,9 +16,9 @@ pub struct Pass<T: Tie> {
     ghost held: { seat.me.1 ≡ held_with seat.me.0.turn },
 }
 
-/// The state, out of the lock. It ends in `Noted::leave`.
+/// The state, out of the lock, and for contracts alone the state as it was entered. It ends in `Noted::leave`.
 pub struct Turn<T: Tie> {
-    /// What the pass may change while no other can enter.
+    /// The state, which may change until the leave, while no other pass can enter.
     pub state: T::State,
     pub(crate) entered: Snapshot<T::State>,
 }

@@ -1,4 +1,4 @@
-use Rattle.std.proofs.Common.{rules, ◌≡◌, sym, ap, ◌∙◌}
+use Rattle.std.proofs.Common.{sym, ap, ◌∙◌}
 use Rattle.tt_noted.proofs.Counts.{adds}
 use Rattle.tt_noted.proofs.tests.add_one.Goals as goal
 

@@ -1,4 +1,3 @@
-use Rattle.std.proofs.Common.{rules}
 use Rattle.tt_noted.proofs.Callers.{all_fresh}
 use Rattle.tt_noted.proofs.tests.passes_are_numbered_from_1.Goals as goal
 

@@ -1,4 +1,3 @@
-use Rattle.std.proofs.Common.{rules}
 use Rattle.tt_noted.proofs.Callers.{all_fresh, fresh_at, all_written}
 use Rattle.tt_noted.proofs.tests.total_after.Goals as goal
 

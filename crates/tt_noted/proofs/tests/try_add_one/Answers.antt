@@ -1,4 +1,4 @@
-use Rattle.std.proofs.Common.{rules, ◌≡◌, sym, ap, ◌∙◌}
+use Rattle.std.proofs.Common.{sym, ap, ◌∙◌}
 use Rattle.tt_noted.proofs.Counts.{adds, stays}
 use Rattle.tt_noted.proofs.tests.try_add_one.Goals as goal
 

@@ -1,5 +1,4 @@
-use Rattle.std.proofs.Common.{rules, ◌≡◌, ◌-◌, ◌+◌, [], ◌∷◌, length, length-append, replicate, drop, None, refl, sym, ap, ◌∙◌, arith}
-use Rattle.std.specs.List.{enumerate_from}
+use Rattle.std.proofs.Common.{rules, ◌+◌, [], length, length-append, drop, None, refl, ap, ◌∙◌}
 use Rattle.tt_noted.specs.Rule.{view, rest_of}
 use Rattle.tt_noted.proofs.Keeps.{split_keeps}
 use Rattle.tt_noted.proofs.Lists.{numbered_next}

@@ -1,4 +1,4 @@
-use Rattle.std.proofs.Common.{rules, ◌≡◌, ◌∷◌, [], map, Some, sym, ap, ◌∙◌, subst, arith}
+use Rattle.std.proofs.Common.{map, sym, ap, ◌∙◌}
 use Rattle.tt_noted.specs.Rule.{held_with}
 use Rattle.tt_noted.proofs.Passes.{leaves_fit, new_notes, first}
 use Rattle.tt_noted.proofs.noted.Noted.leave.Goals as goal

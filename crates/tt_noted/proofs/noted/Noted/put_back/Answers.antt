@@ -1,4 +1,4 @@
-use Rattle.std.proofs.Common.{rules, ◌≡◌, ◌+◌, ◌%◌, [], ◌∷◌, Some, IfSome, sym, ap, ◌∙◌, subst, arith}
+use Rattle.std.proofs.Common.{rules, ◌≡◌, ◌+◌, ◌%◌, [], ◌∷◌, Some, sym, ap, ◌∙◌, subst, arith}
 use mathlib.Core.Option.{none}
 use Rattle.atomic_table.specs.Table.{rest, step, Allows}
 use Rattle.tt_noted.specs.Rule.{IsKept, leaving, noted}

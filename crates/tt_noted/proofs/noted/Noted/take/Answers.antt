@@ -1,4 +1,4 @@
-use Rattle.std.proofs.Common.{rules, ◌≡◌, Some, slice_get, ap, ◌∙◌}
+use Rattle.std.proofs.Common.{rules, slice_get, ap, ◌∙◌}
 use Rattle.tt_noted.proofs.Keeps.{take_keeps}
 use Rattle.tt_noted.proofs.Passes.{took_all}
 use Rattle.tt_noted.proofs.noted.Noted.take.Goals as goal
