@@ -3,5 +3,5 @@
 # beside the locks of std's Mutex in the same run. It wants `rt` on the path.
 set -e
 cd "$(dirname "$0")/../crates/bench_lock"
-rt run > /dev/null
+rt run > /dev/null 2>&1
 exec out/bench_lock time

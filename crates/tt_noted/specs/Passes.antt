@@ -16,6 +16,7 @@ abbrev pub entered_of : {T S N : Type 0} → Turn T S N → S
 entered_of turn = turn.entered.value
 
 module _ {T S N : Type 0} {tie : Ghosts T S N} where
+  -- the pass's number, from 1
   abbrev pub number_of : Pass T S N tie → ℕ
   number_of pass = pass.number
 
@@ -44,7 +45,7 @@ module _ {T S N : Type 0} {tie : Ghosts T S N} where
   KeepsFit fits lock pass turn note =
       (notes : List N) → length notes ≡ count_of lock → Tells notes pass → fits (entered_of turn) notes → fits turn.state (slice_set notes (number_of pass - 1) note)
 
-  -- the pass at index k among those of a new lock
+  -- the pass of a new lock that is at index k of them all, with this note
   pub record IsFresh (lock : Noted T S N) (note : N) (k : ℕ) (pass : Pass T S N tie) : Type 0 where
     pub of_lock : IsPassOf lock pass
     pub numbered : number_of pass ≡ k + 1

@@ -8,10 +8,11 @@ use Rattle.atomic_table.specs.Table.{State, Me, Step, rest}
 use Rattle.tt_noted.specs.declared.table.View.{View}
 use Rattle.tt_noted.specs.declared.table.Opening.{Opening}
 
--- the table, and what a seat knows and holds
+-- the table as the rule sees it
 abbrev pub Board : Type 0 → Type 0 → Type 0
 Board S N = State (Option S) (View S N)
 
+-- what a seat knows, and the slots that it holds
 abbrev pub Sat : Type 0 → Type 0 → Type 0
 Sat S N = Me (Option S) (View S N)
 
