@@ -1,0 +1,7 @@
+pub mod Answers
+pub mod Building
+pub mod Plain
+pub mod Reading
+pub mod Scanning
+pub mod Special
+pub mod Words

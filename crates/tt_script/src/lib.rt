@@ -1,0 +1,12 @@
+//! The commands of a script, read as Tcl(n) says.
+#![tactic(auto)]
+
+mod braces;
+mod builder;
+mod command;
+mod names;
+mod scan;
+mod stop;
+mod stub;
+
+pub use command::{Command, First, ParseFault, Part, Word};
