@@ -10,12 +10,16 @@ use Rattle.tt_script.specs.declared.command.Part.TheViews.{roll-Part, out-Part, 
 use Rattle.tt_script.specs.declared.command.Part.TheFolds.{fold-roll-Part}
 use Rattle.tt_text.specs.declared.text.Text.{Text}
 use Rattle.std.specs.Prelude.{Vec}
+use Rattle.std.specs.declared.alloc.Global.{Global}
 
 pub plain_letters : (text : List ℕ) → plain_part (Letters text) ≡ letters text
 plain_letters text = ap plain_part (sym (rolls-Letters text)) ∙ fold-roll-Part PlainPart plain_step (Part-F.Letters text)
 
 pub plain_variable : (name : List ℕ) → plain_part (Variable name) ≡ variable name
 plain_variable name = ap plain_part (sym (rolls-Variable name)) ∙ fold-roll-Part PlainPart plain_step (Part-F.Variable name)
+
+pub plain_element : (name : List ℕ) (index : Vec Part Global) → plain_part (Element name index) ≡ element name (plain_parts index.items)
+plain_element name index = ap plain_part (sym (rolls-Element name index)) ∙ fold-roll-Part PlainPart plain_step (Part-F.Element name index)
 
 pub plain_script : (text : List ℕ) → plain_part (Script text) ≡ script text
 plain_script text = ap plain_part (sym (rolls-Script text)) ∙ fold-roll-Part PlainPart plain_step (Part-F.Script text)

@@ -149,6 +149,8 @@ comment-run text i stop h e =
     let tail : comment false (drop n (drop i text)) ≡ comment false (drop stop text) = ap (comment false) rest in
     omega (arith, run ∙ counted (take n (drop i text)) (comment false (drop n (drop i text))), size, tail, e)
 
+pub ruleset next_special_bounds = (next_special-bounds)
+
 pub ruleset comment_steps = (comment-run, comment_at-newline, comment_at-letter, comment_at-escaped, comment_at-end, next_special-bounds)
 
 -- ---- what stands between commands ----

@@ -1,6 +1,6 @@
 -- The first command of a text, or why it has none: a recursive descent over lists (Tcl(n)).
 -- It answers values with the number of bytes that they take. `k` is a number of bytes that are passed over.
-use Rattle.std.specs.Prelude.{ℕ, zero, suc, pred, ◌+◌, ◌-◌, Bool, true, false, not, ◌&&◌, ◌||◌, if◌then◌else◌, ◌==◌, nat_lt, min, List, [], ◌∷◌, ◌++◌, length, take, drop, Option, Some, None}
+use Rattle.std.specs.Prelude.{ℕ, zero, suc, pred, ◌+◌, ◌-◌, Bool, true, false, not, ◌&&◌, ◌||◌, if◌then◌else◌, ◌==◌, nat_lt, min, List, [], ◌∷◌, ◌++◌, length, take, drop, slice_range, position, Option, Some, None}
 use Rattle.std.specs.List.{position_or_len, prefix_len}
 use Rattle.std.specs.Char.{is_ascii_alphanumeric}
 use Rattle.tt_text.specs.Characters.{is_white_space, is_blank}
@@ -127,17 +127,16 @@ name_length zero (b ∷ text) =
       ]
     ]
 
--- the text is the name of an array, and an index in parentheses up to the text's end
-abbrev pub ends_index : List ℕ → Bool
-ends_index name = nat_lt (position_or_len (λ b. b == 40) name) (length name) && begins 41 (drop (length name - 1) name)
+-- the place of the first ( of a name that ends with ), where it is an element's name
+abbrev pub index_start : List ℕ → Option ℕ
+index_start name = if begins 41 (drop (length name - 1) name) then position (λ b. b == 40) name else None
 
 -- a name in braces is one that a command is given: a(b) is the element b of a, from the first ( to a last ) (rule 8)
 abbrev pub named : List ℕ → PlainPart
 named name =
-    let open_at = position_or_len (λ b. b == 40) name in
-    elim (ends_index name) [
-      | true ↦ element (take open_at name) (letters_of (take (length name - open_at - 2) (drop (open_at + 1) name)))
-      | false ↦ variable name
+    elim (index_start name) [
+      | None ↦ variable name
+      | Some start ↦ element (take start name) (letters_of (slice_range name (start + 1) (length name - 1)))
     ]
 
 -- what `${` begins, with the text after the brace

@@ -8,5 +8,6 @@ mod names;
 mod scan;
 mod stop;
 mod stub;
+mod stub_sequence;
 
 pub use command::{Command, First, ParseFault, Part, Word};
