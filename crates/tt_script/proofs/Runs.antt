@@ -1,5 +1,5 @@
 -- A run of bytes that a function passes over one by one.
-use Rattle.std.proofs.Common.{◌≡◌, ℕ, zero, suc, ◌+◌, ◌<◌, ◌≤◌, Bool, true, false, List, [], ◌∷◌, length, drop, take, refl, ap, sym, ◌∙◌, arith, cond}
+use Rattle.std.proofs.Common.{◌≡◌, ℕ, zero, suc, ◌+◌, ◌<◌, ◌≤◌, Bool, true, false, ◌&&◌, List, [], ◌∷◌, length, drop, take, refl, ap, sym, ◌∙◌, arith, cond}
 use Rattle.std.specs.List.{prefix_len}
 
 -- a step for each byte, before a result
@@ -27,3 +27,16 @@ module _ {A : Type 0} (p : ℕ → Bool) (F : List ℕ → A) (one : ℕ → A �
 pub counted : (bs : List ℕ) (n : ℕ) → all (λ b m. suc m) bs n ≡ length bs + n
 counted [] n = omega arith
 counted (b ∷ bs) n = omega (arith, counted bs n)
+
+-- a run that passes two tests
+pub both_pass : (p q : ℕ → Bool) (n : ℕ) (text : List ℕ) → n ≤ prefix_len p text → n ≤ prefix_len q text → n ≤ prefix_len (λ b. p b && q b) text
+both_pass p q zero text h k = omega arith
+both_pass p q (suc n) [] h k = absurd (omega arith)
+both_pass p q (suc n) (b ∷ text) h k = go (p b) (q b) refl refl (both_pass p q n text)
+  where
+    go : (v w : Bool) → p b ≡ v → q b ≡ w → (n ≤ prefix_len p text → n ≤ prefix_len q text → n ≤ prefix_len (λ c. p c && q c) text) → suc n ≤ prefix_len (λ c. p c && q c) (b ∷ text)
+    go false w e f next = absurd (omega (arith, prefix_len-no p b text e))
+    go true false e f next = absurd (omega (arith, prefix_len-no q b text f))
+    go true true e f next =
+        let yes : p b && q b ≡ true = ap (λ v. v && q b) e ∙ f in
+        omega (arith, prefix_len-yes p b text e, prefix_len-yes q b text f, prefix_len-yes (λ c. p c && q c) b text yes, next (omega (arith, prefix_len-yes p b text e)) (omega (arith, prefix_len-yes q b text f)))

@@ -8,7 +8,7 @@ use Rattle.std.proofs.lemmas.List.Sums.{prefix_len-le-length}
 use Rattle.tt_text.specs.Characters.{is_blank, is_white_space}
 use Rattle.std.specs.List.{prefix_len, position_or_len}
 use Rattle.tt_script.specs.Special.{is_special, next_special}
-use Rattle.tt_script.specs.Reading.{gap, continues_line, begins, comment, skipped}
+use Rattle.tt_script.specs.Reading.{gap, continues_line, begins, begins_black, expands, comment, skipped}
 use Rattle.tt_script.proofs.Runs.{passes, all, counted}
 
 -- bytes that are passed over
@@ -205,3 +205,13 @@ module _ (text : List ℕ) (i : ℕ) (h : i < length text) where
   skipped_at-none e f g = rw (drop_more text i 0 h) (skipped-none _ _ e f (ne_eqb _ _ g))
 
 pub ruleset skip_steps = (skipped_at-space, skipped_at-line, skipped_at-comment, skipped_at-none, skipped_at-end, continues_line-room)
+
+-- ---- the front of a word ----
+
+pub expands_at : (text : List ℕ) (i : ℕ) → expands (drop i text) ≡ (begins 123 (drop i text) && begins 42 (drop (i + 1) text)) && (begins 125 (drop (i + 2) text) && begins_black (drop (i + 3) text))
+expands_at text i =
+    ap (λ rest. (begins 123 (drop i text) && begins 42 rest) && (begins 125 (drop 2 (drop i text)) && begins_black (drop 3 (drop i text)))) (drop-drop 1 i text)
+    ∙ ap (λ rest. (begins 123 (drop i text) && begins 42 (drop (i + 1) text)) && (begins 125 rest && begins_black (drop 3 (drop i text)))) (drop-drop 2 i text)
+    ∙ ap (λ rest. (begins 123 (drop i text) && begins 42 (drop (i + 1) text)) && (begins 125 (drop (i + 2) text) && begins_black rest)) (drop-drop 3 i text)
+
+pub ruleset expansion_steps = (expands_at)

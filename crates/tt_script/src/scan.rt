@@ -1,10 +1,11 @@
 //! What needs no nesting: gaps, comments, names and braces.
-ghost use Rattle.std.specs.Prelude.{◌≡◌, ◌+◌, ◌≤◌, ◌<◌, length, drop, take, slice_index, min, ◌≢◌, ◌||◌, ◌==◌, false};
-ghost use Rattle.tt_text.specs.Braces.{further, matching_brace};
+ghost use Rattle.std.specs.Prelude.{◌≡◌, ◌+◌, ◌≤◌, ◌<◌, length, drop, take, slice_index, min, ◌≢◌, ◌||◌, ◌==◌, false, true, OnOk, IfErr};
+ghost use Rattle.std.specs.List.{prefix_len, position_or_len};
+ghost use Rattle.tt_script.specs.Scanning.{is_letter};
 ghost use Rattle.tt_text.specs.Characters as characters;
 ghost use Rattle.tt_script.specs.Reading as reading;
 
-use crate::command::{Ending, Place};
+use crate::command::{Ending, ParseFault, Place};
 use crate::stub::next_special;
 
 /// Whether this byte stands here.
@@ -108,6 +109,111 @@ pub(crate) fn skip_end(text: &[u8], from: usize) -> usize
         } else {
             break;
         }
+    }
+    at
+}
+
+/// Whether this byte ends a command: a newline or a semicolon, and in brackets a `]`.
+fn is_terminator(byte: u8, place: Place) -> bool
+    ensures { result ≡ reading.is_terminator place byte }
+{
+    match place {
+        Place::Script => byte == b'\n' || byte == b';',
+        Place::Brackets => byte == b'\n' || byte == b';' || byte == b']',
+    }
+}
+
+/// Whether a word of a command ends before here: at the end, before a gap or before a terminator.
+fn separates(text: &[u8], at: usize, place: Place) -> bool
+    requires { at ≤ length text.now }
+    ensures { result ≡ reading.separates place (drop at text.now) }
+{
+    at == text.len()
+        || is_white_space(text[at])
+        || is_terminator(text[at], place)
+        || continues_line(text, at)
+}
+
+/// Whether a command ends before here.
+pub(crate) fn ends_command(text: &[u8], at: usize, place: Place) -> bool
+    requires { at ≤ length text.now }
+    ensures { result ≡ reading.ends_command place (drop at text.now) }
+{
+    at == text.len() || is_terminator(text[at], place)
+}
+
+/// Whether parts end before here.
+pub(crate) fn ends_parts(text: &[u8], at: usize, ending: Ending) -> bool
+    requires { at ≤ length text.now }
+    ensures { result ≡ reading.ends_parts ending (drop at text.now) }
+{
+    match ending {
+        Ending::Word(place) => separates(text, at, place),
+        Ending::Quote => begins(text, at, b'"'),
+        Ending::Parenthesis => begins(text, at, b')'),
+    }
+}
+
+/// Whether `{*}` and a byte that is no white space stand here (Tcl(n), rule 5).
+#[tactic(auto, using(crate::proofs::Scanning::expansion_steps))]
+pub(crate) fn expands(text: &[u8], at: usize) -> bool
+    requires { at ≤ length text.now }
+    ensures { result ≡ reading.expands (drop at text.now) }
+{
+    begins(text, at, b'{')
+        && begins(text, at + 1, b'*')
+        && begins(text, at + 2, b'}')
+        && begins_black(text, at + 3)
+}
+
+/// Whether a byte that is no white space stands here.
+fn begins_black(text: &[u8], at: usize) -> bool
+    ensures { result ≡ reading.begins_black (drop at text.now) }
+{
+    at < text.len() && !is_white_space(text[at])
+}
+
+/// A word in quotes or braces ends before here: a separator must follow it.
+pub(crate) fn must_separate(
+    text: &[u8],
+    at: usize,
+    place: Place,
+    fault: ParseFault,
+) -> Result<(), ParseFault>
+    requires { at ≤ length text.now }
+    ensures ok { OnOk result (reading.separates place (drop at text.now) ≡ true) }
+    ensures err { IfErr result (λ e. (e ≡ fault) × (reading.separates place (drop at text.now) ≡ false)) }
+{
+    if separates(text, at, place) {
+        Ok(())
+    } else {
+        Err(fault)
+    }
+}
+
+/// The end of a run of letters from here on, among parts that end so.
+pub(crate) fn letters_end(text: &[u8], from: usize, ending: Ending) -> usize
+    requires { from ≤ length text.now }
+    ensures letters { result ≤ from + prefix_len (is_letter ending) (drop from text.now) }
+    ensures within { (from ≤ result) × (result ≤ length text.now) }
+{
+    let stop = next_special(text, from);
+    match ending {
+        Ending::Word(_) | Ending::Quote => stop,
+        Ending::Parenthesis => parenthesis_before(text, from, stop),
+    }
+}
+
+/// The place of the first `)` from here on, or the other place if none comes before it.
+fn parenthesis_before(text: &[u8], from: usize, stop: usize) -> usize
+    requires order { from ≤ stop }
+    requires room { stop ≤ length text.now }
+    ensures none { result ≤ from + position_or_len (λ b. b == 41) (drop from text.now) }
+    ensures within { (from ≤ result) × (result ≤ stop) }
+{
+    let mut at = from;
+    while at < stop && text[at] != b')' {
+        at += 1;
     }
     at
 }
