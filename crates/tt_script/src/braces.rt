@@ -7,9 +7,9 @@ ghost use Rattle.tt_script.specs.Plain.{plain_part, plain_parts};
 use crate::builder::Builder;
 use crate::command::Part;
 use crate::scan::{after_escape, begins};
-use crate::stub::{backslash, next_special};
+use crate::stub::next_special;
 use std::alloc::Global;
-use tt_text::{NoMemory, Text};
+use tt_text::{NoMemory, Text, backslash};
 
 /// How many inner braces are open after this byte, or `None` where it closes the outer one.
 fn depth_after(byte: u8, depth: usize) -> Option<usize>

@@ -8,6 +8,5 @@ mod names;
 mod scan;
 mod stop;
 mod stub;
-mod stub_sequence;
 
 pub use command::{Command, First, ParseFault, Part, Word};
