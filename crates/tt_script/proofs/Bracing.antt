@@ -114,13 +114,15 @@ pub record Passed (text : List ℕ) (i depth next inner : ℕ) : Type 0 where
   pub place : further i (closing_brace false depth (drop i text)) ≡ further next (closing_brace false inner (drop next text))
   pub within : next ≤ length text
   pub low : inner ≤ next
+  pub later : i ≤ next
 
 module _ (text : List ℕ) (i depth next inner : ℕ) (h : i < length text) (low : depth ≤ i) (escaped : get_or text i 0 ≡ 92 → next ≡ min (i + 2) (length text)) (single : get_or text i 0 ≢ 92 → next ≡ i + 1) (d : Deepens (get_or text i 0) depth (Some inner)) where
   one_passed : (k : ℕ) → next ≡ i + 1 → inner ≡ k → closing_brace false depth (get_or text i 0 ∷ drop (i + 1) text) ≡ further 1 (closing_brace false k (drop (i + 1) text)) → k ≤ i + 1 → Passed text i depth next inner
   one_passed k e f step most = record {
     place = one_on text i h depth k false step ∙ ap (λ j. further j (closing_brace false k (drop j text))) (sym e) ∙ ap (λ j. further next (closing_brace false j (drop next text))) (sym f);
     within = omega arith;
-    low = omega arith
+    low = omega arith;
+    later = omega arith
   }
 
   two_passed : next ≡ min (i + 2) (length text) → inner ≡ depth → get_or text i 0 ≡ 92 → Passed text i depth next inner
@@ -134,12 +136,14 @@ module _ (text : List ℕ) (i depth next inner : ℕ) (h : i < length text) (low
           record {
             place = first ∙ escaped_on text (i + 1) room depth ∙ ap (λ j. further j (closing_brace false depth (drop j text))) two ∙ ap (λ j. further next (closing_brace false j (drop next text))) (sym f);
             within = omega arith;
-            low = omega arith
+            low = omega arith;
+            later = omega arith
           }
       go (inr ends) = record {
         place = first ∙ at_end true depth text (i + 1) ends ∙ sym (at_end false inner text next (omega arith));
         within = omega arith;
-        low = omega arith
+        low = omega arith;
+        later = omega arith
       }
 
   some_same : (m n : ℕ) → Some m ≡ Some n → m ≡ n
@@ -164,3 +168,14 @@ module _ (text : List ℕ) (i depth next inner : ℕ) (h : i < length text) (low
       go (inr (_, p)) (inr (_, q)) (inl (_, is)) = inner_passed (single p) is depth refl
       go (inr (e, p)) (inr (f, q)) (inr (g, r)) =
           one_passed depth (single p) (some_same _ _ (d.other q r)) (letter _ depth (drop (i + 1) text) f g e) (omega arith)
+
+-- what a place says of the text from there on
+pub further-none : (n : ℕ) (o : Option ℕ) → None ≡ further n o → o ≡ None
+further-none n None e = refl
+further-none n (Some k) e = cc
+
+pub further-some : (n m : ℕ) (o : Option ℕ) → Some m ≡ further n o → (o ≡ Some (m - n)) × (n ≤ m)
+further-some n m None e = cc
+further-some n m (Some k) e =
+    let same : m ≡ n + k = cc in
+    (ap Some (omega arith), omega arith)

@@ -3,5 +3,7 @@ pub mod Builds
 pub mod Escapes
 pub mod Joining
 pub mod Naming
+pub mod PartSteps
+pub mod Readers
 pub mod Runs
 pub mod Scanning

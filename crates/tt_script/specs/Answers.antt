@@ -1,7 +1,9 @@
 -- How an answer of the parser stands to what the text reads as.
-use Rattle.std.specs.Prelude.{◌≡◌, ℕ, Result, Ok, Err}
+use Rattle.std.specs.Prelude.{◌≡◌, ◌≤◌, ◌<◌, ℕ, Result, Ok, Err}
 use Rattle.tt_script.specs.Reading.{Read, takes, fails}
 use Rattle.tt_script.specs.declared.command.ParseFault.{ParseFault}
+use Rattle.tt_script.specs.declared.command.Ending.{Ending}
+use Rattle.tt_script.specs.declared.command.Ending.TheVariants as endings
 use Rattle.tt_script.specs.declared.stop.Stop.{Stop}
 use Rattle.tt_script.specs.declared.stop.Stop.TheVariants as stops
 
@@ -19,3 +21,9 @@ Answers view (Err stop) read = Refuses stop read
 abbrev pub Continues : {A : Type 0} → Result ℕ Stop → (ℕ → Read A) → Read A → Type 0
 Continues (Ok next) from read = read ≡ from next
 Continues (Err stop) from read = Refuses stop read
+
+-- parts end within a text of this length, before the byte that closes them
+abbrev pub ends_within : Ending → ℕ → ℕ → Type 0
+ends_within (endings.Word place) end size = end ≤ size
+ends_within endings.Quote end size = end < size
+ends_within endings.Parenthesis end size = end < size

@@ -30,7 +30,8 @@ fn depth_after(byte: u8, depth: usize) -> Option<usize>
 /// The place of the brace that closes the one before here. A byte after a backslash is none.
 pub(crate) fn closing_brace(text: &[u8], from: usize) -> Option<usize>
     requires { from ≤ length text.now }
-    ensures { result ≡ further from (matching_brace (drop from text.now)) }
+    ensures place { result ≡ further from (matching_brace (drop from text.now)) }
+    ensures within { IfSome result (λ end. (from ≤ end) × (end < length text.now)) }
 {
     let mut depth = 0;
     let mut at = next_special(text, from);

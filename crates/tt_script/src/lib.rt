@@ -5,6 +5,7 @@ mod braces;
 mod builder;
 mod command;
 mod names;
+mod parser;
 mod scan;
 mod stop;
 mod stub;

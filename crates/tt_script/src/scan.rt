@@ -5,7 +5,7 @@ ghost use Rattle.tt_script.specs.Scanning.{is_letter};
 ghost use Rattle.tt_text.specs.Characters as characters;
 ghost use Rattle.tt_script.specs.Reading as reading;
 
-use crate::command::{Ending, ParseFault, Place};
+use crate::command::{Ending, Place};
 use crate::stub::next_special;
 
 /// Whether this byte stands here.
@@ -124,7 +124,7 @@ fn is_terminator(byte: u8, place: Place) -> bool
 }
 
 /// Whether a word of a command ends before here: at the end, before a gap or before a terminator.
-fn separates(text: &[u8], at: usize, place: Place) -> bool
+pub(crate) fn separates(text: &[u8], at: usize, place: Place) -> bool
     requires { at ≤ length text.now }
     ensures { result ≡ reading.separates place (drop at text.now) }
 {
@@ -171,24 +171,6 @@ fn begins_black(text: &[u8], at: usize) -> bool
     ensures { result ≡ reading.begins_black (drop at text.now) }
 {
     at < text.len() && !is_white_space(text[at])
-}
-
-/// A word in quotes or braces ends before here: a separator must follow it.
-pub(crate) fn must_separate(
-    text: &[u8],
-    at: usize,
-    place: Place,
-    fault: ParseFault,
-) -> Result<(), ParseFault>
-    requires { at ≤ length text.now }
-    ensures ok { OnOk result (reading.separates place (drop at text.now) ≡ true) }
-    ensures err { IfErr result (λ e. (e ≡ fault) × (reading.separates place (drop at text.now) ≡ false)) }
-{
-    if separates(text, at, place) {
-        Ok(())
-    } else {
-        Err(fault)
-    }
 }
 
 /// The end of a run of letters from here on, among parts that end so.

@@ -8,6 +8,7 @@ pub loop-at-init : goal.loop-at-init
 loop-at-init c =
     let stop = c.next_special-at.result in
     record {
+      begun = omega (arith, (next_special-bounds c.args.text.now c.args.from c.requires).0, c.next_special-at.ensures);
       within = omega (arith, (next_special-bounds c.args.text.now c.args.from c.requires).1, c.next_special-at.ensures);
       depth = omega arith;
       place = closing-run c.args.text.now c.args.from stop 0 c.requires c.next_special-at.ensures
@@ -20,6 +21,7 @@ loop-at-preserved c =
     let passed = closing_at-passed text c.loop-at.at c.loop-at.depth c.after_escape.result c.in-Some.inner c.loop-at-test.true c.loop-at.invariant.depth c.after_escape.ensures.escaped c.after_escape.ensures.single told in
     let bounds = next_special-bounds text c.after_escape.result passed.within in
     record {
+      begun = omega (arith, bounds.0, c.next_special-at-in-loop-at.ensures, passed.later);
       within = omega (arith, bounds.1, c.next_special-at-in-loop-at.ensures);
       depth = omega (arith, bounds.0, c.next_special-at-in-loop-at.ensures, passed.low);
       place = c.loop-at.invariant.place ∙ passed.place ∙ closing-run text c.after_escape.result c.next_special-at-in-loop-at.result c.in-Some.inner passed.within c.next_special-at-in-loop-at.ensures

@@ -1,0 +1,216 @@
+-- One step of reading parts.
+use Rattle.std.proofs.Common.{◌≡◌, ◌≢◌, ℕ, zero, suc, ◌+◌, ◌-◌, ◌<◌, ◌≤◌, Bool, true, false, not, ◌==◌, ◌&&◌, ◌||◌, List, [], ◌∷◌, ◌++◌, length, get_or, drop, take, pred, refl, ap, sym, ◌∙◌, arith}
+use Rattle.std.proofs.lemmas.List.{drop_more, drop-drop, drop_all, length-drop, length-take}
+use Rattle.std.proofs.lemmas.List.Sums.{prefix_len-le-length}
+use Rattle.std.proofs.lemmas.Bool.{eq-eqb, ne_eqb}
+use Rattle.std.specs.Prelude.{nat_lt}
+use Rattle.std.specs.List.{prefix_len}
+use Rattle.tt_text.specs.Backslash.{backslash}
+use Rattle.tt_script.specs.Words.{PlainPart, letters, variable, element, script, PlainParts, none, more, with_letters, with_part}
+use Rattle.tt_script.specs.Reading.{Read, takes, fails, after, mapped, and_then, begins, Level, level, part, parts, parts_at_end, ends_parts, separates, is_terminator, continues_line, dollar, named_variable, braced_variable, name_length}
+use Rattle.tt_script.specs.Special.{is_special}
+use Rattle.tt_script.specs.Scanning.{is_letter}
+use Rattle.tt_script.specs.declared.command.ParseFault.{ParseFault}
+use Rattle.tt_script.specs.declared.command.ParseFault.TheVariants.{TooDeep}
+use Rattle.tt_script.specs.declared.command.Place.{Place}
+use Rattle.tt_script.specs.declared.command.Place.TheVariants as places
+use Rattle.tt_text.specs.Characters.{is_white_space}
+use Rattle.tt_script.specs.declared.command.Ending.{Ending}
+use Rattle.tt_script.specs.declared.command.Ending.TheVariants as endings
+use Rattle.tt_script.proofs.Runs.{passes, all}
+use Rattle.tt_script.proofs.Readers.{after-after, after-zero, after-mapped, mapped-mapped, mapped-same}
+use Rattle.tt_script.proofs.Scanning.{unlike}
+use Rattle.tt_script.proofs.Builds.{with_letters-++}
+
+-- ---- a level in ----
+
+pub index-too_deep : (text : List ℕ) → (level 0).index text ≡ fails TooDeep
+unfolding level
+index-too_deep text = refl
+
+pub brackets-too_deep : (text : List ℕ) → (level 0).brackets text ≡ fails TooDeep
+unfolding level
+brackets-too_deep text = refl
+
+pub index-deeper : (depth : ℕ) (text : List ℕ) → (level (suc depth)).index text ≡ parts (level depth) endings.Parenthesis 0 text
+unfolding level
+index-deeper depth text = refl
+
+-- ---- what `$` begins ----
+
+module _ (level : Level) (text : List ℕ) where
+  dollar-braced : begins 123 text ≡ true → dollar level text ≡ after 1 (braced_variable (drop 1 text))
+  unfolding dollar
+  dollar-braced e = rw (e, dollar)
+
+  dollar-named : begins 123 text ≡ false → nat_lt 0 (name_length 0 text) ≡ true → dollar level text ≡ named_variable level (name_length 0 text) text
+  unfolding dollar
+  dollar-named e f = rw (e, dollar, f)
+
+  dollar-itself : begins 123 text ≡ false → nat_lt 0 (name_length 0 text) ≡ false → dollar level text ≡ takes (letters (36 ∷ [])) 0
+  unfolding dollar
+  dollar-itself e f = rw (e, dollar, f)
+
+  named-element : (n : ℕ) → begins 40 (drop n text) ≡ true → named_variable level n text ≡ and_then (after (n + 1) (level.index (drop (n + 1) text))) (λ index m. takes (element (take n text) index) (m + 1))
+  unfolding named_variable
+  named-element n e = rw (e, named_variable)
+
+  named-variable : (n : ℕ) → begins 40 (drop n text) ≡ false → named_variable level n text ≡ takes (variable (take n text)) n
+  unfolding named_variable
+  named-variable n e = rw (e, named_variable)
+
+-- ---- a part ----
+
+part-dollar : (level : Level) (b : ℕ) (text : List ℕ) → (b == 36) ≡ true → part level b text ≡ dollar level text
+unfolding part
+part-dollar level b text e = rw (e, part)
+
+part-brackets : (level : Level) (b : ℕ) (text : List ℕ) → (b == 36) ≡ false → (b == 91) ≡ true → part level b text ≡ and_then (level.brackets text) (λ inside n. takes (script inside) (n + 1))
+unfolding part
+part-brackets level b text e f = rw (e, part, f)
+
+part-escape : (level : Level) (b : ℕ) (text : List ℕ) → (b == 36) ≡ false → (b == 91) ≡ false → (b == 92) ≡ true → part level b text ≡ takes (letters (backslash text).value) (backslash text).takes
+unfolding part
+part-escape level b text e f g = rw (e, part, f, g)
+
+part-letter : (level : Level) (b : ℕ) (text : List ℕ) → (b == 36) ≡ false → (b == 91) ≡ false → (b == 92) ≡ false → part level b text ≡ takes (letters (b ∷ [])) 0
+unfolding part
+part-letter level b text e f g = rw (e, part, f, g)
+
+-- ---- parts ----
+
+module _ (level : Level) (ending : Ending) where
+  pub parts_passes : (k : ℕ) (text : List ℕ) → parts level ending k text ≡ after k (parts level ending 0 (drop k text))
+  unfolding parts
+  parts_passes zero text = sym (after-zero (parts level ending 0 text))
+  parts_passes (suc k) [] = sym (after-after (suc k) 0 (parts_at_end ending) ∙ ap (λ n. after n (parts_at_end ending)) (omega arith))
+  parts_passes (suc k) (b ∷ text) = ap (after 1) (parts_passes k text) ∙ after-after 1 k (parts level ending 0 (drop k text)) ∙ ap (λ n. after n (parts level ending 0 (drop k text))) (omega arith)
+
+  parts-end : (b : ℕ) (text : List ℕ) → ends_parts ending (b ∷ text) ≡ true → parts level ending 0 (b ∷ text) ≡ takes none 0
+  unfolding parts
+  parts-end b text e = rw (e, parts)
+
+  parts-part : (b : ℕ) (text : List ℕ) (first : PlainPart) (n : ℕ) → ends_parts ending (b ∷ text) ≡ false → part level b text ≡ takes first n → parts level ending 0 (b ∷ text) ≡ after 1 (mapped (with_part first) (parts level ending n text))
+  unfolding parts
+  parts-part b text first n e f = rw (e, parts, f)
+
+  parts-fault : (b : ℕ) (text : List ℕ) (fault : ParseFault) → ends_parts ending (b ∷ text) ≡ false → part level b text ≡ fails fault → parts level ending 0 (b ∷ text) ≡ fails fault
+  unfolding parts
+  parts-fault b text fault e f = rw (e, parts, f)
+
+  -- a part, and the parts after it
+  parts-on : (b : ℕ) (text : List ℕ) (i : ℕ) → ends_parts ending (b ∷ text) ≡ false → after i (parts level ending 0 (b ∷ text)) ≡ and_then (after (i + 1) (part level b text)) (λ first n. mapped (with_part first) (after n (parts level ending 0 (drop (n - (i + 1)) text))))
+  parts-on b text i e = go (part level b text) refl
+    where
+      go : (r : Read PlainPart) → part level b text ≡ r → after i (parts level ending 0 (b ∷ text)) ≡ and_then (after (i + 1) r) (λ first n. mapped (with_part first) (after n (parts level ending 0 (drop (n - (i + 1)) text))))
+      go (fails fault) f = ap (after i) (parts-fault b text fault e f)
+      go (takes first n) f =
+          let rest : ℕ → Read PlainParts = λ k. parts level ending 0 (drop k text) in
+          let same : i + 1 + n - (i + 1) ≡ n = omega arith in
+          ap (after i) (parts-part b text first n e f)
+          ∙ after-after i 1 (mapped (with_part first) (parts level ending n text))
+          ∙ ap (λ r. after (i + 1) (mapped (with_part first) r)) (parts_passes n text)
+          ∙ after-mapped (i + 1) (with_part first) (after n (rest n))
+          ∙ ap (mapped (with_part first)) (after-after (i + 1) n (rest n))
+          ∙ ap (λ k. mapped (with_part first) (after (i + 1 + n) (rest k))) (sym same)
+
+  parts_at : (text : List ℕ) (i : ℕ) → i < length text → ends_parts ending (drop i text) ≡ false → after i (parts level ending 0 (drop i text)) ≡ and_then (after (i + 1) (part level (get_or text i 0) (drop (i + 1) text))) (λ first n. mapped (with_part first) (after n (parts level ending 0 (drop (n - (i + 1)) (drop (i + 1) text)))))
+  parts_at text i h e =
+      let front = drop_more text i 0 h in
+      ap (λ rest. after i (parts level ending 0 rest)) front ∙ parts-on (get_or text i 0) (drop (i + 1) text) i (ap (ends_parts ending) (sym front) ∙ e)
+
+  -- a part that is read, up to a place
+  pub parts_at-part : (text : List ℕ) (i next : ℕ) (first : PlainPart) → i < length text → ends_parts ending (drop i text) ≡ false → after (i + 1) (part level (get_or text i 0) (drop (i + 1) text)) ≡ takes first next → i < next → after i (parts level ending 0 (drop i text)) ≡ mapped (with_part first) (after next (parts level ending 0 (drop next text)))
+  parts_at-part text i next first h e f later =
+      let same : i + 1 + (next - (i + 1)) ≡ next = omega arith in
+      parts_at text i h e
+      ∙ ap (λ r. and_then r (λ v n. mapped (with_part v) (after n (parts level ending 0 (drop (n - (i + 1)) (drop (i + 1) text)))))) f
+      ∙ ap (λ rest. mapped (with_part first) (after next (parts level ending 0 rest))) (drop-drop (next - (i + 1)) (i + 1) text ∙ ap (λ k. drop k text) same)
+
+  pub parts_at-fault : (text : List ℕ) (i : ℕ) (fault : ParseFault) → i < length text → ends_parts ending (drop i text) ≡ false → after (i + 1) (part level (get_or text i 0) (drop (i + 1) text)) ≡ fails fault → after i (parts level ending 0 (drop i text)) ≡ fails fault
+  parts_at-fault text i fault h e f =
+      parts_at text i h e ∙ ap (λ r. and_then r (λ v n. mapped (with_part v) (after n (parts level ending 0 (drop (n - (i + 1)) (drop (i + 1) text)))))) f
+
+  pub parts_at-end : (text : List ℕ) (i : ℕ) → i < length text → ends_parts ending (drop i text) ≡ true → after i (parts level ending 0 (drop i text)) ≡ takes none i
+  parts_at-end text i h e =
+      let front = drop_more text i 0 h in
+      ap (λ rest. after i (parts level ending 0 rest)) front ∙ ap (after i) (parts-end (get_or text i 0) (drop (i + 1) text) (ap (ends_parts ending) (sym front) ∙ e)) ∙ ap (takes none) (omega arith)
+
+  pub parts_at-all : (text : List ℕ) (i : ℕ) → i ≡ length text → after i (parts level ending 0 (drop i text)) ≡ after i (parts_at_end ending)
+  unfolding parts
+  parts_at-all text i h = ap (λ rest. after i (parts level ending 0 rest)) (drop_all i text (omega arith)) ∙ ap (after i) (after-zero (parts_at_end ending))
+
+-- ---- letters ----
+
+or-false : (p q : Bool) → p || q ≡ false → (p ≡ false) × (q ≡ false)
+or-false false q e = (refl, e)
+or-false true q e = cc
+
+and-true : (p q : Bool) → p && q ≡ true → (p ≡ true) × (q ≡ true)
+and-true true q e = (refl, e)
+and-true false q e = cc
+
+not-true : (p : Bool) → not p ≡ true → p ≡ false
+not-true false e = refl
+not-true true e = cc
+
+no_separator : (place : Place) (b : ℕ) (text : List ℕ) → not (is_special b) ≡ true → separates place (b ∷ text) ≡ false
+no_separator place b text e = join (is_white_space b) (is_terminator place b) (continues_line b text) white (terminator place) line
+  where
+    join : (p q r : Bool) → p ≡ false → q ≡ false → r ≡ false → (p || q) || r ≡ false
+    join p q r x y z = rw (x, y, z)
+    white : is_white_space b ≡ false
+    white = (or-false (is_white_space b) _ (not-true (is_special b) e)).0
+    line : continues_line b text ≡ false
+    line = ap (λ p. p && begins 10 text) (unlike b 92 e refl)
+    terminator : (place : Place) → is_terminator place b ≡ false
+    terminator places.Script = ap (λ p. p || b == 59) (unlike b 10 e refl) ∙ unlike b 59 e refl
+    terminator places.Brackets = ap (λ p. (p || b == 59) || b == 93) (unlike b 10 e refl) ∙ ap (λ p. p || b == 93) (unlike b 59 e refl) ∙ unlike b 93 e refl
+
+-- a byte that stands for itself is not special
+plain_letter : (ending : Ending) (b : ℕ) → is_letter ending b ≡ true → not (is_special b) ≡ true
+plain_letter (endings.Word place) b e = e
+plain_letter endings.Quote b e = e
+plain_letter endings.Parenthesis b e = (and-true (not (is_special b)) (not (b == 41)) e).0
+
+-- and ends no parts
+letter-on : (ending : Ending) (b : ℕ) (text : List ℕ) → is_letter ending b ≡ true → ends_parts ending (b ∷ text) ≡ false
+letter-on (endings.Word place) b text e = no_separator place b text e
+letter-on endings.Quote b text e = unlike b 34 e refl
+letter-on endings.Parenthesis b text e = not-true (b == 41) (and-true (not (is_special b)) (not (b == 41)) e).1
+
+-- letters before a read
+one_letter : ℕ → Read PlainParts → Read PlainParts
+one_letter b r = after 1 (mapped (with_letters (b ∷ [])) r)
+
+module _ (level : Level) (ending : Ending) where
+  letter_step : (b : ℕ) (text : List ℕ) → is_letter ending b ≡ true → parts level ending 0 (b ∷ text) ≡ one_letter b (parts level ending 0 text)
+  unfolding one_letter
+  letter_step b text e =
+      let plain = plain_letter ending b e in
+      parts-part level ending b text (letters (b ∷ [])) 0 (letter-on ending b text e) (part-letter level b text (unlike b 36 plain refl) (unlike b 91 plain refl) (unlike b 92 plain refl))
+
+  letters_all : (bs : List ℕ) (r : Read PlainParts) → all one_letter bs r ≡ after (length bs) (mapped (with_letters bs) r)
+  unfolding one_letter
+  letters_all [] (takes value k) = ap (takes value) (omega arith)
+  letters_all [] (fails fault) = refl
+  letters_all (b ∷ bs) r =
+      ap (one_letter b) (letters_all bs r)
+      ∙ ap (after 1) (sym (after-mapped (length bs) (with_letters (b ∷ [])) (mapped (with_letters bs) r)))
+      ∙ after-after 1 (length bs) (mapped (with_letters (b ∷ [])) (mapped (with_letters bs) r))
+      ∙ ap (after (1 + length bs)) (mapped-mapped (with_letters (b ∷ [])) (with_letters bs) r ∙ mapped-same _ (with_letters (b ∷ bs)) (λ ps. sym (with_letters-++ (b ∷ []) bs ps)) r)
+      ∙ ap (λ n. after n (mapped (with_letters (b ∷ bs)) r)) (omega arith)
+
+  -- a run of letters from one place to another
+  letters_run : (text : List ℕ) (i stop : ℕ) → i ≤ stop → stop ≤ length text → stop ≤ i + prefix_len (is_letter ending) (drop i text) → after i (parts level ending 0 (drop i text)) ≡ mapped (with_letters (take (stop - i) (drop i text))) (after stop (parts level ending 0 (drop stop text)))
+  letters_run text i stop order room run =
+      let n : ℕ = stop - i in
+      let bs : List ℕ = take n (drop i text) in
+      let size : length bs ≡ n = omega (arith, length-take n (drop i text), length-drop i text) in
+      let rest : drop n (drop i text) ≡ drop stop text = drop-drop n i text ∙ ap (λ k. drop k text) (omega arith) in
+      let tail : Read PlainParts = parts level ending 0 (drop n (drop i text)) in
+      ap (after i) (passes (is_letter ending) (parts level ending 0) one_letter letter_step n (drop i text) (omega arith) ∙ letters_all bs tail)
+      ∙ after-after i (length bs) (mapped (with_letters bs) tail)
+      ∙ ap (λ k. after k (mapped (with_letters bs) tail)) (omega arith)
+      ∙ after-mapped stop (with_letters bs) tail
+      ∙ ap (λ r. mapped (with_letters bs) (after stop (parts level ending 0 r))) rest
