@@ -1,6 +1,8 @@
 pub mod Bracing
 pub mod Builds
+pub mod CommandSteps
 pub mod Escapes
+pub mod Exits
 pub mod Joining
 pub mod Naming
 pub mod PartSteps

@@ -2,7 +2,7 @@
 use Rattle.std.proofs.Common.{◌≡◌, ◌≢◌, ℕ, zero, suc, ◌+◌, ◌-◌, ◌<◌, ◌≤◌, Bool, true, false, not, ◌==◌, ◌&&◌, ◌||◌, List, [], ◌∷◌, ◌++◌, length, get_or, drop, take, pred, refl, ap, sym, ◌∙◌, arith}
 use Rattle.std.proofs.lemmas.List.{drop_more, drop-drop, drop_all, length-drop, length-take}
 use Rattle.std.proofs.lemmas.List.Sums.{prefix_len-le-length}
-use Rattle.std.proofs.lemmas.Bool.{eq-eqb, ne_eqb}
+use Rattle.std.proofs.lemmas.Bool.{eq-eqb, ne_eqb, lt-ltb}
 use Rattle.std.specs.Prelude.{nat_lt}
 use Rattle.std.specs.List.{prefix_len}
 use Rattle.tt_text.specs.Backslash.{backslash}
@@ -214,3 +214,63 @@ module _ (level : Level) (ending : Ending) where
       ∙ ap (λ k. after k (mapped (with_letters bs) tail)) (omega arith)
       ∙ after-mapped stop (with_letters bs) tail
       ∙ ap (λ r. mapped (with_letters bs) (after stop (parts level ending 0 r))) rest
+
+-- ---- what `$` begins, at a place ----
+
+none_below : (n : ℕ) → n ≡ 0 → nat_lt 0 n ≡ false
+none_below n e = ap (nat_lt 0) e
+
+some_below : (n : ℕ) → 0 < n → nat_lt 0 n ≡ true
+some_below n h = lt-ltb 0 n h
+
+and_then-on : {A B : Type 0} (m n : ℕ) (f : A → B) (r : Read A) → after m (and_then (after n r) (λ v k. takes (f v) (k + 1))) ≡ and_then (after (m + n) r) (λ v k. takes (f v) (k + 1))
+and_then-on m n f (takes value k) = ap (takes (f value)) (omega arith)
+and_then-on m n f (fails fault) = refl
+
+module _ (level : Level) (text : List ℕ) (from : ℕ) where
+  pub dollar_at-braced : begins 123 (drop from text) ≡ true → after from (dollar level (drop from text)) ≡ after (from + 1) (braced_variable (drop (from + 1) text))
+  dollar_at-braced e =
+      ap (after from) (dollar-braced level (drop from text) e) ∙ after-after from 1 (braced_variable (drop 1 (drop from text)))
+      ∙ ap (λ rest. after (from + 1) (braced_variable rest)) (drop-drop 1 from text)
+
+  pub dollar_at-itself : (end : ℕ) → begins 123 (drop from text) ≡ false → end ≡ from + name_length 0 (drop from text) → end ≡ from → after from (dollar level (drop from text)) ≡ takes (letters (36 ∷ [])) from
+  dollar_at-itself end e f same = ap (after from) (dollar-itself level (drop from text) e (none_below _ (omega arith))) ∙ ap (takes (letters (36 ∷ []))) (omega arith)
+
+  module _ (end : ℕ) (e : begins 123 (drop from text) ≡ false) (f : end ≡ from + name_length 0 (drop from text)) (differ : end ≢ from) where
+    named_on : after from (dollar level (drop from text)) ≡ after from (named_variable level (end - from) (drop from text))
+    named_on =
+        let size : name_length 0 (drop from text) ≡ end - from = omega arith in
+        ap (after from) (dollar-named level (drop from text) e (some_below _ (omega arith)) ∙ ap (λ n. named_variable level n (drop from text)) size)
+
+    after_name : drop (end - from) (drop from text) ≡ drop end text
+    after_name = let same : from + (end - from) ≡ end = omega arith in drop-drop (end - from) from text ∙ ap (λ k. drop k text) same
+
+    pub dollar_at-variable : begins 40 (drop end text) ≡ false → after from (dollar level (drop from text)) ≡ takes (variable (take (end - from) (drop from text))) end
+    dollar_at-variable g =
+        let same : from + (end - from) ≡ end = omega arith in
+        named_on ∙ ap (after from) (named-variable level (drop from text) (end - from) (ap (begins 40) after_name ∙ g)) ∙ ap (takes (variable (take (end - from) (drop from text)))) same
+
+    pub dollar_at-element : begins 40 (drop end text) ≡ true → after from (dollar level (drop from text)) ≡ and_then (after (end + 1) (level.index (drop (end + 1) text))) (λ index m. takes (element (take (end - from) (drop from text)) index) (m + 1))
+    dollar_at-element g =
+        let name : List ℕ = take (end - from) (drop from text) in
+        let same : from + (end - from + 1) ≡ end + 1 = omega arith in
+        named_on
+        ∙ ap (after from) (named-element level (drop from text) (end - from) (ap (begins 40) after_name ∙ g))
+        ∙ and_then-on from (end - from + 1) (element name) (level.index (drop (end - from + 1) (drop from text)))
+        ∙ ap (λ rest. and_then (after (from + (end - from + 1)) (level.index rest)) (λ index m. takes (element name index) (m + 1))) (drop-drop (end - from + 1) from text)
+        ∙ ap (λ k. and_then (after k (level.index (drop k text))) (λ index m. takes (element name index) (m + 1))) same
+
+-- ---- a part at a place ----
+
+module _ (level : Level) (text : List ℕ) (at : ℕ) where
+  pub part_at-dollar : get_or text at 0 ≡ 36 → part level (get_or text at 0) (drop (at + 1) text) ≡ dollar level (drop (at + 1) text)
+  part_at-dollar e = part-dollar level _ (drop (at + 1) text) (eq-eqb _ _ e)
+
+  pub part_at-brackets : get_or text at 0 ≡ 91 → part level (get_or text at 0) (drop (at + 1) text) ≡ and_then (level.brackets (drop (at + 1) text)) (λ inside n. takes (script inside) (n + 1))
+  part_at-brackets e = part-brackets level _ (drop (at + 1) text) (ap (λ b. b == 36) e) (eq-eqb _ _ e)
+
+  pub part_at-escape : get_or text at 0 ≡ 92 → part level (get_or text at 0) (drop (at + 1) text) ≡ takes (letters (backslash (drop (at + 1) text)).value) (backslash (drop (at + 1) text)).takes
+  part_at-escape e = part-escape level _ (drop (at + 1) text) (ap (λ b. b == 36) e) (ap (λ b. b == 91) e) (eq-eqb _ _ e)
+
+  pub part_at-letter : get_or text at 0 ≢ 36 → get_or text at 0 ≢ 91 → get_or text at 0 ≢ 92 → part level (get_or text at 0) (drop (at + 1) text) ≡ takes (letters (get_or text at 0 ∷ [])) 0
+  part_at-letter e f g = part-letter level _ (drop (at + 1) text) (ne_eqb _ _ e) (ne_eqb _ _ f) (ne_eqb _ _ g)
