@@ -6,7 +6,8 @@ use Rattle.std.proofs.lemmas.Bool.{eq-eqb, ne_eqb, cases_lt}
 use Rattle.std.proofs.lemmas.Bool.Decides.{eqb_tells}
 use Rattle.std.specs.List.{prefix_len, position_or_len}
 use Rattle.tt_text.specs.Braces.{closing_brace, further, mark_of, Mark, Letter}
-use Rattle.tt_script.specs.Special.{is_special, next_special}
+use Rattle.tt_lanes.specs.Classes.{is_special}
+use Rattle.tt_script.proofs.Runs.{next_special}
 use Rattle.tt_script.proofs.Runs.{passes, all}
 use Rattle.tt_script.proofs.Scanning.{unlike, next_special-bounds}
 

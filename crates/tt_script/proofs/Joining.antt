@@ -7,7 +7,8 @@ use Rattle.std.proofs.lemmas.List.Quantifiers.{position-Some}
 use Rattle.std.specs.Prelude.{position, Option, Some, None, IfSome, if◌then◌else◌}
 use Rattle.std.specs.List.{prefix_len}
 use Rattle.tt_text.specs.Backslash.{backslash}
-use Rattle.tt_script.specs.Special.{is_special, next_special}
+use Rattle.tt_lanes.specs.Classes.{is_special}
+use Rattle.tt_script.proofs.Runs.{next_special}
 use Rattle.tt_script.specs.Reading.{begins, joined_lines, index_start}
 use Rattle.tt_script.proofs.Runs.{passes, all}
 use Rattle.tt_script.proofs.Scanning.{unlike, next_special-bounds, begins_at}

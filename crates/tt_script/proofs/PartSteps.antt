@@ -8,7 +8,7 @@ use Rattle.std.specs.List.{prefix_len}
 use Rattle.tt_text.specs.Backslash.{backslash}
 use Rattle.tt_script.specs.Words.{PlainPart, letters, variable, element, script, PlainParts, none, more, with_letters, with_part}
 use Rattle.tt_script.specs.Reading.{Read, takes, fails, after, mapped, and_then, begins, Level, level, part, parts, parts_at_end, ends_parts, separates, is_terminator, continues_line, dollar, named_variable, braced_variable, name_length}
-use Rattle.tt_script.specs.Special.{is_special}
+use Rattle.tt_lanes.specs.Classes.{is_special}
 use Rattle.tt_script.specs.Scanning.{is_letter}
 use Rattle.tt_script.specs.declared.command.ParseFault.{ParseFault}
 use Rattle.tt_script.specs.declared.command.ParseFault.TheVariants.{TooDeep}

@@ -1,6 +1,11 @@
 -- A run of bytes that a function passes over one by one.
 use Rattle.std.proofs.Common.{◌≡◌, ℕ, zero, suc, ◌+◌, ◌<◌, ◌≤◌, Bool, true, false, ◌&&◌, List, [], ◌∷◌, length, drop, take, refl, ap, sym, ◌∙◌, arith, cond}
-use Rattle.std.specs.List.{prefix_len}
+use Rattle.std.specs.List.{prefix_len, position_or_len}
+use Rattle.tt_lanes.specs.Classes.{is_special}
+
+-- the place of the first special byte from a place on, or the end
+abbrev pub next_special : List ℕ → ℕ → ℕ
+next_special text from = from + position_or_len is_special (drop from text)
 
 -- a step for each byte, before a result
 abbrev pub all : {A : Type 0} → (ℕ → A → A) → List ℕ → A → A

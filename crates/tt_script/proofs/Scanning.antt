@@ -7,7 +7,8 @@ use Rattle.std.proofs.lemmas.Bool.Decides.{eqb_tells}
 use Rattle.std.proofs.lemmas.List.Sums.{prefix_len-le-length}
 use Rattle.tt_text.specs.Characters.{is_blank, is_white_space}
 use Rattle.std.specs.List.{prefix_len, position_or_len}
-use Rattle.tt_script.specs.Special.{is_special, next_special}
+use Rattle.tt_lanes.specs.Classes.{is_special}
+use Rattle.tt_script.proofs.Runs.{next_special}
 use Rattle.tt_script.specs.Reading.{gap, continues_line, begins, begins_black, expands, comment, skipped}
 use Rattle.tt_script.proofs.Runs.{passes, all, counted}
 

@@ -3,5 +3,4 @@ pub mod Building
 pub mod Plain
 pub mod Reading
 pub mod Scanning
-pub mod Special
 pub mod Words

@@ -1,6 +1,6 @@
 -- What is passed over at once.
 use Rattle.std.specs.Prelude.{ℕ, Bool, not, ◌&&◌, ◌==◌, List}
-use Rattle.tt_script.specs.Special.{is_special}
+use Rattle.tt_lanes.specs.Classes.{is_special}
 use Rattle.tt_script.specs.declared.command.Ending.{Ending}
 use Rattle.tt_script.specs.declared.command.Ending.TheVariants as endings
 

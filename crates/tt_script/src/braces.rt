@@ -7,7 +7,7 @@ ghost use Rattle.tt_script.specs.Plain.{plain_part, plain_parts};
 use crate::builder::Builder;
 use crate::command::Part;
 use crate::scan::{after_escape, begins};
-use crate::stub::next_special;
+use tt_lanes::next_special;
 use std::alloc::Global;
 use tt_text::{NoMemory, Text, backslash};
 

@@ -8,6 +8,5 @@ mod names;
 mod parser;
 mod scan;
 mod stop;
-mod stub;
 
 pub use command::{Command, First, ParseFault, Part, Word};

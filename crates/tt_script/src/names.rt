@@ -4,7 +4,7 @@ ghost use Rattle.std.specs.List.{prefix_len, position_or_len};
 ghost use Rattle.tt_script.specs.Reading as reading;
 
 use crate::scan::begins;
-use crate::stub::next_special;
+use tt_lanes::next_special;
 
 /// Whether this byte stands in names by itself: an ASCII letter, a digit or `_`.
 fn is_name_byte(byte: u8) -> bool

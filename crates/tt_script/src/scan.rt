@@ -6,7 +6,7 @@ ghost use Rattle.tt_text.specs.Characters as characters;
 ghost use Rattle.tt_script.specs.Reading as reading;
 
 use crate::command::{Ending, Place};
-use crate::stub::next_special;
+use tt_lanes::next_special;
 
 /// Whether this byte stands here.
 pub(crate) fn begins(text: &[u8], at: usize, byte: u8) -> bool

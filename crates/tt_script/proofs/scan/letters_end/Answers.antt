@@ -1,7 +1,8 @@
 use Rattle.std.proofs.Common.{◌≡◌, ◌≤◌, ◌+◌, ◌-◌, ◌==◌, ◌⊎◌, inl, inr, not, length, drop, arith, sym, subst, ℕ, List}
 use Rattle.std.specs.List.{prefix_len}
 use Rattle.tt_script.specs.Scanning.{is_letter}
-use Rattle.tt_script.specs.Special.{is_special, next_special}
+use Rattle.tt_lanes.specs.Classes.{is_special}
+use Rattle.tt_script.proofs.Runs.{next_special}
 use Rattle.tt_script.specs.declared.command.Place.{Place}
 use Rattle.tt_script.specs.declared.command.Ending.{Ending}
 use Rattle.tt_script.specs.declared.command.Ending.TheVariants as endings
