@@ -1,7 +1,8 @@
 -- Parts in the making, and the plain form of parts.
 use Rattle.std.proofs.Common.{◌≡◌, ℕ, List, [], ◌∷◌, ◌++◌, map, refl, ap, sym, ◌∙◌, append-nil, append_assoc, length, ◌==◌, false}
 use Rattle.tt_script.specs.Words.{PlainPart, letters, variable, element, script, PlainParts, none, more, with_letters, with_part}
-use Rattle.tt_script.specs.Plain.{in_a_row, plain_step, plain_part, plain_parts}
+use Rattle.tt_script.specs.Plain.{in_a_row, plain_step, plain_part, plain_parts, plain_word, plain_words}
+use Rattle.tt_script.specs.declared.command.Word.{Word}
 use Rattle.tt_script.specs.Building.{before, so_far, apart}
 use Rattle.tt_script.specs.declared.command.Part.{Part}
 use Rattle.tt_script.specs.declared.command.Part.TheVariants.{Letters, Variable, Element, Script, rolls-Letters, rolls-Variable, rolls-Element, rolls-Script}
@@ -70,3 +71,8 @@ other_part part h bs rest = apart-more bs (plain_part part) rest (different (out
 pub apart-letters : (bs : List ℕ) (rest : PlainParts) → (length bs == 0) ≡ false → apart bs rest ≡ more (letters bs) rest
 apart-letters [] rest e = cc
 apart-letters (b ∷ bs) rest e = refl
+
+-- a word after others
+pub plain_words-push : (words : List Word) (word : Word) → plain_words (words ++ word ∷ []) ≡ plain_words words ++ plain_word word ∷ []
+plain_words-push [] word = refl
+plain_words-push (first ∷ words) word = ap (λ others. plain_word first ∷ others) (plain_words-push words word)

@@ -11,6 +11,7 @@ use Rattle.tt_script.specs.declared.command.ParseFault.TheVariants.{AfterQuote, 
 use Rattle.tt_script.specs.declared.command.Place.{Place}
 use Rattle.tt_script.specs.declared.command.Place.TheVariants as places
 use Rattle.tt_script.specs.declared.command.Ending.TheVariants as endings
+use Rattle.tt_script.proofs.PartSteps.{index-deeper}
 use Rattle.tt_script.proofs.Readers.{after-after, after-zero, after-mapped, mapped-mapped, mapped-same}
 
 -- ---- words in quotes ----
@@ -46,6 +47,9 @@ module _ (place : Place) (level : Level) (text : List ℕ) (from : ℕ) where
 
   pub quoted_at-closed : (value : PlainParts) (end : ℕ) → after from (parts level endings.Quote 0 (drop from text)) ≡ takes value end → separates place (drop (end + 1) text) ≡ true → after from (quoted place level (drop from text)) ≡ takes value (end + 1)
   quoted_at-closed value end e f = quoted_at ∙ ap (λ r. and_then r (λ v n. separated place AfterQuote text v (n + 1))) e ∙ separated-yes place AfterQuote text value (end + 1) f
+
+  pub quoted_at-fault : (fault : ParseFault) → after from (parts level endings.Quote 0 (drop from text)) ≡ fails fault → after from (quoted place level (drop from text)) ≡ fails fault
+  quoted_at-fault fault e = quoted_at ∙ ap (λ r. and_then r (λ v n. separated place AfterQuote text v (n + 1))) e
 
   pub quoted_at-after : (value : PlainParts) (end : ℕ) → after from (parts level endings.Quote 0 (drop from text)) ≡ takes value end → separates place (drop (end + 1) text) ≡ false → after from (quoted place level (drop from text)) ≡ fails AfterQuote
   quoted_at-after value end e f = quoted_at ∙ ap (λ r. and_then r (λ v n. separated place AfterQuote text v (n + 1))) e ∙ separated-none place AfterQuote text value (end + 1) f
@@ -292,4 +296,73 @@ module _ (depth : ℕ) (text : List ℕ) (from : ℕ) (h : depth ≢ 0) where
 -- ---- where a word begins ----
 
 no-separator : (place : Place) (b : ℕ) (text : List ℕ) → is_white_space b ≡ false → is_terminator place b ≡ false → continues_line b text ≡ false → separates place (b ∷ text) ≡ false
-no-separator place b text x y z = rw (x, y, z)
+no-separator place b text x y z = join (is_white_space b) (is_terminator place b) (continues_line b text) x y z
+  where
+    join : (p q r : Bool) → p ≡ false → q ≡ false → r ≡ false → (p || q) || r ≡ false
+    join p q r x y z = rw (x, y, z)
+
+or-none : (p q : Bool) → p || q ≡ false → (p ≡ false) × (q ≡ false)
+or-none false q e = (refl, e)
+or-none true q e = cc
+
+-- white space is what is blank or a newline
+no_white : (b : ℕ) → is_blank b ≡ false → b ≢ 10 → is_white_space b ≡ false
+no_white b e f = go (is_white_space b) refl
+  where
+    go : (v : Bool) → is_white_space b ≡ v → is_white_space b ≡ false
+    go false g = g
+    go true g = let blank : is_blank b ≡ true = ap (λ v. v && not (b == 10)) g ∙ ap not (ne_eqb b 10 f) in cc
+
+no_newline : (place : Place) (b : ℕ) → is_terminator place b ≡ false → b ≢ 10
+no_newline places.Script b e same = let newline : (b == 10) ≡ true = eq-eqb b 10 same in let here = (or-none (b == 10) (b == 59) e).0 in absurd (apart here newline)
+  where
+    apart : {v : Bool} → v ≡ false → v ≡ true → ⊥
+    apart p q = cc
+no_newline places.Brackets b e same = let newline : (b == 10) ≡ true = eq-eqb b 10 same in let here = (or-none (b == 10) (b == 59) (or-none (b == 10 || b == 59) (b == 93) e).0).0 in absurd (apart here newline)
+  where
+    apart : {v : Bool} → v ≡ false → v ≡ true → ⊥
+    apart p q = cc
+
+-- where a command doesn't end there is a byte
+pub ends_command-room : (place : Place) (text : List ℕ) (i : ℕ) → ends_command place (drop i text) ≡ false → i < length text
+ends_command-room place text i e = omega (arith, there (drop i text) e, length-drop i text)
+  where
+    there : (xs : List ℕ) → ends_command place xs ≡ false → 0 < length xs
+    there [] f = cc
+    there (b ∷ xs) f = omega arith
+
+-- a word begins after a gap that no terminator follows
+pub after_gap-word : (place : Place) (text : List ℕ) (i : ℕ) → i < length text → is_blank (get_or text i 0) ≡ false → continues_line (get_or text i 0) (drop (i + 1) text) ≡ false → ends_command place (drop i text) ≡ false → separates place (drop i text) ≡ false
+after_gap-word place text i h e f g =
+    let terminator : is_terminator place (get_or text i 0) ≡ false = ap (ends_command place) (sym (drop_more text i 0 h)) ∙ g in
+    ap (separates place) (drop_more text i 0 h) ∙ no-separator place _ (drop (i + 1) text) (no_white _ e (no_newline place _ terminator)) terminator f
+
+-- a command begins after what is skipped
+pub after_skip-word : (text : List ℕ) (i : ℕ) → i < length text → is_white_space (get_or text i 0) || get_or text i 0 == 59 ≡ false → continues_line (get_or text i 0) (drop (i + 1) text) ≡ false → separates places.Script (drop i text) ≡ false
+after_skip-word text i h e f =
+    let b : ℕ = get_or text i 0 in
+    let white = (or-none (is_white_space b) (b == 59) e).0 in
+    ap (separates places.Script) (drop_more text i 0 h) ∙ no-separator places.Script b (drop (i + 1) text) white (ap (λ v. v || b == 59) (not_newline b white) ∙ (or-none (is_white_space b) (b == 59) e).1) f
+  where
+    not_newline : (b : ℕ) → is_white_space b ≡ false → (b == 10) ≡ false
+    not_newline b white = ne_eqb b 10 (λ same. apart (ap is_white_space same) white)
+      where
+        apart : {v : Bool} → v ≡ true → v ≡ false → ⊥
+        apart p q = cc
+
+-- and in brackets where no `]` stands
+pub in_brackets-word : (text : List ℕ) (i : ℕ) → i < length text → separates places.Script (drop i text) ≡ false → begins 93 (drop i text) ≡ false → separates places.Brackets (drop i text) ≡ false
+in_brackets-word text i h e f =
+    let b : ℕ = get_or text i 0 in
+    let rest : List ℕ = drop (i + 1) text in
+    let all_three = or-none (is_white_space b || (b == 10 || b == 59)) (continues_line b rest) (ap (separates places.Script) (sym (drop_more text i 0 h)) ∙ e) in
+    let both = or-none (is_white_space b) (b == 10 || b == 59) all_three.0 in
+    let bracket : (b == 93) ≡ false = ap (begins 93) (sym (drop_more text i 0 h)) ∙ f in
+    ap (separates places.Brackets) (drop_more text i 0 h) ∙ no-separator places.Brackets b rest both.0 (ap (λ v. v || b == 93) both.1 ∙ bracket) all_three.1
+
+-- ---- an index ----
+
+pub index_at : (depth : ℕ) (text : List ℕ) (from : ℕ) → depth ≢ 0 → after from ((level depth).index (drop from text)) ≡ after from (parts (level (depth - 1)) endings.Parenthesis 0 (drop from text))
+index_at depth text from h =
+    let one_fewer : depth ≡ suc (depth - 1) = omega arith in
+    ap (λ d. after from ((level d).index (drop from text))) one_fewer ∙ ap (after from) (index-deeper (depth - 1) (drop from text))

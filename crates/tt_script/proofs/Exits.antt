@@ -3,6 +3,7 @@ use Rattle.std.proofs.Common.{◌≡◌, ℕ, ◌+◌, refl, ap, sym, ◌∙◌,
 use Rattle.std.specs.Prelude.{IsErrAnd}
 use Rattle.tt_script.specs.Answers.{Answers, Continues, Refuses}
 use Rattle.tt_script.specs.Reading.{Read, takes, fails, after, mapped, and_then}
+use Rattle.tt_script.specs.declared.command.ParseFault.{ParseFault}
 use Rattle.tt_script.specs.declared.stop.Stop.{Stop}
 use Rattle.tt_script.specs.declared.stop.Stop.TheVariants.{NoMemory, Fault}
 
@@ -25,3 +26,7 @@ refuses-mapped (Fault fault) f r h = ap (mapped f) h
 
 pub refuses-same : {A : Type 0} (e : Stop) (r s : Read A) → s ≡ r → Refuses e r → Refuses e s
 refuses-same e r s same h = subst (Refuses e) (sym same) h
+
+pub refuses_by : {A B : Type 0} (e : Stop) (r : Read A) (s : Read B) → ((fault : ParseFault) → r ≡ fails fault → s ≡ fails fault) → Refuses e r → Refuses e s
+refuses_by NoMemory r s by h = tt
+refuses_by (Fault fault) r s by h = by fault h

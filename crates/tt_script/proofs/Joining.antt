@@ -36,7 +36,7 @@ joins [] rest = refl
 joins (b ∷ bs) rest = ap (λ a. b ∷ a) (joins bs rest)
 
 -- the bytes from one place to another, and those before the first of them
-slice-more : (text : List ℕ) (i next : ℕ) → i < length text → i < next → take (next - i) (drop i text) ≡ get_or text i 0 ∷ take (next - (i + 1)) (drop (i + 1) text)
+pub slice-more : (text : List ℕ) (i next : ℕ) → i < length text → i < next → take (next - i) (drop i text) ≡ get_or text i 0 ∷ take (next - (i + 1)) (drop (i + 1) text)
 slice-more text i next h more =
     let size : next - i ≡ suc (next - (i + 1)) = omega arith in
     ap (λ n. take n (drop i text)) size ∙ ap (λ rest. take (suc (next - (i + 1))) rest) (drop_more text i 0 h)

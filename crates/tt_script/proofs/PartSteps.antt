@@ -21,6 +21,9 @@ use Rattle.tt_script.proofs.Runs.{passes, all}
 use Rattle.tt_script.proofs.Readers.{after-after, after-zero, after-mapped, mapped-mapped, mapped-same}
 use Rattle.tt_script.proofs.Scanning.{unlike}
 use Rattle.tt_script.proofs.Builds.{with_letters-++}
+use Rattle.tt_script.proofs.Joining.{slice-more}
+use Rattle.tt_script.specs.Building.{so_far, left}
+use Rattle.tt_script.specs.declared.builder.Builder.{Builder}
 
 -- ---- a level in ----
 
@@ -154,13 +157,20 @@ not-true : (p : Bool) → not p ≡ true → p ≡ false
 not-true false e = refl
 not-true true e = cc
 
+no_white : (b : ℕ) → is_special b ≡ false → is_white_space b ≡ false
+no_white b e = go (is_white_space b) refl
+  where
+    go : (v : Bool) → is_white_space b ≡ v → is_white_space b ≡ false
+    go false f = f
+    go true f = let special : is_special b ≡ true = simp f in cc
+
 no_separator : (place : Place) (b : ℕ) (text : List ℕ) → not (is_special b) ≡ true → separates place (b ∷ text) ≡ false
 no_separator place b text e = join (is_white_space b) (is_terminator place b) (continues_line b text) white (terminator place) line
   where
     join : (p q r : Bool) → p ≡ false → q ≡ false → r ≡ false → (p || q) || r ≡ false
     join p q r x y z = rw (x, y, z)
     white : is_white_space b ≡ false
-    white = (or-false (is_white_space b) _ (not-true (is_special b) e)).0
+    white = no_white b (not-true (is_special b) e)
     line : continues_line b text ≡ false
     line = ap (λ p. p && begins 10 text) (unlike b 92 e refl)
     terminator : (place : Place) → is_terminator place b ≡ false
@@ -260,6 +270,12 @@ module _ (level : Level) (text : List ℕ) (from : ℕ) where
         ∙ ap (λ rest. and_then (after (from + (end - from + 1)) (level.index rest)) (λ index m. takes (element name index) (m + 1))) (drop-drop (end - from + 1) from text)
         ∙ ap (λ k. and_then (after k (level.index (drop k text))) (λ index m. takes (element name index) (m + 1))) same
 
+    pub dollar_at-read : begins 40 (drop end text) ≡ true → (index : PlainParts) (close : ℕ) → after (end + 1) (level.index (drop (end + 1) text)) ≡ takes index close → after from (dollar level (drop from text)) ≡ takes (element (take (end - from) (drop from text)) index) (close + 1)
+    dollar_at-read g index close h = dollar_at-element g ∙ ap (λ r. and_then r (λ v m. takes (element (take (end - from) (drop from text)) v) (m + 1))) h
+
+    pub dollar_at-fault : begins 40 (drop end text) ≡ true → (fault : ParseFault) → after (end + 1) (level.index (drop (end + 1) text)) ≡ fails fault → after from (dollar level (drop from text)) ≡ fails fault
+    dollar_at-fault g fault h = dollar_at-element g ∙ ap (λ r. and_then r (λ v m. takes (element (take (end - from) (drop from text)) v) (m + 1))) h
+
 -- ---- a part at a place ----
 
 module _ (level : Level) (text : List ℕ) (at : ℕ) where
@@ -269,8 +285,47 @@ module _ (level : Level) (text : List ℕ) (at : ℕ) where
   pub part_at-brackets : get_or text at 0 ≡ 91 → part level (get_or text at 0) (drop (at + 1) text) ≡ and_then (level.brackets (drop (at + 1) text)) (λ inside n. takes (script inside) (n + 1))
   part_at-brackets e = part-brackets level _ (drop (at + 1) text) (ap (λ b. b == 36) e) (eq-eqb _ _ e)
 
+  pub part_at-script : (inside : List ℕ) (end : ℕ) → get_or text at 0 ≡ 91 → after (at + 1) (level.brackets (drop (at + 1) text)) ≡ takes inside end → after (at + 1) (part level (get_or text at 0) (drop (at + 1) text)) ≡ takes (script inside) (end + 1)
+  part_at-script inside end e f = ap (after (at + 1)) (part_at-brackets e) ∙ script-on (level.brackets (drop (at + 1) text)) ∙ ap (λ r. and_then r (λ v n. takes (script v) (n + 1))) f
+    where
+      script-on : (r : Read (List ℕ)) → after (at + 1) (and_then r (λ v n. takes (script v) (n + 1))) ≡ and_then (after (at + 1) r) (λ v n. takes (script v) (n + 1))
+      script-on (takes v n) = ap (takes (script v)) (omega arith)
+      script-on (fails fault) = refl
+
+  pub part_at-script_fault : (fault : ParseFault) → get_or text at 0 ≡ 91 → after (at + 1) (level.brackets (drop (at + 1) text)) ≡ fails fault → after (at + 1) (part level (get_or text at 0) (drop (at + 1) text)) ≡ fails fault
+  part_at-script_fault fault e f = ap (after (at + 1)) (part_at-brackets e) ∙ fault-on (level.brackets (drop (at + 1) text)) f
+    where
+      fault-on : (r : Read (List ℕ)) → after (at + 1) r ≡ fails fault → after (at + 1) (and_then r (λ v n. takes (script v) (n + 1))) ≡ fails fault
+      fault-on (takes v n) g = cc
+      fault-on (fails f) g = let same : f ≡ fault = cc in ap fails same
+
   pub part_at-escape : get_or text at 0 ≡ 92 → part level (get_or text at 0) (drop (at + 1) text) ≡ takes (letters (backslash (drop (at + 1) text)).value) (backslash (drop (at + 1) text)).takes
   part_at-escape e = part-escape level _ (drop (at + 1) text) (ap (λ b. b == 36) e) (ap (λ b. b == 91) e) (eq-eqb _ _ e)
 
   pub part_at-letter : get_or text at 0 ≢ 36 → get_or text at 0 ≢ 91 → get_or text at 0 ≢ 92 → part level (get_or text at 0) (drop (at + 1) text) ≡ takes (letters (get_or text at 0 ∷ [])) 0
   part_at-letter e f g = part-letter level _ (drop (at + 1) text) (ne_eqb _ _ e) (ne_eqb _ _ f) (ne_eqb _ _ g)
+
+-- ---- building ----
+
+module _ (level : Level) (ending : Ending) (text : List ℕ) (at : ℕ) (old : Builder) (h : at < length text) (goes_on : ends_parts ending (drop at text) ≡ false) where
+  pub left_at-part : (next : ℕ) (first : PlainPart) (new : Builder) → after (at + 1) (part level (get_or text at 0) (drop (at + 1) text)) ≡ takes first next → at < next → ((rest : PlainParts) → so_far new rest ≡ so_far old (with_part first rest)) → left level ending text old at ≡ left level ending text new next
+  left_at-part next first new e later adds =
+      let rest : Read PlainParts = after next (parts level ending 0 (drop next text)) in
+      ap (mapped (so_far old)) (parts_at-part level ending text at next first h goes_on e later)
+      ∙ mapped-mapped (so_far old) (with_part first) rest
+      ∙ mapped-same (λ ps. so_far old (with_part first ps)) (so_far new) (λ ps. sym (adds ps)) rest
+
+  pub left_at-fault : (fault : ParseFault) → after (at + 1) (part level (get_or text at 0) (drop (at + 1) text)) ≡ fails fault → left level ending text old at ≡ fails fault
+  left_at-fault fault e = ap (mapped (so_far old)) (parts_at-fault level ending text at fault h goes_on e)
+
+  pub left_at-letters : (next : ℕ) (new : Builder) → get_or text at 0 ≢ 36 → get_or text at 0 ≢ 91 → get_or text at 0 ≢ 92 → at + 1 ≤ next → next ≤ length text → next ≤ at + 1 + prefix_len (is_letter ending) (drop (at + 1) text) → ((rest : PlainParts) → so_far new rest ≡ so_far old (with_letters (take (next - at) (drop at text)) rest)) → left level ending text old at ≡ left level ending text new next
+  left_at-letters next new e f g later room run adds =
+      let b : ℕ = get_or text at 0 in
+      let bs : List ℕ = take (next - (at + 1)) (drop (at + 1) text) in
+      let rest : Read PlainParts = after next (parts level ending 0 (drop next text)) in
+      let one : after (at + 1) (part level b (drop (at + 1) text)) ≡ takes (letters (b ∷ [])) (at + 1) = ap (after (at + 1)) (part_at-letter level text at e f g) ∙ ap (takes (letters (b ∷ []))) (omega arith) in
+      let bytes : take (next - at) (drop at text) ≡ b ∷ bs = slice-more text at next h (omega arith) in
+      ap (mapped (so_far old)) (parts_at-part level ending text at (at + 1) (letters (b ∷ [])) h goes_on one (omega arith) ∙ ap (mapped (with_letters (b ∷ []))) (letters_run level ending text (at + 1) next later room run))
+      ∙ ap (mapped (so_far old)) (mapped-mapped (with_letters (b ∷ [])) (with_letters bs) rest)
+      ∙ mapped-mapped (so_far old) (λ ps. with_letters (b ∷ []) (with_letters bs ps)) rest
+      ∙ mapped-same _ (so_far new) (λ ps. ap (so_far old) (sym (with_letters-++ (b ∷ []) bs ps) ∙ ap (λ cs. with_letters cs ps) (sym bytes)) ∙ sym (adds ps)) rest

@@ -43,6 +43,8 @@ pub(crate) fn gap_end(text: &[u8], from: usize) -> usize
     requires { from ≤ length text.now }
     ensures place { result ≡ from + reading.gap 0 (drop from text.now) }
     ensures within { result ≤ length text.now }
+    ensures blank { result < length text.now → characters.is_blank (slice_index text.now result) ≡ false }
+    ensures line { result < length text.now → reading.continues_line (slice_index text.now result) (drop (result + 1) text.now) ≡ false }
 {
     let mut at = from;
     while at < text.len() {
@@ -97,6 +99,7 @@ pub(crate) fn skip_end(text: &[u8], from: usize) -> usize
     requires { from ≤ length text.now }
     ensures place { result ≡ from + reading.skipped 0 (drop from text.now) }
     ensures within { result ≤ length text.now }
+    ensures word { result < length text.now → reading.separates Place.Script (drop result text.now) ≡ false }
 {
     let mut at = from;
     while at < text.len() {
