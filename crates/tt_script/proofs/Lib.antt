@@ -3,6 +3,7 @@ pub mod Builds
 pub mod CommandSteps
 pub mod Escapes
 pub mod Exits
+pub mod FirstSteps
 pub mod Joining
 pub mod Naming
 pub mod PartSteps

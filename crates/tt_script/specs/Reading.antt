@@ -7,6 +7,7 @@ use Rattle.tt_text.specs.Characters.{is_white_space, is_blank}
 use Rattle.tt_text.specs.Backslash.{backslash, is_space_or_tab, Sequence}
 use Rattle.tt_text.specs.Braces.{matching_brace}
 use Rattle.tt_script.specs.Words.{PlainPart, letters, variable, element, script, PlainParts, none, more, with_letters, with_part, PlainWord, PlainCommand, PlainFirst, nothing, bad, command}
+use Rattle.tt_script.specs.declared.script.TheConstants.{DEPTH}
 use Rattle.tt_script.specs.declared.command.ParseFault.{ParseFault}
 use Rattle.tt_script.specs.declared.command.ParseFault.TheVariants.{CloseBrace, CloseBracket, CloseQuote, AfterBrace, AfterQuote, CloseParen, VariableBrace, TooDeep}
 use Rattle.tt_script.specs.declared.command.Place.{Place}
@@ -297,10 +298,6 @@ level (suc depth) = record {
 }
 
 -- ---- the first command ----
-
--- how many brackets and indices of one command are open at once, at most
-abbrev pub DEPTH : ℕ
-DEPTH = 1000
 
 -- the terminator after a command's last word, with the gap before it
 abbrev pub terminator_length : List ℕ → ℕ

@@ -7,6 +7,8 @@ mod command;
 mod names;
 mod parser;
 mod scan;
+mod script;
 mod stop;
 
 pub use command::{Command, First, ParseFault, Part, Word};
+pub use script::{DEPTH, first_command};
