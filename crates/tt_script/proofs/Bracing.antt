@@ -123,7 +123,7 @@ module _ (text : List ℕ) (i depth next inner : ℕ) (h : i < length text) (low
     place = one_on text i h depth k false step ∙ ap (λ j. further j (closing_brace false k (drop j text))) (sym e) ∙ ap (λ j. further next (closing_brace false j (drop next text))) (sym f);
     within = omega arith;
     low = omega arith;
-    later = omega arith
+    later = omega arith;
   }
 
   two_passed : next ≡ min (i + 2) (length text) → inner ≡ depth → get_or text i 0 ≡ 92 → Passed text i depth next inner
@@ -131,6 +131,7 @@ module _ (text : List ℕ) (i depth next inner : ℕ) (h : i < length text) (low
     where
       first : further i (closing_brace false depth (drop i text)) ≡ further (i + 1) (closing_brace true depth (drop (i + 1) text))
       first = one_on text i h depth depth true (escapes _ depth (drop (i + 1) text) is)
+
       go : ((i + 1 < length text) ⊎ (length text ≤ i + 1)) → Passed text i depth next inner
       go (inl room) =
           let two : i + 1 + 1 ≡ next = omega arith in
@@ -138,13 +139,13 @@ module _ (text : List ℕ) (i depth next inner : ℕ) (h : i < length text) (low
             place = first ∙ escaped_on text (i + 1) room depth ∙ ap (λ j. further j (closing_brace false depth (drop j text))) two ∙ ap (λ j. further next (closing_brace false j (drop next text))) (sym f);
             within = omega arith;
             low = omega arith;
-            later = omega arith
+            later = omega arith;
           }
       go (inr ends) = record {
         place = first ∙ at_end true depth text (i + 1) ends ∙ sym (at_end false inner text next (omega arith));
         within = omega arith;
         low = omega arith;
-        later = omega arith
+        later = omega arith;
       }
 
   some_same : (m n : ℕ) → Some m ≡ Some n → m ≡ n
@@ -160,6 +161,7 @@ module _ (text : List ℕ) (i depth next inner : ℕ) (h : i < length text) (low
     where
       b : ℕ
       b = get_or text i 0
+
       go : (((b == 92) ≡ true) × (b ≡ 92)) ⊎ (((b == 92) ≡ false) × (b ≢ 92)) → (((b == 123) ≡ true) × (b ≡ 123)) ⊎ (((b == 123) ≡ false) × (b ≢ 123)) → (((b == 125) ≡ true) × (b ≡ 125)) ⊎ (((b == 125) ≡ false) × (b ≢ 125)) → Passed text i depth next inner
       go (inl (_, is)) (inl (_, is')) r = absurd (omega arith)
       go (inl (_, is)) (inr q) (inl (_, is')) = absurd (omega arith)

@@ -31,8 +31,10 @@ separated-moved place fault text from value n = go (separates place (drop (from 
   where
     order : from + (n + 1) ≡ from + n + 1
     order = omega arith
+
     same : drop (n + 1) (drop from text) ≡ drop (from + n + 1) text
     same = drop-drop (n + 1) from text ∙ ap (λ k. drop k text) order
+
     go : (v : Bool) → separates place (drop (from + n + 1) text) ≡ v → after from (separated place fault (drop from text) value (n + 1)) ≡ separated place fault text value (from + n + 1)
     go true e = ap (after from) (separated-yes place fault (drop from text) value (n + 1) (ap (separates place) same ∙ e)) ∙ ap (takes value) order ∙ sym (separated-yes place fault text value (from + n + 1) e)
     go false e = ap (after from) (separated-none place fault (drop from text) value (n + 1) (ap (separates place) same ∙ e)) ∙ sym (separated-none place fault text value (from + n + 1) e)

@@ -79,6 +79,7 @@ joined_at-pair text i next h e f g =
         go : ((i + 1 < length text) ⊎ (length text ≤ i + 1)) → drop 1 (drop (i + 1) text) ≡ drop next text
         go (inl room) = let same : i + 1 + 1 ≡ next = omega arith in drop-drop 1 (i + 1) text ∙ ap (λ k. drop k text) same
         go (inr ends) = drop-drop 1 (i + 1) text ∙ drop_all (i + 1 + 1) text (omega arith) ∙ sym (drop_all next text (omega arith))
+
     one : take 1 (drop (i + 1) text) ≡ take (next - (i + 1)) (drop (i + 1) text)
     one = go (cases_lt (i + 1) (length text))
       where

@@ -169,10 +169,13 @@ no_separator place b text e = join (is_white_space b) (is_terminator place b) (c
   where
     join : (p q r : Bool) → p ≡ false → q ≡ false → r ≡ false → (p || q) || r ≡ false
     join p q r x y z = rw (x, y, z)
+
     white : is_white_space b ≡ false
     white = no_white b (not-true (is_special b) e)
+
     line : continues_line b text ≡ false
     line = ap (λ p. p && begins 10 text) (unlike b 92 e refl)
+
     terminator : (place : Place) → is_terminator place b ≡ false
     terminator places.Script = ap (λ p. p || b == 59) (unlike b 10 e refl) ∙ unlike b 59 e refl
     terminator places.Brackets = ap (λ p. (p || b == 59) || b == 93) (unlike b 10 e refl) ∙ ap (λ p. p || b == 93) (unlike b 59 e refl) ∙ unlike b 93 e refl

@@ -85,7 +85,6 @@ pub comment_at-end : (text : List ℕ) (i : ℕ) → length text ≤ i → comme
 unfolding comment
 comment_at-end text i h = rw (drop_all i text h)
 
-
 module _ (text : List ℕ) (i : ℕ) (h : i < length text) where
   pub comment_at-letter : get_or text i 0 ≢ 10 → get_or text i 0 ≢ 92 → comment false (drop i text) ≡ suc (comment false (drop (i + 1) text))
   comment_at-letter e f = rw (drop_more text i 0 h) (comment-letter _ _ (ne_eqb _ _ e) (ne_eqb _ _ f))

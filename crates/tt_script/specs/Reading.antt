@@ -148,8 +148,8 @@ braced_variable text =
 
 -- how what a bracket or an index opens is read: by readers that are one level in
 pub record Level : Type 0 where
-  pub index : List ℕ → Read PlainParts      -- the parts up to the `)`
-  pub brackets : List ℕ → Read (List ℕ)     -- the script up to the `]`
+  pub index : List ℕ → Read PlainParts  -- the parts up to the `)`
+  pub brackets : List ℕ → Read (List ℕ)  -- the script up to the `]`
 
 -- a variable whose name has n bytes, where n isn't 0 (rule 8)
 unfoldable pub named_variable : Level → ℕ → List ℕ → Read PlainPart
@@ -294,7 +294,7 @@ unfoldable pub level : ℕ → Level
 level zero = record { index = λ text. fails TooDeep; brackets = λ text. fails TooDeep }
 level (suc depth) = record {
   index = λ text. parts (level depth) endings.Parenthesis 0 text;
-  brackets = λ text. and_then (commands (level depth) 0 text) (λ _ n. takes (take n text) n)
+  brackets = λ text. and_then (commands (level depth) 0 text) (λ _ n. takes (take n text) n);
 }
 
 -- ---- the first command ----

@@ -5,10 +5,10 @@ use Rattle.tt_script.specs.declared.command.ParseFault.{ParseFault}
 mutual
   -- a part of a word (Tcl(n), rules 7 to 9)
   pub data PlainPart : Type 0 where
-    letters : List ℕ → PlainPart                  -- bytes that stand for themselves
-    variable : List ℕ → PlainPart                 -- the value of a variable
-    element : List ℕ → PlainParts → PlainPart     -- the value of an element of an array, and its index
-    script : List ℕ → PlainPart                   -- the result of a script in brackets
+    letters : List ℕ → PlainPart  -- bytes that stand for themselves
+    variable : List ℕ → PlainPart  -- the value of a variable
+    element : List ℕ → PlainParts → PlainPart  -- the value of an element of an array, and its index
+    script : List ℕ → PlainPart  -- the result of a script in brackets
 
   -- the parts of a word or of an index, in their order
   pub data PlainParts : Type 0 where
@@ -46,5 +46,5 @@ pub record PlainCommand : Type 0 where
 -- what a text begins with
 pub data PlainFirst : Type 0 where
   nothing : PlainFirst
-  bad : ParseFault → ℕ → PlainFirst       -- the fault, and the place of the command's first byte
+  bad : ParseFault → ℕ → PlainFirst  -- the fault, and the place of the command's first byte
   command : PlainCommand → PlainFirst

@@ -7,8 +7,8 @@ ghost use Rattle.tt_script.specs.Plain.{plain_part, plain_parts};
 use crate::builder::Builder;
 use crate::command::Part;
 use crate::scan::{after_escape, begins};
-use tt_lanes::next_special;
 use std::alloc::Global;
+use tt_lanes::next_special;
 use tt_text::{NoMemory, Text, backslash};
 
 /// How many inner braces are open after this byte, or `None` where it closes the outer one.

@@ -12,3 +12,6 @@ mod stop;
 
 pub use command::{Command, First, ParseFault, Part, Word};
 pub use script::{DEPTH, first_command};
+
+#[cfg(test)]
+mod tests;

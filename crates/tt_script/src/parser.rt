@@ -10,7 +10,9 @@ use crate::braces::{closing_brace, joined_lines, letters, named};
 use crate::builder::Builder;
 use crate::command::{Ending, ParseFault, Part, Place, Word};
 use crate::names::{brace_end, name_end};
-use crate::scan::{begins, ends_command, ends_parts, expands, gap_end, letters_end, separates, skip_end};
+use crate::scan::{
+    begins, ends_command, ends_parts, expands, gap_end, letters_end, separates, skip_end,
+};
 use crate::stop::Stop;
 use std::alloc::Global;
 use tt_text::{Text, backslash};
@@ -160,10 +162,22 @@ fn word(
 {
     if expands(text, from) {
         let (parts, end) = word_parts(alloc, text, from + 3, place, depth)?;
-        Ok((Word { expand: true, parts }, end))
+        Ok((
+            Word {
+                expand: true,
+                parts,
+            },
+            end,
+        ))
     } else {
         let (parts, end) = word_parts(alloc, text, from, place, depth)?;
-        Ok((Word { expand: false, parts }, end))
+        Ok((
+            Word {
+                expand: false,
+                parts,
+            },
+            end,
+        ))
     }
 }
 

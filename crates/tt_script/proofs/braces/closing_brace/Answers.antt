@@ -11,7 +11,7 @@ loop-at-init c =
       begun = omega (arith, (next_special-bounds c.args.text.now c.args.from c.requires).0, c.next_special-at.ensures);
       within = omega (arith, (next_special-bounds c.args.text.now c.args.from c.requires).1, c.next_special-at.ensures);
       depth = omega arith;
-      place = closing-run c.args.text.now c.args.from stop 0 c.requires c.next_special-at.ensures
+      place = closing-run c.args.text.now c.args.from stop 0 c.requires c.next_special-at.ensures;
     }
 
 pub loop-at-preserved : goal.loop-at-preserved
@@ -24,5 +24,5 @@ loop-at-preserved c =
       begun = omega (arith, bounds.0, c.next_special-at-in-loop-at.ensures, passed.later);
       within = omega (arith, bounds.1, c.next_special-at-in-loop-at.ensures);
       depth = omega (arith, bounds.0, c.next_special-at-in-loop-at.ensures, passed.low);
-      place = c.loop-at.invariant.place ∙ passed.place ∙ closing-run text c.after_escape.result c.next_special-at-in-loop-at.result c.in-Some.inner passed.within c.next_special-at-in-loop-at.ensures
+      place = c.loop-at.invariant.place ∙ passed.place ∙ closing-run text c.after_escape.result c.next_special-at-in-loop-at.result c.in-Some.inner passed.within c.next_special-at-in-loop-at.ensures;
     }

@@ -7,7 +7,7 @@ invariant-loop-at l = record {
   begun : l.from ≤ l.at;
   within : l.at ≤ length l.text;
   depth : l.depth ≤ l.at;
-  place : further l.from (closing_brace false 0 (drop l.from l.text)) ≡ further l.at (closing_brace false l.depth (drop l.at l.text))
+  place : further l.from (closing_brace false 0 (drop l.from l.text)) ≡ further l.at (closing_brace false l.depth (drop l.at l.text));
 }
 
 abbrev pub decreases-loop-at : goal.decreases-loop-at

@@ -5,7 +5,7 @@ use Rattle.tt_script.proofs.braces.joined_lines.Given as goal
 abbrev pub invariant-loop-at : goal.invariant-loop-at
 invariant-loop-at l = record {
   within : l.at ≤ length l.text;
-  joined : l.joined ++ joined_lines 0 (drop l.at l.text) ≡ joined_lines 0 l.text
+  joined : l.joined ++ joined_lines 0 (drop l.at l.text) ≡ joined_lines 0 l.text;
 }
 
 abbrev pub decreases-loop-at : goal.decreases-loop-at

@@ -66,7 +66,7 @@ commands-next_command-preserved t c =
     record {
       begun = omega (arith, c.next_command.invariant.begun, c.skip_end-start.ensures.place, c.in_ok-end.ensures.within.0);
       within = c.in_ok-end.ensures.within.1;
-      read = c.next_command.invariant.read ∙ commands_at-more (level c.args.depth) c.args.text.now c.next_command.at c.skip_end-start.result c.skip_end-start.ensures.place (omega arith) (sym c.begins.ensures ∙ c.if-begins.false) _ c.in_ok-end.end c.in_ok-end.ensures.read c.in_ok-end.ensures.within.0
+      read = c.next_command.invariant.read ∙ commands_at-more (level c.args.depth) c.args.text.now c.next_command.at c.skip_end-start.result c.skip_end-start.ensures.place (omega arith) (sym c.begins.ensures ∙ c.if-begins.false) _ c.in_ok-end.end c.in_ok-end.ensures.read c.in_ok-end.ensures.within.0;
     }
 
 pub index-returns-then-depth-eq0-clause-read : goal.index-returns-then-depth-eq0-clause-read
@@ -219,8 +219,8 @@ words-next_word-preserved t c =
       within = room;
       word = after_gap-word c.args.place text next room (c.gap_end-at.ensures.blank room) (c.gap_end-at.ensures.line room) unended;
       read = c.next_word.invariant.read
-        ∙ ap (mapped (λ others. plain_words c.next_word.words.items ++ others)) (words_at-more c.args.place (level c.args.depth) text c.next_word.at c.next_word.invariant.within (plain_word c.in_ok-word.word) c.in_ok-word.end next c.in_ok-word.ensures.read c.gap_end-at.ensures.place c.in_ok-word.ensures.within.0 unended)
-        ∙ more-words c.next_word.words.items c.in_ok-word.word _ c.in_ok-push.ensures.items _
+          ∙ ap (mapped (λ others. plain_words c.next_word.words.items ++ others)) (words_at-more c.args.place (level c.args.depth) text c.next_word.at c.next_word.invariant.within (plain_word c.in_ok-word.word) c.in_ok-word.end next c.in_ok-word.ensures.read c.gap_end-at.ensures.place c.in_ok-word.ensures.within.0 unended)
+          ∙ more-words c.next_word.words.items c.in_ok-word.word _ c.in_ok-push.ensures.items _;
     }
 
 pub words-returns-in_err-word-clause-read : goal.words-returns-in_err-word-clause-read

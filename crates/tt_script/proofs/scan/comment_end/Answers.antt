@@ -12,5 +12,5 @@ loop-at-preserved c =
     let bounds = next_special-bounds text next passed.1 in
     record {
       within = omega (arith, bounds.1, c.next_special-at-in-loop-at.ensures);
-      place = omega (arith, passed.0, comment-run text next stop passed.1 c.next_special-at-in-loop-at.ensures)
+      place = omega (arith, passed.0, comment-run text next stop passed.1 c.next_special-at-in-loop-at.ensures);
     }

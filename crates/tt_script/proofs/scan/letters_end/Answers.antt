@@ -14,7 +14,7 @@ pub parenthesis_before-requires-clause-room : goal.parenthesis_before-requires-c
 parenthesis_before-requires-clause-room c = omega (arith, next_special-bounds c.args.text.now c.args.from c.requires, c.next_special-stop.ensures)
 
 pub returns-in-Parenthesis-clause-within : goal.returns-in-Parenthesis-clause-within
-returns-in-Parenthesis-clause-within c = 
+returns-in-Parenthesis-clause-within c =
     let bounds = next_special-bounds c.args.text.now c.args.from c.requires in
     (omega arith, omega (arith, bounds, c.next_special-stop.ensures))
 
@@ -35,5 +35,5 @@ returns-in-Word c =
     let bounds = next_special-bounds c.args.text.now c.args.from c.requires in
     record {
       letters = same_run c.args.ending c.args.text.now c.args.from c.next_special-stop.result c.next_special-stop.ensures c.in-Word.is;
-      within = (omega (arith, bounds, c.next_special-stop.ensures), omega (arith, bounds, c.next_special-stop.ensures))
+      within = (omega (arith, bounds, c.next_special-stop.ensures), omega (arith, bounds, c.next_special-stop.ensures));
     }

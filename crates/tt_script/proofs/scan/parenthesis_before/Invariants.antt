@@ -6,7 +6,7 @@ abbrev pub invariant-loop-at : goal.invariant-loop-at
 invariant-loop-at l = record {
   begun : l.from ≤ l.at;
   within : l.at ≤ l.stop;
-  none : l.at + position_or_len (λ b. b == 41) (drop l.at l.text) ≡ l.from + position_or_len (λ b. b == 41) (drop l.from l.text)
+  none : l.at + position_or_len (λ b. b == 41) (drop l.at l.text) ≡ l.from + position_or_len (λ b. b == 41) (drop l.from l.text);
 }
 
 abbrev pub decreases-loop-at : goal.decreases-loop-at
