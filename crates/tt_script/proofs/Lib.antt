@@ -1,6 +1,7 @@
 pub mod Bracing
 pub mod Builds
 pub mod CommandSteps
+pub mod Cuts
 pub mod Escapes
 pub mod Exits
 pub mod FirstSteps

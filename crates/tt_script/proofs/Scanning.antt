@@ -19,15 +19,15 @@ gap_passes zero text = omega arith
 gap_passes (suc k) [] = omega arith
 gap_passes (suc k) (b ∷ text) = omega (arith, gap_passes k text)
 
-gap-blank : (b : ℕ) (text : List ℕ) → is_blank b ≡ true → gap 0 (b ∷ text) ≡ suc (gap 0 text)
+pub gap-blank : (b : ℕ) (text : List ℕ) → is_blank b ≡ true → gap 0 (b ∷ text) ≡ suc (gap 0 text)
 unfolding gap
 gap-blank b text e = rw (e, gap)
 
-gap-line : (b : ℕ) (text : List ℕ) → is_blank b ≡ false → continues_line b text ≡ true → gap 0 (b ∷ text) ≡ suc (gap 1 text)
+pub gap-line : (b : ℕ) (text : List ℕ) → is_blank b ≡ false → continues_line b text ≡ true → gap 0 (b ∷ text) ≡ suc (gap 1 text)
 unfolding gap
 gap-line b text e f = rw (e, f, gap)
 
-gap-none : (b : ℕ) (text : List ℕ) → is_blank b ≡ false → continues_line b text ≡ false → gap 0 (b ∷ text) ≡ 0
+pub gap-none : (b : ℕ) (text : List ℕ) → is_blank b ≡ false → continues_line b text ≡ false → gap 0 (b ∷ text) ≡ 0
 unfolding gap
 gap-none b text e f = rw (e, f, gap)
 
@@ -69,15 +69,15 @@ pub ruleset gap_steps = (gap_at-blank, gap_at-line, gap_at-none, gap_at-end, con
 
 -- ---- comments ----
 
-comment-letter : (b : ℕ) (text : List ℕ) → (b == 10) ≡ false → (b == 92) ≡ false → comment false (b ∷ text) ≡ suc (comment false text)
+pub comment-letter : (b : ℕ) (text : List ℕ) → (b == 10) ≡ false → (b == 92) ≡ false → comment false (b ∷ text) ≡ suc (comment false text)
 unfolding comment
 comment-letter b text e f = rw (e, f, comment)
 
-comment-escape : (b : ℕ) (text : List ℕ) → (b == 10) ≡ false → (b == 92) ≡ true → comment false (b ∷ text) ≡ suc (comment true text)
+pub comment-escape : (b : ℕ) (text : List ℕ) → (b == 10) ≡ false → (b == 92) ≡ true → comment false (b ∷ text) ≡ suc (comment true text)
 unfolding comment
 comment-escape b text e f = rw (e, f, comment)
 
-comment-newline : (b : ℕ) (text : List ℕ) → (b == 10) ≡ true → comment false (b ∷ text) ≡ 0
+pub comment-newline : (b : ℕ) (text : List ℕ) → (b == 10) ≡ true → comment false (b ∷ text) ≡ 0
 unfolding comment
 comment-newline b text e = rw (e, comment)
 
@@ -161,19 +161,19 @@ skipped_passes zero text = omega arith
 skipped_passes (suc k) [] = omega arith
 skipped_passes (suc k) (b ∷ text) = omega (arith, skipped_passes k text)
 
-skipped-space : (b : ℕ) (text : List ℕ) → is_white_space b || b == 59 ≡ true → skipped 0 (b ∷ text) ≡ suc (skipped 0 text)
+pub skipped-space : (b : ℕ) (text : List ℕ) → is_white_space b || b == 59 ≡ true → skipped 0 (b ∷ text) ≡ suc (skipped 0 text)
 unfolding skipped
 skipped-space b text e = rw (e, skipped)
 
-skipped-line : (b : ℕ) (text : List ℕ) → is_white_space b || b == 59 ≡ false → continues_line b text ≡ true → skipped 0 (b ∷ text) ≡ suc (skipped 1 text)
+pub skipped-line : (b : ℕ) (text : List ℕ) → is_white_space b || b == 59 ≡ false → continues_line b text ≡ true → skipped 0 (b ∷ text) ≡ suc (skipped 1 text)
 unfolding skipped
 skipped-line b text e f = rw (e, f, skipped)
 
-skipped-comment : (b : ℕ) (text : List ℕ) → is_white_space b || b == 59 ≡ false → continues_line b text ≡ false → (b == 35) ≡ true → skipped 0 (b ∷ text) ≡ suc (skipped (comment false text) text)
+pub skipped-comment : (b : ℕ) (text : List ℕ) → is_white_space b || b == 59 ≡ false → continues_line b text ≡ false → (b == 35) ≡ true → skipped 0 (b ∷ text) ≡ suc (skipped (comment false text) text)
 unfolding skipped
 skipped-comment b text e f g = rw (e, f, g, skipped)
 
-skipped-none : (b : ℕ) (text : List ℕ) → is_white_space b || b == 59 ≡ false → continues_line b text ≡ false → (b == 35) ≡ false → skipped 0 (b ∷ text) ≡ 0
+pub skipped-none : (b : ℕ) (text : List ℕ) → is_white_space b || b == 59 ≡ false → continues_line b text ≡ false → (b == 35) ≡ false → skipped 0 (b ∷ text) ≡ 0
 unfolding skipped
 skipped-none b text e f g = rw (e, f, g, skipped)
 

@@ -1,5 +1,6 @@
 pub mod Answers
 pub mod Building
+pub mod Grammar
 pub mod Plain
 pub mod Reading
 pub mod Scanning
