@@ -16,14 +16,14 @@ use Rattle.tt_script.proofs.Readers.{after-after, after-zero, after-mapped, mapp
 
 -- ---- words in quotes ----
 
-quoted-on : (place : Place) (level : Level) (text : List ℕ) → quoted place level text ≡ and_then (parts level endings.Quote 0 text) (λ value n. separated place AfterQuote text value (n + 1))
+pub quoted-on : (place : Place) (level : Level) (text : List ℕ) → quoted place level text ≡ and_then (parts level endings.Quote 0 text) (λ value n. separated place AfterQuote text value (n + 1))
 unfolding quoted
 quoted-on place level text = refl
 
-separated-yes : (place : Place) (fault : ParseFault) (text : List ℕ) (value : PlainParts) (n : ℕ) → separates place (drop n text) ≡ true → separated place fault text value n ≡ takes value n
+pub separated-yes : (place : Place) (fault : ParseFault) (text : List ℕ) (value : PlainParts) (n : ℕ) → separates place (drop n text) ≡ true → separated place fault text value n ≡ takes value n
 separated-yes place fault text value n e = rw (e, separated)
 
-separated-none : (place : Place) (fault : ParseFault) (text : List ℕ) (value : PlainParts) (n : ℕ) → separates place (drop n text) ≡ false → separated place fault text value n ≡ fails fault
+pub separated-none : (place : Place) (fault : ParseFault) (text : List ℕ) (value : PlainParts) (n : ℕ) → separates place (drop n text) ≡ false → separated place fault text value n ≡ fails fault
 separated-none place fault text value n e = rw (e, separated)
 
 separated-moved : (place : Place) (fault : ParseFault) (text : List ℕ) (from : ℕ) (value : PlainParts) (n : ℕ) → after from (separated place fault (drop from text) value (n + 1)) ≡ separated place fault text value (from + n + 1)
@@ -59,15 +59,15 @@ module _ (place : Place) (level : Level) (text : List ℕ) (from : ℕ) where
 -- ---- the parts of a word ----
 
 module _ (place : Place) (level : Level) (text : List ℕ) where
-  parts-quoted : begins 34 text ≡ true → word_parts place level text ≡ after 1 (quoted place level (drop 1 text))
+  pub parts-quoted : begins 34 text ≡ true → word_parts place level text ≡ after 1 (quoted place level (drop 1 text))
   unfolding word_parts
   parts-quoted e = rw (e, word_parts)
 
-  parts-braced : begins 34 text ≡ false → begins 123 text ≡ true → word_parts place level text ≡ after 1 (braced place (drop 1 text))
+  pub parts-braced : begins 34 text ≡ false → begins 123 text ≡ true → word_parts place level text ≡ after 1 (braced place (drop 1 text))
   unfolding word_parts
   parts-braced e f = rw (e, word_parts, f)
 
-  parts-bare : begins 34 text ≡ false → begins 123 text ≡ false → word_parts place level text ≡ parts level (endings.Word place) 0 text
+  pub parts-bare : begins 34 text ≡ false → begins 123 text ≡ false → word_parts place level text ≡ parts level (endings.Word place) 0 text
   unfolding word_parts
   parts-bare e f = rw (e, word_parts, f)
 
@@ -91,11 +91,11 @@ abbrev pub made : Bool → PlainParts → PlainWord
 made expand parts = record { expand = expand; parts = parts }
 
 module _ (place : Place) (level : Level) (text : List ℕ) where
-  word-expands : expands text ≡ true → word place level text ≡ after 3 (mapped (made true) (word_parts place level (drop 3 text)))
+  pub word-expands : expands text ≡ true → word place level text ≡ after 3 (mapped (made true) (word_parts place level (drop 3 text)))
   unfolding word
   word-expands e = rw (e, word)
 
-  word-plain : expands text ≡ false → word place level text ≡ mapped (made false) (word_parts place level text)
+  pub word-plain : expands text ≡ false → word place level text ≡ mapped (made false) (word_parts place level text)
   unfolding word
   word-plain e = rw (e, word)
 
@@ -126,19 +126,19 @@ expands-room text from e =
 
 -- ---- words ----
 
-words-one : (place : Place) (level : Level) (b : ℕ) (text : List ℕ) (first : PlainWord) (n : ℕ) → word place level (b ∷ text) ≡ takes first n → ends_command place (drop (n + gap 0 (drop n (b ∷ text))) (b ∷ text)) ≡ true → words place level 0 (b ∷ text) ≡ takes (first ∷ []) n
+pub words-one : (place : Place) (level : Level) (b : ℕ) (text : List ℕ) (first : PlainWord) (n : ℕ) → word place level (b ∷ text) ≡ takes first n → ends_command place (drop (n + gap 0 (drop n (b ∷ text))) (b ∷ text)) ≡ true → words place level 0 (b ∷ text) ≡ takes (first ∷ []) n
 unfolding words
 words-one place level b text first n e f = rw (e, words, f)
 
-words-more : (place : Place) (level : Level) (b : ℕ) (text : List ℕ) (first : PlainWord) (n : ℕ) → word place level (b ∷ text) ≡ takes first n → ends_command place (drop (n + gap 0 (drop n (b ∷ text))) (b ∷ text)) ≡ false → words place level 0 (b ∷ text) ≡ after 1 (mapped (λ others. first ∷ others) (words place level (pred (n + gap 0 (drop n (b ∷ text)))) text))
+pub words-more : (place : Place) (level : Level) (b : ℕ) (text : List ℕ) (first : PlainWord) (n : ℕ) → word place level (b ∷ text) ≡ takes first n → ends_command place (drop (n + gap 0 (drop n (b ∷ text))) (b ∷ text)) ≡ false → words place level 0 (b ∷ text) ≡ after 1 (mapped (λ others. first ∷ others) (words place level (pred (n + gap 0 (drop n (b ∷ text)))) text))
 unfolding words
 words-more place level b text first n e f = rw (e, words, f)
 
-words-fault : (place : Place) (level : Level) (b : ℕ) (text : List ℕ) (fault : ParseFault) → word place level (b ∷ text) ≡ fails fault → words place level 0 (b ∷ text) ≡ fails fault
+pub words-fault : (place : Place) (level : Level) (b : ℕ) (text : List ℕ) (fault : ParseFault) → word place level (b ∷ text) ≡ fails fault → words place level 0 (b ∷ text) ≡ fails fault
 unfolding words
 words-fault place level b text fault e = rw (e, words)
 
-words_passes : (place : Place) (level : Level) (k : ℕ) (text : List ℕ) → words place level k text ≡ after k (words place level 0 (drop k text))
+pub words_passes : (place : Place) (level : Level) (k : ℕ) (text : List ℕ) → words place level k text ≡ after k (words place level 0 (drop k text))
 unfolding words
 words_passes place level zero text = sym (after-zero (words place level 0 text))
 words_passes place level (suc k) [] = ap (takes []) (omega arith)
@@ -226,7 +226,7 @@ module _ (level : Level) where
   commands_passes (suc k) [] = refl
   commands_passes (suc k) (b ∷ text) = ap (after 1) (commands_passes k text) ∙ after-after 1 k (commands level 0 (drop k text)) ∙ ap (λ n. after n (commands level 0 (drop k text))) (omega arith)
 
-  closed-on : (xs : List ℕ) → begins 93 (drop (skipped 0 xs) xs) ≡ true → commands level 0 xs ≡ takes tt (skipped 0 xs)
+  pub closed-on : (xs : List ℕ) → begins 93 (drop (skipped 0 xs) xs) ≡ true → commands level 0 xs ≡ takes tt (skipped 0 xs)
   unfolding skipped
   closed-on [] e = cc
   closed-on (b ∷ text) e = commands-closed b text e
@@ -240,7 +240,7 @@ module _ (level : Level) where
   fault-on [] fault e h f = absurd (omega arith)
   fault-on (b ∷ text) fault e h f = commands-fault b text fault e (lt-ltb (skipped 0 (b ∷ text)) (length (b ∷ text)) h) f
 
-  more-on : (xs : List ℕ) (ws : List PlainWord) (n : ℕ) → begins 93 (drop (skipped 0 xs) xs) ≡ false → skipped 0 xs < length xs → words places.Brackets level 0 (drop (skipped 0 xs) xs) ≡ takes ws n → 0 < n → commands level 0 xs ≡ after (skipped 0 xs + n) (commands level 0 (drop (skipped 0 xs + n) xs))
+  pub more-on : (xs : List ℕ) (ws : List PlainWord) (n : ℕ) → begins 93 (drop (skipped 0 xs) xs) ≡ false → skipped 0 xs < length xs → words places.Brackets level 0 (drop (skipped 0 xs) xs) ≡ takes ws n → 0 < n → commands level 0 xs ≡ after (skipped 0 xs + n) (commands level 0 (drop (skipped 0 xs + n) xs))
   more-on [] ws n e h f some = absurd (omega arith)
   more-on (b ∷ text) ws n e h f some =
       let k : ℕ = pred (skipped 0 (b ∷ text) + n) in

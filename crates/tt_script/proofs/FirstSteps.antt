@@ -8,19 +8,19 @@ use Rattle.tt_script.specs.declared.command.ParseFault.{ParseFault}
 use Rattle.tt_script.specs.declared.command.Place.TheVariants as places
 use Rattle.tt_script.proofs.CommandSteps.{after-takes, after-fails}
 
-at-nothing : (start : ℕ) (text : List ℕ) → text ≡ [] → command_at start text ≡ nothing
+pub at-nothing : (start : ℕ) (text : List ℕ) → text ≡ [] → command_at start text ≡ nothing
 unfolding command_at
 at-nothing start text e = rw e
 
-at-command : (start : ℕ) (b : ℕ) (text : List ℕ) (ws : List PlainWord) (n : ℕ) → words places.Script (level DEPTH) 0 (b ∷ text) ≡ takes ws n → command_at start (b ∷ text) ≡ command (record { words = ws; start = start; text_end = start + n; next = start + n + terminator_length (drop n (b ∷ text)) })
+pub at-command : (start : ℕ) (b : ℕ) (text : List ℕ) (ws : List PlainWord) (n : ℕ) → words places.Script (level DEPTH) 0 (b ∷ text) ≡ takes ws n → command_at start (b ∷ text) ≡ command (record { words = ws; start = start; text_end = start + n; next = start + n + terminator_length (drop n (b ∷ text)) })
 unfolding command_at
 at-command start b text ws n e = rw (e, command_at)
 
-at-fault : (start : ℕ) (b : ℕ) (text : List ℕ) (fault : ParseFault) → words places.Script (level DEPTH) 0 (b ∷ text) ≡ fails fault → command_at start (b ∷ text) ≡ bad fault start
+pub at-fault : (start : ℕ) (b : ℕ) (text : List ℕ) (fault : ParseFault) → words places.Script (level DEPTH) 0 (b ∷ text) ≡ fails fault → command_at start (b ∷ text) ≡ bad fault start
 unfolding command_at
 at-fault start b text fault e = rw (e, command_at)
 
-first-on : (text : List ℕ) → first text ≡ command_at (skipped 0 text) (drop (skipped 0 text) text)
+pub first-on : (text : List ℕ) → first text ≡ command_at (skipped 0 text) (drop (skipped 0 text) text)
 unfolding first
 first-on text = refl
 

@@ -5,6 +5,7 @@ pub mod Cuts
 pub mod Escapes
 pub mod Exits
 pub mod FirstSteps
+pub mod FromGrammar
 pub mod Joining
 pub mod Naming
 pub mod PartSteps

@@ -42,41 +42,41 @@ index-deeper depth text = refl
 -- ---- what `$` begins ----
 
 module _ (level : Level) (text : List ℕ) where
-  dollar-braced : begins 123 text ≡ true → dollar level text ≡ after 1 (braced_variable (drop 1 text))
+  pub dollar-braced : begins 123 text ≡ true → dollar level text ≡ after 1 (braced_variable (drop 1 text))
   unfolding dollar
   dollar-braced e = rw (e, dollar)
 
-  dollar-named : begins 123 text ≡ false → nat_lt 0 (name_length 0 text) ≡ true → dollar level text ≡ named_variable level (name_length 0 text) text
+  pub dollar-named : begins 123 text ≡ false → nat_lt 0 (name_length 0 text) ≡ true → dollar level text ≡ named_variable level (name_length 0 text) text
   unfolding dollar
   dollar-named e f = rw (e, dollar, f)
 
-  dollar-itself : begins 123 text ≡ false → nat_lt 0 (name_length 0 text) ≡ false → dollar level text ≡ takes (letters (36 ∷ [])) 0
+  pub dollar-itself : begins 123 text ≡ false → nat_lt 0 (name_length 0 text) ≡ false → dollar level text ≡ takes (letters (36 ∷ [])) 0
   unfolding dollar
   dollar-itself e f = rw (e, dollar, f)
 
-  named-element : (n : ℕ) → begins 40 (drop n text) ≡ true → named_variable level n text ≡ and_then (after (n + 1) (level.index (drop (n + 1) text))) (λ index m. takes (element (take n text) index) (m + 1))
+  pub named-element : (n : ℕ) → begins 40 (drop n text) ≡ true → named_variable level n text ≡ and_then (after (n + 1) (level.index (drop (n + 1) text))) (λ index m. takes (element (take n text) index) (m + 1))
   unfolding named_variable
   named-element n e = rw (e, named_variable)
 
-  named-variable : (n : ℕ) → begins 40 (drop n text) ≡ false → named_variable level n text ≡ takes (variable (take n text)) n
+  pub named-variable : (n : ℕ) → begins 40 (drop n text) ≡ false → named_variable level n text ≡ takes (variable (take n text)) n
   unfolding named_variable
   named-variable n e = rw (e, named_variable)
 
 -- ---- a part ----
 
-part-dollar : (level : Level) (b : ℕ) (text : List ℕ) → (b == 36) ≡ true → part level b text ≡ dollar level text
+pub part-dollar : (level : Level) (b : ℕ) (text : List ℕ) → (b == 36) ≡ true → part level b text ≡ dollar level text
 unfolding part
 part-dollar level b text e = rw (e, part)
 
-part-brackets : (level : Level) (b : ℕ) (text : List ℕ) → (b == 36) ≡ false → (b == 91) ≡ true → part level b text ≡ and_then (level.brackets text) (λ inside n. takes (script inside) (n + 1))
+pub part-brackets : (level : Level) (b : ℕ) (text : List ℕ) → (b == 36) ≡ false → (b == 91) ≡ true → part level b text ≡ and_then (level.brackets text) (λ inside n. takes (script inside) (n + 1))
 unfolding part
 part-brackets level b text e f = rw (e, part, f)
 
-part-escape : (level : Level) (b : ℕ) (text : List ℕ) → (b == 36) ≡ false → (b == 91) ≡ false → (b == 92) ≡ true → part level b text ≡ takes (letters (backslash text).value) (backslash text).takes
+pub part-escape : (level : Level) (b : ℕ) (text : List ℕ) → (b == 36) ≡ false → (b == 91) ≡ false → (b == 92) ≡ true → part level b text ≡ takes (letters (backslash text).value) (backslash text).takes
 unfolding part
 part-escape level b text e f g = rw (e, part, f, g)
 
-part-letter : (level : Level) (b : ℕ) (text : List ℕ) → (b == 36) ≡ false → (b == 91) ≡ false → (b == 92) ≡ false → part level b text ≡ takes (letters (b ∷ [])) 0
+pub part-letter : (level : Level) (b : ℕ) (text : List ℕ) → (b == 36) ≡ false → (b == 91) ≡ false → (b == 92) ≡ false → part level b text ≡ takes (letters (b ∷ [])) 0
 unfolding part
 part-letter level b text e f g = rw (e, part, f, g)
 
@@ -89,15 +89,15 @@ module _ (level : Level) (ending : Ending) where
   parts_passes (suc k) [] = sym (after-after (suc k) 0 (parts_at_end ending) ∙ ap (λ n. after n (parts_at_end ending)) (omega arith))
   parts_passes (suc k) (b ∷ text) = ap (after 1) (parts_passes k text) ∙ after-after 1 k (parts level ending 0 (drop k text)) ∙ ap (λ n. after n (parts level ending 0 (drop k text))) (omega arith)
 
-  parts-end : (b : ℕ) (text : List ℕ) → ends_parts ending (b ∷ text) ≡ true → parts level ending 0 (b ∷ text) ≡ takes none 0
+  pub parts-end : (b : ℕ) (text : List ℕ) → ends_parts ending (b ∷ text) ≡ true → parts level ending 0 (b ∷ text) ≡ takes none 0
   unfolding parts
   parts-end b text e = rw (e, parts)
 
-  parts-part : (b : ℕ) (text : List ℕ) (first : PlainPart) (n : ℕ) → ends_parts ending (b ∷ text) ≡ false → part level b text ≡ takes first n → parts level ending 0 (b ∷ text) ≡ after 1 (mapped (with_part first) (parts level ending n text))
+  pub parts-part : (b : ℕ) (text : List ℕ) (first : PlainPart) (n : ℕ) → ends_parts ending (b ∷ text) ≡ false → part level b text ≡ takes first n → parts level ending 0 (b ∷ text) ≡ after 1 (mapped (with_part first) (parts level ending n text))
   unfolding parts
   parts-part b text first n e f = rw (e, parts, f)
 
-  parts-fault : (b : ℕ) (text : List ℕ) (fault : ParseFault) → ends_parts ending (b ∷ text) ≡ false → part level b text ≡ fails fault → parts level ending 0 (b ∷ text) ≡ fails fault
+  pub parts-fault : (b : ℕ) (text : List ℕ) (fault : ParseFault) → ends_parts ending (b ∷ text) ≡ false → part level b text ≡ fails fault → parts level ending 0 (b ∷ text) ≡ fails fault
   unfolding parts
   parts-fault b text fault e f = rw (e, parts, f)
 

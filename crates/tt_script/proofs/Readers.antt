@@ -33,15 +33,15 @@ mapped-same f g same (fails fault) = refl
 
 -- ---- words in braces ----
 
-braced-closed : (place : Place) (text : List ℕ) (n : ℕ) → matching_brace text ≡ Some n → separates place (drop (n + 1) text) ≡ true → braced place text ≡ takes (letters_of (joined_lines 0 (take n text))) (n + 1)
+pub braced-closed : (place : Place) (text : List ℕ) (n : ℕ) → matching_brace text ≡ Some n → separates place (drop (n + 1) text) ≡ true → braced place text ≡ takes (letters_of (joined_lines 0 (take n text))) (n + 1)
 unfolding braced
 braced-closed place text n e f = rw (e, braced, f, separated)
 
-braced-after : (place : Place) (text : List ℕ) (n : ℕ) → matching_brace text ≡ Some n → separates place (drop (n + 1) text) ≡ false → braced place text ≡ fails AfterBrace
+pub braced-after : (place : Place) (text : List ℕ) (n : ℕ) → matching_brace text ≡ Some n → separates place (drop (n + 1) text) ≡ false → braced place text ≡ fails AfterBrace
 unfolding braced
 braced-after place text n e f = rw (e, braced, f, separated)
 
-braced-open : (place : Place) (text : List ℕ) → matching_brace text ≡ None → braced place text ≡ fails CloseBrace
+pub braced-open : (place : Place) (text : List ℕ) → matching_brace text ≡ None → braced place text ≡ fails CloseBrace
 unfolding braced
 braced-open place text e = rw (e, braced)
 
