@@ -42,7 +42,7 @@ unfolding gap
 gap-none_at [] e = refl
 gap-none_at (b ∷ text) e = let both = or_false (is_blank b) (continues_line b text) e in gap-none b text both.0 both.1
 
-gap-one : (b : ℕ) (text : List ℕ) → gap 1 (b ∷ text) ≡ suc (gap 0 text)
+pub gap-one : (b : ℕ) (text : List ℕ) → gap 1 (b ∷ text) ≡ suc (gap 0 text)
 unfolding gap
 gap-one b text = refl
 
@@ -51,11 +51,11 @@ gap_cut (gap_ends {rest} e) = cut_same (gap-none_at rest e) (cut_none rest)
 gap_cut (gap_blank {b} {text} e g) = cut_same (gap-blank b text e) (cut_more b (gap_cut g))
 gap_cut (gap_line {b} {c} {text} e f g) = cut_same (gap-line b (c ∷ text) (not_blank b e) (continues b c text e f) ∙ ap suc (gap-one c text)) (cut_more b (cut_more c (gap_cut g)))
 
-escaped-one : (b : ℕ) (text : List ℕ) → comment true (b ∷ text) ≡ suc (comment false text)
+pub escaped-one : (b : ℕ) (text : List ℕ) → comment true (b ∷ text) ≡ suc (comment false text)
 unfolding comment
 escaped-one b text = refl
 
-no_comment : (escaped : Bool) → comment escaped [] ≡ 0
+pub no_comment : (escaped : Bool) → comment escaped [] ≡ 0
 unfolding comment
 no_comment true = refl
 no_comment false = refl
@@ -78,7 +78,7 @@ skipped-none_at (b ∷ text) e =
     let inner = or_false (is_white_space b || b == 59) (continues_line b text) outer.0 in
     skipped-none b text inner.0 inner.1 outer.1
 
-skipped-one : (b : ℕ) (text : List ℕ) → skipped 1 (b ∷ text) ≡ suc (skipped 0 text)
+pub skipped-one : (b : ℕ) (text : List ℕ) → skipped 1 (b ∷ text) ≡ suc (skipped 0 text)
 unfolding skipped
 skipped-one b text = refl
 

@@ -6,6 +6,7 @@ pub mod Escapes
 pub mod Exits
 pub mod FirstSteps
 pub mod FromGrammar
+pub mod IntoCuts
 pub mod Joining
 pub mod Naming
 pub mod PartSteps
