@@ -204,19 +204,19 @@ module _ (place : Place) (level : Level) (text : List ℕ) (from : ℕ) (h : fro
 -- ---- commands in brackets ----
 
 module _ (level : Level) where
-  commands-closed : (b : ℕ) (text : List ℕ) → begins 93 (drop (skipped 0 (b ∷ text)) (b ∷ text)) ≡ true → commands level 0 (b ∷ text) ≡ takes tt (skipped 0 (b ∷ text))
+  pub commands-closed : (b : ℕ) (text : List ℕ) → begins 93 (drop (skipped 0 (b ∷ text)) (b ∷ text)) ≡ true → commands level 0 (b ∷ text) ≡ takes tt (skipped 0 (b ∷ text))
   unfolding commands
   commands-closed b text e = rw (e, commands)
 
-  commands-ended : (b : ℕ) (text : List ℕ) → begins 93 (drop (skipped 0 (b ∷ text)) (b ∷ text)) ≡ false → nat_lt (skipped 0 (b ∷ text)) (length (b ∷ text)) ≡ false → commands level 0 (b ∷ text) ≡ fails CloseBracket
+  pub commands-ended : (b : ℕ) (text : List ℕ) → begins 93 (drop (skipped 0 (b ∷ text)) (b ∷ text)) ≡ false → nat_lt (skipped 0 (b ∷ text)) (length (b ∷ text)) ≡ false → commands level 0 (b ∷ text) ≡ fails CloseBracket
   unfolding commands
   commands-ended b text e f = rw (e, commands, f)
 
-  commands-more : (b : ℕ) (text : List ℕ) (ws : List PlainWord) (n : ℕ) → begins 93 (drop (skipped 0 (b ∷ text)) (b ∷ text)) ≡ false → nat_lt (skipped 0 (b ∷ text)) (length (b ∷ text)) ≡ true → words places.Brackets level 0 (drop (skipped 0 (b ∷ text)) (b ∷ text)) ≡ takes ws n → commands level 0 (b ∷ text) ≡ after 1 (commands level (pred (skipped 0 (b ∷ text) + n)) text)
+  pub commands-more : (b : ℕ) (text : List ℕ) (ws : List PlainWord) (n : ℕ) → begins 93 (drop (skipped 0 (b ∷ text)) (b ∷ text)) ≡ false → nat_lt (skipped 0 (b ∷ text)) (length (b ∷ text)) ≡ true → words places.Brackets level 0 (drop (skipped 0 (b ∷ text)) (b ∷ text)) ≡ takes ws n → commands level 0 (b ∷ text) ≡ after 1 (commands level (pred (skipped 0 (b ∷ text) + n)) text)
   unfolding commands
   commands-more b text ws n e f g = rw (e, commands, f, g)
 
-  commands-fault : (b : ℕ) (text : List ℕ) (fault : ParseFault) → begins 93 (drop (skipped 0 (b ∷ text)) (b ∷ text)) ≡ false → nat_lt (skipped 0 (b ∷ text)) (length (b ∷ text)) ≡ true → words places.Brackets level 0 (drop (skipped 0 (b ∷ text)) (b ∷ text)) ≡ fails fault → commands level 0 (b ∷ text) ≡ fails fault
+  pub commands-fault : (b : ℕ) (text : List ℕ) (fault : ParseFault) → begins 93 (drop (skipped 0 (b ∷ text)) (b ∷ text)) ≡ false → nat_lt (skipped 0 (b ∷ text)) (length (b ∷ text)) ≡ true → words places.Brackets level 0 (drop (skipped 0 (b ∷ text)) (b ∷ text)) ≡ fails fault → commands level 0 (b ∷ text) ≡ fails fault
   unfolding commands
   commands-fault b text fault e f g = rw (e, commands, f, g)
 
@@ -297,7 +297,7 @@ module _ (depth : ℕ) (text : List ℕ) (from : ℕ) (h : depth ≢ 0) where
 
 -- ---- where a word begins ----
 
-no-separator : (place : Place) (b : ℕ) (text : List ℕ) → is_white_space b ≡ false → is_terminator place b ≡ false → continues_line b text ≡ false → separates place (b ∷ text) ≡ false
+pub no-separator : (place : Place) (b : ℕ) (text : List ℕ) → is_white_space b ≡ false → is_terminator place b ≡ false → continues_line b text ≡ false → separates place (b ∷ text) ≡ false
 no-separator place b text x y z = join (is_white_space b) (is_terminator place b) (continues_line b text) x y z
   where
     join : (p q r : Bool) → p ≡ false → q ≡ false → r ≡ false → (p || q) || r ≡ false
@@ -308,14 +308,14 @@ or-none false q e = (refl, e)
 or-none true q e = cc
 
 -- white space is what is blank or a newline
-no_white : (b : ℕ) → is_blank b ≡ false → b ≢ 10 → is_white_space b ≡ false
+pub no_white : (b : ℕ) → is_blank b ≡ false → b ≢ 10 → is_white_space b ≡ false
 no_white b e f = go (is_white_space b) refl
   where
     go : (v : Bool) → is_white_space b ≡ v → is_white_space b ≡ false
     go false g = g
     go true g = let blank : is_blank b ≡ true = ap (λ v. v && not (b == 10)) g ∙ ap not (ne_eqb b 10 f) in cc
 
-no_newline : (place : Place) (b : ℕ) → is_terminator place b ≡ false → b ≢ 10
+pub no_newline : (place : Place) (b : ℕ) → is_terminator place b ≡ false → b ≢ 10
 no_newline places.Script b e same = let newline : (b == 10) ≡ true = eq-eqb b 10 same in let here = (or-none (b == 10) (b == 59) e).0 in absurd (apart here newline)
   where
     apart : {v : Bool} → v ≡ false → v ≡ true → ⊥

@@ -198,7 +198,7 @@ and_both : (p q : Bool) → p && q ≡ true → (p ≡ true) × (q ≡ true)
 and_both true q e = (refl, e)
 and_both false q e = cc
 
-begins-length : (c : ℕ) (text : List ℕ) → begins c text ≡ true → 0 < length text
+pub begins-length : (c : ℕ) (text : List ℕ) → begins c text ≡ true → 0 < length text
 begins-length c [] e = cc
 begins-length c (b ∷ text) e = omega arith
 
@@ -271,7 +271,7 @@ parts_some level ending (b ∷ text) value n h e f = go (part level b text) refl
     go (fails fault) g = let same = sym (parts-fault level ending b text fault e g) ∙ f in cc
     go (takes first k) g = (after-takes 1 n (mapped (with_part first) (parts level ending k text)) value (sym (parts-part level ending b text first k e g) ∙ f)).1
 
-word_parts_some : (place : Place) (level : Level) (text : List ℕ) (value : PlainParts) (n : ℕ) → separates place text ≡ false → word_parts place level text ≡ takes value n → 0 < n
+pub word_parts_some : (place : Place) (level : Level) (text : List ℕ) (value : PlainParts) (n : ℕ) → separates place text ≡ false → word_parts place level text ≡ takes value n → 0 < n
 word_parts_some place level text value n e f = go (begins 34 text) (begins 123 text) refl refl
   where
     go : (v w : Bool) → begins 34 text ≡ v → begins 123 text ≡ w → 0 < n
@@ -279,7 +279,7 @@ word_parts_some place level text value n e f = go (begins 34 text) (begins 123 t
     go false true g h = (after-takes 1 n (braced place (drop 1 text)) value (sym (parts-braced place level text g h) ∙ f)).1
     go false false g h = parts_some level (endings.Word place) text value n (separates-some place text e) e (sym (parts-bare place level text g h) ∙ f)
 
-mapped-takes : {A B : Type 0} (f : A → B) (r : Read A) (value : B) (n : ℕ) → mapped f r ≡ takes value n → (v : A) × (r ≡ takes v n) × (f v ≡ value)
+pub mapped-takes : {A B : Type 0} (f : A → B) (r : Read A) (value : B) (n : ℕ) → mapped f r ≡ takes value n → (v : A) × (r ≡ takes v n) × (f v ≡ value)
 mapped-takes f (takes v k) value n e =
     let size : k ≡ n = cc in
     let same : f v ≡ value = cc in

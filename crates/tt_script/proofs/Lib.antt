@@ -7,6 +7,7 @@ pub mod Exits
 pub mod FirstSteps
 pub mod FromGrammar
 pub mod IntoCuts
+pub mod IntoGrammar
 pub mod Joining
 pub mod Naming
 pub mod PartSteps

@@ -72,15 +72,15 @@ name_passes zero text = omega arith
 name_passes (suc k) [] = omega arith
 name_passes (suc k) (b ∷ text) = omega (arith, name_passes k text)
 
-name-letter : (b : ℕ) (text : List ℕ) → is_name_byte b ≡ true → name_length 0 (b ∷ text) ≡ suc (name_length 0 text)
+pub name-letter : (b : ℕ) (text : List ℕ) → is_name_byte b ≡ true → name_length 0 (b ∷ text) ≡ suc (name_length 0 text)
 unfolding name_length
 name-letter b text e = rw (e, name_length)
 
-name-colons : (b : ℕ) (text : List ℕ) → is_name_byte b ≡ false → (b == 58) && begins 58 text ≡ true → name_length 0 (b ∷ text) ≡ suc (name_length (prefix_len (λ c. c == 58) text) text)
+pub name-colons : (b : ℕ) (text : List ℕ) → is_name_byte b ≡ false → (b == 58) && begins 58 text ≡ true → name_length 0 (b ∷ text) ≡ suc (name_length (prefix_len (λ c. c == 58) text) text)
 unfolding name_length
 name-colons b text e f = rw (e, f, name_length)
 
-name-none : (b : ℕ) (text : List ℕ) → is_name_byte b ≡ false → (b == 58) && begins 58 text ≡ false → name_length 0 (b ∷ text) ≡ 0
+pub name-none : (b : ℕ) (text : List ℕ) → is_name_byte b ≡ false → (b == 58) && begins 58 text ≡ false → name_length 0 (b ∷ text) ≡ 0
 unfolding name_length
 name-none b text e f = rw (e, f, name_length)
 
