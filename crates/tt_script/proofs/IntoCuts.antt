@@ -11,10 +11,10 @@ and_both : (p q : Bool) → p && q ≡ true → (p ≡ true) × (q ≡ true)
 and_both true q e = (refl, e)
 and_both false q e = cc
 
-or_both : (p q : Bool) → p ≡ false → q ≡ false → p || q ≡ false
+pub or_both : (p q : Bool) → p ≡ false → q ≡ false → p || q ≡ false
 or_both p q e f = rw (e, f)
 
-drop_none : (k : ℕ) → ◌≡◌ {A = List ℕ} (drop k []) []
+pub drop_none : (k : ℕ) → ◌≡◌ {A = List ℕ} (drop k []) []
 drop_none zero = refl
 drop_none (suc k) = refl
 

@@ -1,6 +1,6 @@
 -- What the readers read stands in the grammar.
 use Rattle.std.proofs.Common.{◌≡◌, ◌≢◌, ℕ, zero, suc, pred, ◌+◌, ◌-◌, ◌<◌, ◌≤◌, Bool, true, false, not, ◌==◌, ◌&&◌, ◌||◌, List, [], ◌∷◌, ◌++◌, length, drop, take, refl, ap, sym, ◌∙◌, subst, arith, Option, Some, None}
-use Rattle.std.proofs.lemmas.List.{drop-drop, length-drop, length-take}
+use Rattle.std.proofs.lemmas.List.{drop-drop, length-drop, length-take, take_at, drop_at}
 use Rattle.std.proofs.lemmas.List.Sums.{prefix_len-le-length}
 use Rattle.std.proofs.lemmas.Bool.{eq-eqb, ne_eqb, lt-ltb, ltb-true, ltb-false, eqb-true, eqb-false}
 use Rattle.std.specs.Prelude.{nat_lt, if◌then◌else◌}
@@ -18,7 +18,7 @@ use Rattle.tt_script.specs.declared.command.Place.{Place}
 use Rattle.tt_script.specs.declared.command.Place.TheVariants as places
 use Rattle.tt_script.specs.declared.command.Ending.{Ending}
 use Rattle.tt_script.specs.declared.command.Ending.TheVariants as endings
-use Rattle.tt_script.proofs.IntoCuts.{gap_is, gap_end-none, skipped_is, skipped_end-none}
+use Rattle.tt_script.proofs.IntoCuts.{gap_is, gap_end-none, skipped_is, skipped_end-none, drop_none, or_both}
 use Rattle.tt_script.proofs.Naming.{name-letter, name-colons, name-none}
 use Rattle.tt_script.proofs.Readers.{after-after, braced-closed, braced-after, braced-open}
 use Rattle.tt_script.proofs.PartSteps.{index-too_deep, brackets-too_deep, index-deeper, dollar-braced, dollar-named, dollar-itself, named-element, named-variable, part-dollar, part-brackets, part-escape, part-letter, parts-end, parts-part, parts-fault}
@@ -84,6 +84,33 @@ named_is text e =
     no_length : (xs : List ℕ) → xs ≡ [] → 0 < length xs → ⊥
     no_length xs e h = omega (arith, ap length e)
 
+position-none : (p : ℕ → Bool) (b : ℕ) (text : List ℕ) → p b ≡ true → position_or_len p (b ∷ text) ≡ 0
+position-none p b text e = rw e
+
+position-more : (p : ℕ → Bool) (b : ℕ) (text : List ℕ) → p b ≡ false → position_or_len p (b ∷ text) ≡ suc (position_or_len p text)
+position-more p b text e = rw e (omega arith)
+
+-- the first byte of a kind stands at its place, and none before it
+position_stop : (text : List ℕ) → position_or_len (λ x. x == 125) text < length text → begins 125 (drop (position_or_len (λ x. x == 125) text) text) ≡ true
+position_stop [] h = absurd (omega arith)
+position_stop (b ∷ text) h = go (b == 125) refl (position_stop text)
+  where
+    go : (v : Bool) → (b == 125) ≡ v → (position_or_len (λ x. x == 125) text < length text → begins 125 (drop (position_or_len (λ x. x == 125) text) text) ≡ true) → begins 125 (drop (position_or_len (λ x. x == 125) (b ∷ text)) (b ∷ text)) ≡ true
+    go true e next = ap (λ k. begins 125 (drop k (b ∷ text))) (position-none (λ x. x == 125) b text e) ∙ e
+    go false e next = ap (λ k. begins 125 (drop k (b ∷ text))) (position-more (λ x. x == 125) b text e) ∙ next (omega (arith, position-more (λ x. x == 125) b text e))
+
+position_take : (text : List ℕ) → position_or_len (λ x. x == 125) (take (position_or_len (λ x. x == 125) text) text) ≡ length (take (position_or_len (λ x. x == 125) text) text)
+position_take [] = refl
+position_take (b ∷ text) = go (b == 125) refl (position_take text)
+  where
+    F : List ℕ → ℕ
+    F = position_or_len (λ x. x == 125)
+    go : (v : Bool) → (b == 125) ≡ v → F (take (F text) text) ≡ length (take (F text) text) → F (take (F (b ∷ text)) (b ∷ text)) ≡ length (take (F (b ∷ text)) (b ∷ text))
+    go true e next = ap (λ k. F (take k (b ∷ text))) (position-none (λ x. x == 125) b text e) ∙ sym (ap (λ k. length (take k (b ∷ text))) (position-none (λ x. x == 125) b text e))
+    go false e next =
+        ap (λ k. F (take k (b ∷ text))) (position-more (λ x. x == 125) b text e) ∙ position-more (λ x. x == 125) b (take (F text) text) e ∙ ap suc next
+        ∙ sym (ap (λ k. length (take k (b ∷ text))) (position-more (λ x. x == 125) b text e))
+
 braced_is : (depth b c : ℕ) (text : List ℕ) (p : PlainPart) (n : ℕ) → b ≡ 36 → c ≡ 123 → braced_variable text ≡ takes p n → IsPart depth (b ∷ c ∷ text) p (drop n text)
 braced_is depth b c text p n e f r = go (nat_lt m (length text)) refl
   where
@@ -91,9 +118,21 @@ braced_is depth b c text p n e f r = go (nat_lt m (length text)) refl
     m = position_or_len (λ x. x == 125) text
     go : (v : Bool) → nat_lt m (length text) ≡ v → IsPart depth (b ∷ c ∷ text) p (drop n text)
     go false g = absurd (no_takes (sym (ap (λ v. if v then takes (named (take m text)) (m + 1) else fails VariableBrace) g) ∙ r))
-    go true g = ?
+    go true g =
+        let same = sym (ap (λ v. if v then takes (named (take m text)) (m + 1) else fails VariableBrace) g) ∙ r in
+        let count : m + 1 ≡ n = takes-count same in
+        let closing = byte_at m 125 text (position_stop text (ltb-true m (length text) g)) in
+        braced_part (take m text) e f closing.1 (joined m text ∙ ap (λ t. take m text ++ t) (closing.2 ∙ ap (λ k. closing.0 ∷ drop k text) count)) (position_take text) (sym (takes-value same))
 
 -- ---- a level in ----
+
+parts-passes_one : (level : Level) (ending : Ending) (k b : ℕ) (text : List ℕ) → parts level ending (suc k) (b ∷ text) ≡ after 1 (parts level ending k text)
+unfolding parts
+parts-passes_one level ending k b text = refl
+
+parts-none : (level : Level) (ending : Ending) (k : ℕ) → parts level ending k [] ≡ after k (parts_at_end ending)
+unfolding parts
+parts-none level ending k = refl
 
 -- the readers of a level read what the grammar has one level in
 abbrev pub IndexIs : ℕ → List ℕ → PlainParts → ℕ → Type 0
@@ -132,13 +171,106 @@ script_is (suc depth) b text inside n e i =
 
 module _ (depth : ℕ) (sound : Sound depth) where
   dollar_is : (b : ℕ) (text : List ℕ) (p : PlainPart) (n : ℕ) → b ≡ 36 → dollar (level depth) text ≡ takes p n → IsPart depth (b ∷ text) p (drop n text)
-  dollar_is b text p n e r = ?
+  dollar_is b text p n e r = go (begins 123 text) (nat_lt 0 (name_length 0 text)) (begins 40 (drop (name_length 0 text) text)) refl refl refl
+    where
+      k : ℕ
+      k = name_length 0 text
+      brace : (xs : List ℕ) → begins 123 xs ≡ true → (m : ℕ) → after 1 (braced_variable (drop 1 xs)) ≡ takes p m → IsPart depth (b ∷ xs) p (drop m xs)
+      brace [] f m g = cc
+      brace (c ∷ xs) f m g =
+          let read = after-takes 1 m (braced_variable xs) p g in
+          let count : suc (m - 1) ≡ m = omega (arith, read.1) in
+          subst (λ j. IsPart depth (b ∷ c ∷ xs) p (drop j (c ∷ xs))) count (braced_is depth b c xs p (m - 1) e (eqb-true c 123 f) read.0)
+      go : (u v w : Bool) → begins 123 text ≡ u → nat_lt 0 k ≡ v → begins 40 (drop k text) ≡ w → IsPart depth (b ∷ text) p (drop n text)
+      go true v w f g h = brace text f n (sym (dollar-braced (level depth) text f) ∙ r)
+      go false false w f g h =
+          let same = sym (dollar-itself (level depth) text f g) ∙ r in
+          let none_named : k ≡ 0 = omega (arith, ltb-false 0 k g) in
+          subst (λ j. IsPart depth (b ∷ text) p (drop j text)) (takes-count same) (subst (λ q. IsPart depth (b ∷ text) q text) (takes-value same) (dollar_part e f none_named))
+      go false true false f g h =
+          let same = sym (dollar-named (level depth) text f g ∙ named-variable (level depth) text k h) ∙ r in
+          subst (λ j. IsPart depth (b ∷ text) p (drop j text)) (takes-count same) (subst (λ q. IsPart depth (b ∷ text) q (drop k text)) (takes-value same) (variable_part e (named_is text g) h))
+      go false true true f g h =
+          let found = and_then-takes _ _ p n (sym (dollar-named (level depth) text f g ∙ named-element (level depth) text k h) ∙ r) in
+          let read = after-takes (k + 1) found.1 ((level depth).index (drop (k + 1) text)) found.0 found.2 in
+          let count : k + 1 + (found.1 - (k + 1)) + 1 ≡ n = omega (arith, read.1, takes-count found.3) in
+          subst (λ j. IsPart depth (b ∷ text) p (drop j text)) count (subst (λ q. IsPart depth (b ∷ text) q (drop (k + 1 + (found.1 - (k + 1)) + 1) text)) (takes-value found.3) (element_is depth b text found.0 (found.1 - (k + 1)) k e (named_is text g) h (sound.index (drop (k + 1) text) found.0 (found.1 - (k + 1)) read.0)))
 
   part_is : (b : ℕ) (text : List ℕ) (p : PlainPart) (n : ℕ) → part (level depth) b text ≡ takes p n → IsPart depth (b ∷ text) p (drop n text)
   part_is b text p n r = go (b == 36) (b == 91) (b == 92) refl refl refl
     where
       go : (u v w : Bool) → (b == 36) ≡ u → (b == 91) ≡ v → (b == 92) ≡ w → IsPart depth (b ∷ text) p (drop n text)
       go true v w e f g = dollar_is b text p n (eqb-true b 36 e) (sym (part-dollar (level depth) b text e) ∙ r)
-      go false true w e f g = ?
-      go false false true e f g = ?
-      go false false false e f g = ?
+      go false true w e f g =
+          let found = and_then-takes _ _ p n (sym (part-brackets (level depth) b text e f) ∙ r) in
+          subst (λ j. IsPart depth (b ∷ text) p (drop j text)) (takes-count found.3) (subst (λ q. IsPart depth (b ∷ text) q (drop (found.1 + 1) text)) (takes-value found.3) (script_is depth b text found.0 found.1 (eqb-true b 91 f) (sound.brackets text found.0 found.1 found.2)))
+      go false false true e f g =
+          let same = sym (part-escape (level depth) b text e f g) ∙ r in
+          escape_part (eqb-true b 92 g) (sym (takes-value same)) (ap (λ j. drop j text) (sym (takes-count same)))
+      go false false false e f g =
+          let same = sym (part-letter (level depth) b text e f g) ∙ r in
+          subst (λ j. IsPart depth (b ∷ text) p (drop j text)) (takes-count same) (subst (λ q. IsPart depth (b ∷ text) q text) (takes-value same) (byte_part (eqb-false b 36 e) (eqb-false b 91 f) (eqb-false b 92 g)))
+
+  parts_is : (ending : Ending) (k : ℕ) (text : List ℕ) (value : PlainParts) (n : ℕ) → parts (level depth) ending k text ≡ takes value n → IsParts depth ending (drop k text) value (drop n text)
+  parts_is ending k [] value n r = at_all ending (sym (parts-none (level depth) ending k) ∙ r)
+    where
+      at_all : (e : Ending) → after k (parts_at_end e) ≡ takes value n → IsParts depth e (drop k []) value (drop n [])
+      at_all (endings.Word place) q =
+          subst (λ xs. IsParts depth (endings.Word place) xs value (drop n [])) (sym (drop_none k)) (subst (λ xs. IsParts depth (endings.Word place) [] value xs) (sym (drop_none n)) (subst (λ v. IsParts depth (endings.Word place) [] v []) (takes-value q) (parts_end refl)))
+      at_all endings.Quote q = absurd (no_takes q)
+      at_all endings.Parenthesis q = absurd (no_takes q)
+  parts_is ending (suc k) (b ∷ text) value n r =
+      let read = after-takes 1 n (parts (level depth) ending k text) value (sym (parts-passes_one (level depth) ending k b text) ∙ r) in
+      let count : suc (n - 1) ≡ n = omega (arith, read.1) in
+      subst (λ j. IsParts depth ending (drop k text) value (drop j (b ∷ text))) count (parts_is ending k text value (n - 1) read.0)
+  parts_is ending zero (b ∷ text) value n r = go (ends_parts ending (b ∷ text)) refl (part (level depth) b text) refl (λ j others m. parts_is ending j text others m)
+    where
+      go : (v : Bool) → ends_parts ending (b ∷ text) ≡ v → (q : Read PlainPart) → part (level depth) b text ≡ q → ((j : ℕ) (others : PlainParts) (m : ℕ) → parts (level depth) ending j text ≡ takes others m → IsParts depth ending (drop j text) others (drop m text)) → IsParts depth ending (b ∷ text) value (drop n (b ∷ text))
+      go true e q f next =
+          let same = sym (parts-end (level depth) ending b text e) ∙ r in
+          subst (λ j. IsParts depth ending (b ∷ text) value (drop j (b ∷ text))) (takes-count same) (subst (λ v. IsParts depth ending (b ∷ text) v (b ∷ text)) (takes-value same) (parts_end e))
+      go false e (fails fault) f next = absurd (no_takes (sym (parts-fault (level depth) ending b text fault e f) ∙ r))
+      go false e (takes first m) f next =
+          let outer = after-takes 1 n (mapped (with_part first) (parts (level depth) ending m text)) value (sym (parts-part (level depth) ending b text first m e f) ∙ r) in
+          let inner = mapped-takes (with_part first) (parts (level depth) ending m text) value (n - 1) outer.0 in
+          let count : suc (n - 1) ≡ n = omega (arith, outer.1) in
+          subst (λ j. IsParts depth ending (b ∷ text) value (drop j (b ∷ text))) count (parts_more e (part_is b text first m f) (next m inner.0 (n - 1) inner.1) (sym inner.2))
+
+  -- ---- words ----
+
+  closed_quote : (place : Place) (text : List ℕ) (value : PlainParts) (m : ℕ) → parts (level depth) endings.Quote 0 text ≡ takes value m → separates place (drop (m + 1) text) ≡ true → (b : ℕ) → b ≡ 34 → IsWordParts depth place (b ∷ text) value (drop (m + 1) text)
+  closed_quote place text value m r f b e =
+      let derived = parts_is endings.Quote 0 text value m r in
+      let closing = byte_at m 34 text (parts_closed derived) in
+      in_quotes e closing.1 (subst (IsParts depth endings.Quote text value) closing.2 derived) f
+
+  quoted_is : (place : Place) (b : ℕ) (text : List ℕ) (value : PlainParts) (n : ℕ) → b ≡ 34 → quoted place (level depth) text ≡ takes value n → IsWordParts depth place (b ∷ text) value (drop n text)
+  quoted_is place b text value n e r =
+      let found = and_then-takes (parts (level depth) endings.Quote 0 text) _ value n (sym (quoted-on place (level depth) text) ∙ r) in
+      go found.0 found.1 found.2 found.3 (separates place (drop (found.1 + 1) text)) refl
+    where
+      go : (w : PlainParts) (m : ℕ) → parts (level depth) endings.Quote 0 text ≡ takes w m → separated place AfterQuote text w (m + 1) ≡ takes value n → (v : Bool) → separates place (drop (m + 1) text) ≡ v → IsWordParts depth place (b ∷ text) value (drop n text)
+      go w m f g false h = absurd (no_takes (sym (separated-none place AfterQuote text w (m + 1) h) ∙ g))
+      go w m f g true h =
+          let same = sym (separated-yes place AfterQuote text w (m + 1) h) ∙ g in
+          subst (λ j. IsWordParts depth place (b ∷ text) value (drop j text)) (takes-count same) (subst (λ v. IsWordParts depth place (b ∷ text) v (drop (m + 1) text)) (takes-value same) (closed_quote place text w m f h b e))
+
+  brace_is : (place : Place) (b : ℕ) (text : List ℕ) (value : PlainParts) (n : ℕ) → b ≡ 123 → braced place text ≡ takes value n → IsWordParts depth place (b ∷ text) value (drop n text)
+  brace_is place b text value n e r = go (matching_brace text) refl
+    where
+      closes : (m : ℕ) → matching_brace text ≡ Some m → (v : Bool) → separates place (drop (m + 1) text) ≡ v → IsWordParts depth place (b ∷ text) value (drop n text)
+      closes m f false h = absurd (no_takes (sym (braced-after place text m f h) ∙ r))
+      closes m f true h =
+          let same = sym (braced-closed place text m f h) ∙ r in
+          let at_brace = (matching_brace_law text m).0 f in
+          let inner : take m text ≡ at_brace.inner = ap (take m) at_brace.cut ∙ take_at at_brace.inner (125 ∷ at_brace.rest) m at_brace.place in
+          let rest : drop (m + 1) text ≡ at_brace.rest = sym (drop-drop 1 m text) ∙ ap (λ t. drop 1 (drop m t)) at_brace.cut ∙ ap (drop 1) (drop_at at_brace.inner (125 ∷ at_brace.rest) m at_brace.place) in
+          subst (λ j. IsWordParts depth place (b ∷ text) value (drop j text)) (takes-count same) (subst (λ t. IsWordParts depth place (b ∷ text) value t) (sym rest)
+            (in_braces at_brace.inner e refl at_brace.cut at_brace.balanced (ap (separates place) (sym rest) ∙ h) (sym (takes-value same) ∙ ap (λ xs. letters_of (joined_lines 0 xs)) inner)))
+      go : (o : Option ℕ) → matching_brace text ≡ o → IsWordParts depth place (b ∷ text) value (drop n text)
+      go None f = absurd (no_takes (sym (braced-open place text f) ∙ r))
+      go (Some m) f = closes m f (separates place (drop (m + 1) text)) refl
+
+  word_parts_is : (place : Place) (text : List ℕ) (value : PlainParts) (n : ℕ) → word_parts place (level depth) text ≡ takes value n → IsWordParts depth place text value (drop n text)
+  word_parts_is place [] value n r = ?
+  word_parts_is place (b ∷ text) value n r = ?
