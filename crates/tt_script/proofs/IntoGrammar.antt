@@ -13,7 +13,7 @@ use Rattle.tt_script.specs.Words.{PlainPart, letters, variable, element, script,
 use Rattle.tt_script.specs.Reading.{Read, takes, fails, after, mapped, and_then, begins, separates, separated, is_terminator, continues_line, ends_command, ends_parts, expands, letters_of, joined_lines, name_length, is_name_byte, named, Level, level, part, parts, parts_at_end, dollar, braced_variable, named_variable, word_parts, quoted, braced, word, words, gap, skipped, commands}
 use Rattle.tt_script.specs.Grammar.{IsGap, begins_gap, IsSkipped, begins_skipped, IsNamed, IsPart, byte_part, escape_part, script_part, variable_part, element_part, braced_part, dollar_part, IsParts, parts_end, parts_more, IsWordParts, in_quotes, in_braces, bare, IsWord, expanded, whole_word, IsWords, last_word, next_word, IsCommands, no_command, one_command}
 use Rattle.tt_script.specs.declared.command.ParseFault.{ParseFault}
-use Rattle.tt_script.specs.declared.command.ParseFault.TheVariants.{AfterQuote, AfterBrace, VariableBrace}
+use Rattle.tt_script.specs.declared.command.ParseFault.TheVariants.{AfterQuote, AfterBrace, VariableBrace, CloseBracket}
 use Rattle.tt_script.specs.declared.command.Place.{Place}
 use Rattle.tt_script.specs.declared.command.Place.TheVariants as places
 use Rattle.tt_script.specs.declared.command.Ending.{Ending}
@@ -130,6 +130,18 @@ parts-passes_one : (level : Level) (ending : Ending) (k b : ℕ) (text : List �
 unfolding parts
 parts-passes_one level ending k b text = refl
 
+words-passes_one : (place : Place) (level : Level) (k b : ℕ) (text : List ℕ) → words place level (suc k) (b ∷ text) ≡ after 1 (words place level k text)
+unfolding words
+words-passes_one place level k b text = refl
+
+commands-passes_one : (level : Level) (k b : ℕ) (text : List ℕ) → commands level (suc k) (b ∷ text) ≡ after 1 (commands level k text)
+unfolding commands
+commands-passes_one level k b text = refl
+
+commands-none : (level : Level) (k : ℕ) → commands level k [] ≡ fails CloseBracket
+unfolding commands
+commands-none level k = refl
+
 parts-none : (level : Level) (ending : Ending) (k : ℕ) → parts level ending k [] ≡ after k (parts_at_end ending)
 unfolding parts
 parts-none level ending k = refl
@@ -168,6 +180,17 @@ script_is zero b text inside n e i = absurd i
 script_is (suc depth) b text inside n e i =
     let closing = byte_at n 93 text i.2 in
     script_part e closing.1 (joined n text ∙ ap (λ xs. xs ++ drop n text) (sym i.0) ∙ ap (λ t. inside ++ t) closing.2) (subst (IsCommands depth text) closing.2 i.1)
+
+or_none : (p q : Bool) → p || q ≡ false → (p ≡ false) × (q ≡ false)
+or_none false q e = (refl, e)
+or_none true q e = cc
+
+-- a word begins where neither a gap nor a terminator stands
+word_begins : (place : Place) (text : List ℕ) → begins_gap text ≡ false → ends_command place text ≡ false → separates place text ≡ false
+word_begins place [] e f = cc
+word_begins place (b ∷ text) e f =
+    let both = or_none (is_blank b) (continues_line b text) e in
+    no-separator place b text (no_white b both.0 (no_newline place b f)) f both.1
 
 module _ (depth : ℕ) (sound : Sound depth) where
   dollar_is : (b : ℕ) (text : List ℕ) (p : PlainPart) (n : ℕ) → b ≡ 36 → dollar (level depth) text ≡ takes p n → IsPart depth (b ∷ text) p (drop n text)
@@ -272,5 +295,66 @@ module _ (depth : ℕ) (sound : Sound depth) where
       go (Some m) f = closes m f (separates place (drop (m + 1) text)) refl
 
   word_parts_is : (place : Place) (text : List ℕ) (value : PlainParts) (n : ℕ) → word_parts place (level depth) text ≡ takes value n → IsWordParts depth place text value (drop n text)
-  word_parts_is place [] value n r = ?
-  word_parts_is place (b ∷ text) value n r = ?
+  word_parts_is place [] value n r = bare refl refl (parts_is (endings.Word place) 0 [] value n (sym (parts-bare place (level depth) [] refl refl) ∙ r))
+  word_parts_is place (b ∷ text) value n r = go (b == 34) (b == 123) refl refl
+    where
+      go : (v w : Bool) → (b == 34) ≡ v → (b == 123) ≡ w → IsWordParts depth place (b ∷ text) value (drop n (b ∷ text))
+      go true w e f =
+          let read = after-takes 1 n (quoted place (level depth) text) value (sym (parts-quoted place (level depth) (b ∷ text) e) ∙ r) in
+          let count : suc (n - 1) ≡ n = omega (arith, read.1) in
+          subst (λ j. IsWordParts depth place (b ∷ text) value (drop j (b ∷ text))) count (quoted_is place b text value (n - 1) (eqb-true b 34 e) read.0)
+      go false true e f =
+          let read = after-takes 1 n (braced place text) value (sym (parts-braced place (level depth) (b ∷ text) e f) ∙ r) in
+          let count : suc (n - 1) ≡ n = omega (arith, read.1) in
+          subst (λ j. IsWordParts depth place (b ∷ text) value (drop j (b ∷ text))) count (brace_is place b text value (n - 1) (eqb-true b 123 f) read.0)
+      go false false e f = bare e f (parts_is (endings.Word place) 0 (b ∷ text) value n (sym (parts-bare place (level depth) (b ∷ text) e f) ∙ r))
+
+  word_is : (place : Place) (text : List ℕ) (w : PlainWord) (n : ℕ) → separates place text ≡ false → word place (level depth) text ≡ takes w n → IsWord depth place text w (drop n text) × (0 < n)
+  word_is place text w n h r = go (expands text) refl
+    where
+      go : (v : Bool) → expands text ≡ v → IsWord depth place text w (drop n text) × (0 < n)
+      go true e =
+          let outer = after-takes 3 n (mapped (made true) (word_parts place (level depth) (drop 3 text))) w (sym (word-expands place (level depth) text e) ∙ r) in
+          let inner = mapped-takes (made true) (word_parts place (level depth) (drop 3 text)) w (n - 3) outer.0 in
+          let count : 3 + (n - 3) ≡ n = omega (arith, outer.1) in
+          (subst (λ t. IsWord depth place text w t) (drop-drop (n - 3) 3 text ∙ ap (λ j. drop j text) count) (subst (λ q. IsWord depth place text q (drop (n - 3) (drop 3 text))) inner.2 (expanded e (word_parts_is place (drop 3 text) inner.0 (n - 3) inner.1))), omega (arith, outer.1))
+      go false e =
+          let inner = mapped-takes (made false) (word_parts place (level depth) text) w n (sym (word-plain place (level depth) text e) ∙ r) in
+          (subst (λ q. IsWord depth place text q (drop n text)) inner.2 (whole_word h e (word_parts_is place text inner.0 n inner.1)), word_parts_some place (level depth) text inner.0 n h inner.1)
+
+  words_is : (place : Place) (k : ℕ) (text : List ℕ) (ws : List PlainWord) (n : ℕ) → separates place (drop k text) ≡ false → words place (level depth) k text ≡ takes ws n → IsWords depth place (drop k text) ws (drop n text) × (k < n)
+  words_is place k [] ws n h r = let here : separates place [] ≡ false = ap (separates place) (sym (drop_none k)) ∙ h in cc
+  words_is place (suc k) (b ∷ text) ws n h r =
+      let read = after-takes 1 n (words place (level depth) k text) ws (sym (words-passes_one place (level depth) k b text) ∙ r) in
+      let count : suc (n - 1) ≡ n = omega (arith, read.1) in
+      let rest = words_is place k text ws (n - 1) h read.0 in
+      (subst (λ j. IsWords depth place (drop k text) ws (drop j (b ∷ text))) count rest.0, omega (arith, rest.1))
+  words_is place zero (b ∷ text) ws n h r = go (word place (level depth) (b ∷ text)) refl (λ j others m. words_is place j text others m)
+    where
+      xs : List ℕ
+      xs = b ∷ text
+      go : (q : Read PlainWord) → word place (level depth) (b ∷ text) ≡ q → ((j : ℕ) (others : List PlainWord) (m : ℕ) → separates place (drop j text) ≡ false → words place (level depth) j text ≡ takes others m → IsWords depth place (drop j text) others (drop m text) × (j < m)) → IsWords depth place (b ∷ text) ws (drop n (b ∷ text)) × (0 < n)
+      go (fails fault) e next = absurd (no_takes (sym (words-fault place (level depth) b text fault e) ∙ r))
+      go (takes first m) e next = after_word first m e (word_is place (b ∷ text) first m h e) (ends_command place (drop (m + gap 0 (drop m (b ∷ text))) (b ∷ text))) refl
+        where
+          after_word : (first : PlainWord) (m : ℕ) → word place (level depth) (b ∷ text) ≡ takes first m → IsWord depth place (b ∷ text) first (drop m (b ∷ text)) × (0 < m) → (v : Bool) → ends_command place (drop (m + gap 0 (drop m (b ∷ text))) (b ∷ text)) ≡ v → IsWords depth place (b ∷ text) ws (drop n (b ∷ text)) × (0 < n)
+          after_word first m e this true f =
+              let same = sym (words-one place (level depth) b text first m e f) ∙ r in
+              let next_place : drop (gap 0 (drop m xs)) (drop m xs) ≡ drop (m + gap 0 (drop m xs)) xs = drop-drop (gap 0 (drop m xs)) m xs in
+              (subst (λ j. IsWords depth place xs ws (drop j xs)) (takes-count same) (subst (λ v. IsWords depth place xs v (drop m xs)) (takes-value same) (last_word this.0 (gap_is 0 (drop m xs)) (ap (ends_command place) next_place ∙ f))), omega (arith, takes-count same, this.1))
+          after_word first m e this false f =
+              let g : ℕ = gap 0 (drop m xs) in
+              let j : ℕ = pred (m + g) in
+              let count : suc j ≡ m + g = omega (arith, this.1) in
+              let next_place : drop g (drop m xs) ≡ drop (m + g) xs = drop-drop g m xs in
+              let front : drop (m + g) xs ≡ drop j text = ap (λ i. drop i xs) (sym count) in
+              let gap_here : IsGap (drop m xs) (drop j text) = subst (IsGap (drop m xs)) (next_place ∙ front) (gap_is 0 (drop m xs)) in
+              let unended : ends_command place (drop j text) ≡ false = ap (ends_command place) (sym front) ∙ f in
+              let begins_word : separates place (drop j text) ≡ false = word_begins place (drop j text) (gap_end-none gap_here) unended in
+              let outer = after-takes 1 n (mapped (λ others. first ∷ others) (words place (level depth) j text)) ws (sym (words-more place (level depth) b text first m e f) ∙ r) in
+              let inner = mapped-takes (λ others. first ∷ others) (words place (level depth) j text) ws (n - 1) outer.0 in
+              let size : suc (n - 1) ≡ n = omega (arith, outer.1) in
+              let rest = next j inner.0 (n - 1) begins_word inner.1 in
+              (subst (λ i. IsWords depth place xs ws (drop i xs)) size (subst (λ v. IsWords depth place xs v (drop (n - 1) text)) inner.2 (next_word this.0 gap_here unended rest.0)), omega (arith, outer.1))
+
+-- ---- commands ----
