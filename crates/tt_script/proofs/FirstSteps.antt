@@ -24,7 +24,7 @@ pub first-on : (text : List ℕ) → first text ≡ command_at (skipped 0 text) 
 unfolding first
 first-on text = refl
 
-same_command : (ws : List PlainWord) (a b c a' b' c' : ℕ) → a ≡ a' → b ≡ b' → c ≡ c' → command (record { words = ws; start = a; text_end = b; next = c }) ≡ command (record { words = ws; start = a'; text_end = b'; next = c' })
+pub same_command : (ws : List PlainWord) (a b c a' b' c' : ℕ) → a ≡ a' → b ≡ b' → c ≡ c' → command (record { words = ws; start = a; text_end = b; next = c }) ≡ command (record { words = ws; start = a'; text_end = b'; next = c' })
 same_command ws a b c a' b' c' p q r = ap (λ x. command (record { words = ws; start = x; text_end = b; next = c })) p ∙ ap (λ x. command (record { words = ws; start = a'; text_end = x; next = c })) q ∙ ap (λ x. command (record { words = ws; start = a'; text_end = b'; next = x })) r
 
 same_end : (start end : ℕ) → start ≤ end → start + (end - start) ≡ end

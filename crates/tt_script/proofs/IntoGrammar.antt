@@ -30,7 +30,7 @@ use Rattle.tt_script.proofs.FromGrammar.{mapped-takes, word_parts_some}
 takes-value : {A : Type 0} {v w : A} {m n : ℕ} → takes v m ≡ takes w n → v ≡ w
 takes-value e = cc
 
-takes-count : {A : Type 0} {v w : A} {m n : ℕ} → takes v m ≡ takes w n → m ≡ n
+pub takes-count : {A : Type 0} {v w : A} {m n : ℕ} → takes v m ≡ takes w n → m ≡ n
 takes-count e = cc
 
 no_takes : {A : Type 0} {fault : ParseFault} {v : A} {n : ℕ} → fails fault ≡ takes v n → ⊥
@@ -191,6 +191,29 @@ word_begins place [] e f = cc
 word_begins place (b ∷ text) e f =
     let both = or_none (is_blank b) (continues_line b text) e in
     no-separator place b text (no_white b both.0 (no_newline place b f)) f both.1
+
+-- a command begins where nothing is skipped
+pub script_begins : (text : List ℕ) → begins_skipped text ≡ false → 0 < length text → separates places.Script text ≡ false
+script_begins [] e h = absurd (omega arith)
+script_begins (b ∷ text) e h =
+    let outer = or_none ((is_white_space b || b == 59) || continues_line b text) (b == 35) e in
+    let inner = or_none (is_white_space b || b == 59) (continues_line b text) outer.0 in
+    let both = or_none (is_white_space b) (b == 59) inner.0 in
+    no-separator places.Script b text both.0 (or_both (b == 10) (b == 59) (ne_eqb b 10 (λ same. white_newline b same both.0)) both.1) inner.1
+  where
+    white_newline : (b : ℕ) → b ≡ 10 → is_white_space b ≡ false → ⊥
+    white_newline b same white = let true_here : is_white_space b ≡ true = ap is_white_space same in cc
+
+command_begins : (text : List ℕ) → begins_skipped text ≡ false → begins 93 text ≡ false → 0 < length text → separates places.Brackets text ≡ false
+command_begins [] e f h = absurd (omega arith)
+command_begins (b ∷ text) e f h =
+    let outer = or_none ((is_white_space b || b == 59) || continues_line b text) (b == 35) e in
+    let inner = or_none (is_white_space b || b == 59) (continues_line b text) outer.0 in
+    let both = or_none (is_white_space b) (b == 59) inner.0 in
+    no-separator places.Brackets b text both.0 (or_both (b == 10 || b == 59) (b == 93) (or_both (b == 10) (b == 59) (ne_eqb b 10 (λ same. white_newline b same both.0)) both.1) f) inner.1
+  where
+    white_newline : (b : ℕ) → b ≡ 10 → is_white_space b ≡ false → ⊥
+    white_newline b same white = let true_here : is_white_space b ≡ true = ap is_white_space same in cc
 
 module _ (depth : ℕ) (sound : Sound depth) where
   dollar_is : (b : ℕ) (text : List ℕ) (p : PlainPart) (n : ℕ) → b ≡ 36 → dollar (level depth) text ≡ takes p n → IsPart depth (b ∷ text) p (drop n text)
@@ -358,3 +381,53 @@ module _ (depth : ℕ) (sound : Sound depth) where
               (subst (λ i. IsWords depth place xs ws (drop i xs)) size (subst (λ v. IsWords depth place xs v (drop (n - 1) text)) inner.2 (next_word this.0 gap_here unended rest.0)), omega (arith, outer.1))
 
 -- ---- commands ----
+
+  commands_is : (k : ℕ) (text : List ℕ) (n : ℕ) → commands (level depth) k text ≡ takes tt n → IsCommands depth (drop k text) (drop n text) × (begins 93 (drop n text) ≡ true)
+  commands_is k [] n r = absurd (no_takes (sym (commands-none (level depth) k) ∙ r))
+  commands_is (suc k) (b ∷ text) n r =
+      let read = after-takes 1 n (commands (level depth) k text) tt (sym (commands-passes_one (level depth) k b text) ∙ r) in
+      let count : suc (n - 1) ≡ n = omega (arith, read.1) in
+      let rest = commands_is k text (n - 1) read.0 in
+      (subst (λ j. IsCommands depth (drop k text) (drop j (b ∷ text))) count rest.0, subst (λ j. begins 93 (drop j (b ∷ text)) ≡ true) count rest.1)
+  commands_is zero (b ∷ text) n r = go (begins 93 start) refl (nat_lt s (length xs)) refl (words places.Brackets (level depth) 0 start) refl (λ j m. commands_is j text m)
+    where
+      xs : List ℕ
+      xs = b ∷ text
+      s : ℕ
+      s = skipped 0 (b ∷ text)
+      start : List ℕ
+      start = drop s (b ∷ text)
+      go : (v : Bool) → begins 93 (drop (skipped 0 (b ∷ text)) (b ∷ text)) ≡ v → (u : Bool) → nat_lt (skipped 0 (b ∷ text)) (length (b ∷ text)) ≡ u → (q : Read (List PlainWord)) → words places.Brackets (level depth) 0 (drop (skipped 0 (b ∷ text)) (b ∷ text)) ≡ q → ((j m : ℕ) → commands (level depth) j text ≡ takes tt m → IsCommands depth (drop j text) (drop m text) × (begins 93 (drop m text) ≡ true)) → IsCommands depth (b ∷ text) (drop n (b ∷ text)) × (begins 93 (drop n (b ∷ text)) ≡ true)
+      go true e u f q g next =
+          let same = takes-count (sym (commands-closed (level depth) b text e) ∙ r) in
+          (subst (λ j. IsCommands depth xs (drop j xs)) same (no_command (skipped_is 0 xs) e), subst (λ j. begins 93 (drop j xs) ≡ true) same e)
+      go false e false f q g next = absurd (no_takes (sym (commands-ended (level depth) b text e f) ∙ r))
+      go false e true f (fails fault) g next = absurd (no_takes (sym (commands-fault (level depth) b text fault e f g) ∙ r))
+      go false e true f (takes ws m) g next =
+          let room : 0 < length start = omega (arith, ltb-true s (length xs) f, length-drop s xs) in
+          let found = words_is places.Brackets 0 start ws m (command_begins start (skipped_end-none (skipped_is 0 xs)) e room) g in
+          let j : ℕ = pred (s + m) in
+          let count : suc j ≡ s + m = omega (arith, found.1) in
+          let rest_at : drop m start ≡ drop j text = drop-drop m s xs ∙ ap (λ i. drop i xs) (sym count) in
+          let read = after-takes 1 n (commands (level depth) j text) tt (sym (commands-more (level depth) b text ws m e f g) ∙ r) in
+          let size : suc (n - 1) ≡ n = omega (arith, read.1) in
+          let rest = next j (n - 1) read.0 in
+          (subst (λ i. IsCommands depth xs (drop i xs)) size (one_command (skipped_is 0 xs) e (subst (IsWords depth places.Brackets start ws) rest_at found.0) rest.0), subst (λ i. begins 93 (drop i xs) ≡ true) size rest.1)
+
+-- every level reads what the grammar has
+pub sound : (depth : ℕ) → Sound depth
+sound zero = record {
+  index = λ text value n r. absurd (no_takes (sym (index-too_deep text) ∙ r));
+  brackets = λ text inside n r. absurd (no_takes (sym (brackets-too_deep text) ∙ r))
+}
+sound (suc depth) = record {
+  index = λ text value n r. parts_is depth (sound depth) endings.Parenthesis 0 text value n (sym (index-deeper depth text) ∙ r);
+  brackets = λ text inside n r.
+    (let found = and_then-takes (commands (level depth) 0 text) (λ _ m. takes (take m text) m) inside n (sym (brackets-deeper depth text) ∙ r) in
+    let size = takes-count found.3 in
+    let here = commands_is depth (sound depth) 0 text found.1 found.2 in
+    (sym (takes-value found.3) ∙ ap (λ m. take m text) size, subst (λ m. IsCommands depth text (drop m text)) size here.0, subst (λ m. begins 93 (drop m text) ≡ true) size here.1))
+}
+
+pub words_stand : (depth : ℕ) (text : List ℕ) (ws : List PlainWord) (n : ℕ) → separates places.Script text ≡ false → words places.Script (level depth) 0 text ≡ takes ws n → IsWords depth places.Script text ws (drop n text) × (0 < n)
+words_stand depth text ws n h r = words_is depth (sound depth) places.Script 0 text ws n h r

@@ -4,6 +4,7 @@ pub mod CommandSteps
 pub mod Cuts
 pub mod Escapes
 pub mod Exits
+pub mod FirstLaw
 pub mod FirstSteps
 pub mod FromGrammar
 pub mod IntoCuts

@@ -1,6 +1,7 @@
 pub mod Answers
 pub mod Building
 pub mod Grammar
+pub mod Law
 pub mod Plain
 pub mod Reading
 pub mod Scanning

@@ -4,6 +4,7 @@
 mod braces;
 mod builder;
 mod command;
+pub mod laws;
 mod names;
 mod parser;
 mod scan;
