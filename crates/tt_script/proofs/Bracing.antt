@@ -1,15 +1,15 @@
 -- One step of the search for a brace that closes.
-use Rattle.std.proofs.Common.{◌≡◌, ◌≢◌, ℕ, zero, suc, ◌+◌, ◌-◌, ◌<◌, ◌≤◌, Bool, true, false, not, ◌||◌, ◌&&◌, ◌==◌, List, [], ◌∷◌, length, get_or, drop, take, min, Option, Some, None, refl, ap, sym, ◌∙◌, arith, add-one, ◌⊎◌, inl, inr, if◌then◌else◌}
-use Rattle.std.proofs.lemmas.List.{drop_more, drop-drop, drop_all, length-drop, length-take}
+use Rattle.std.proofs.Common.{◌≡◌, ◌≢◌, ℕ, zero, suc, ◌+◌, ◌-◌, ◌<◌, ◌≤◌, Bool, true, false, not, ◌==◌, List, [], ◌∷◌, length, get_or, drop, take, min, Option, Some, None, refl, ap, sym, ◌∙◌, arith, ◌⊎◌, inl, inr}
+use Rattle.std.proofs.lemmas.List.{drop_more, drop-drop, drop_all, length-take}
 use Rattle.std.proofs.lemmas.List.Sums.{prefix_len-le-length}
-use Rattle.std.proofs.lemmas.Bool.{eq-eqb, ne_eqb, cases_lt}
+use Rattle.std.proofs.lemmas.Bool.{cases_lt}
 use Rattle.std.proofs.lemmas.Bool.Decides.{eqb_tells}
-use Rattle.std.specs.List.{prefix_len, position_or_len}
-use Rattle.tt_text.specs.Braces.{closing_brace, further, mark_of, Mark, Letter}
+use Rattle.std.specs.List.{prefix_len}
+use Rattle.tt_text.specs.Braces.{closing_brace, further, mark_of, Letter}
 use Rattle.tt_lanes.specs.Classes.{is_special}
 use Rattle.tt_script.proofs.Runs.{next_special}
 use Rattle.tt_script.proofs.Runs.{passes, all}
-use Rattle.tt_script.proofs.Scanning.{unlike, next_special-bounds}
+use Rattle.tt_script.proofs.Scanning.{unlike}
 
 further-further : (m n : ℕ) (o : Option ℕ) → further m (further n o) ≡ further (m + n) o
 further-further m n None = refl

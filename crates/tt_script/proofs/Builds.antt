@@ -1,15 +1,14 @@
 -- Parts in the making, and the plain form of parts.
-use Rattle.std.proofs.Common.{◌≡◌, ℕ, List, [], ◌∷◌, ◌++◌, map, refl, ap, sym, ◌∙◌, append-nil, append_assoc, length, ◌==◌, false}
+use Rattle.std.proofs.Common.{◌≡◌, ℕ, List, [], ◌∷◌, ◌++◌, refl, ap, sym, ◌∙◌, append-nil, append_assoc, length, ◌==◌, false}
 use Rattle.tt_script.specs.Words.{PlainPart, letters, variable, element, script, PlainParts, none, more, with_letters, with_part}
-use Rattle.tt_script.specs.Plain.{in_a_row, plain_step, plain_part, plain_parts, plain_word, plain_words}
+use Rattle.tt_script.specs.Plain.{plain_step, plain_part, plain_parts, plain_word, plain_words}
 use Rattle.tt_script.specs.declared.command.Word.{Word}
-use Rattle.tt_script.specs.Building.{before, so_far, apart}
+use Rattle.tt_script.specs.Building.{before, apart}
 use Rattle.tt_script.specs.declared.command.Part.{Part}
 use Rattle.tt_script.specs.declared.command.Part.TheVariants.{Letters, Variable, Element, Script, rolls-Letters, rolls-Variable, rolls-Element, rolls-Script}
 use Rattle.tt_script.specs.declared.command.Part.TheOpen.{Part-F}
 use Rattle.tt_script.specs.declared.command.Part.TheViews.{roll-Part, out-Part, roll-out-Part}
 use Rattle.tt_script.specs.declared.command.Part.TheFolds.{fold-roll-Part}
-use Rattle.tt_text.specs.declared.text.Text.{Text}
 use Rattle.std.specs.Prelude.{Vec}
 use Rattle.std.specs.declared.alloc.Global.{Global}
 

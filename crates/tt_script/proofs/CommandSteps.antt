@@ -1,10 +1,10 @@
 -- One step of reading words and commands.
-use Rattle.std.proofs.Common.{◌≡◌, ◌≢◌, ℕ, zero, suc, ◌+◌, ◌-◌, ◌<◌, ◌≤◌, Bool, true, false, not, ◌==◌, ◌&&◌, ◌||◌, List, [], ◌∷◌, ◌++◌, length, get_or, drop, take, pred, refl, ap, sym, ◌∙◌, arith}
-use Rattle.std.proofs.lemmas.List.{drop_more, drop-drop, drop_all, length-drop, length-take}
+use Rattle.std.proofs.Common.{◌≡◌, ◌≢◌, ℕ, zero, suc, ◌+◌, ◌-◌, ◌<◌, ◌≤◌, Bool, true, false, not, ◌==◌, ◌&&◌, ◌||◌, List, [], ◌∷◌, length, get_or, drop, take, pred, refl, ap, sym, ◌∙◌, arith}
+use Rattle.std.proofs.lemmas.List.{drop_more, drop-drop, length-drop}
 use Rattle.std.proofs.lemmas.Bool.{eq-eqb, ne_eqb, lt-ltb, le-ltb}
 use Rattle.std.specs.Prelude.{nat_lt}
 use Rattle.tt_text.specs.Characters.{is_white_space, is_blank}
-use Rattle.tt_script.specs.Words.{PlainPart, PlainParts, none, more, PlainWord}
+use Rattle.tt_script.specs.Words.{PlainParts, PlainWord}
 use Rattle.tt_script.specs.Reading.{Read, takes, fails, after, mapped, and_then, begins, Level, level, parts, separates, separated, is_terminator, continues_line, ends_command, quoted, braced, word_parts, expands, begins_black, word, words, gap, skipped, commands}
 use Rattle.tt_script.specs.declared.command.ParseFault.{ParseFault}
 use Rattle.tt_script.specs.declared.command.ParseFault.TheVariants.{AfterQuote, CloseBracket}
@@ -12,7 +12,7 @@ use Rattle.tt_script.specs.declared.command.Place.{Place}
 use Rattle.tt_script.specs.declared.command.Place.TheVariants as places
 use Rattle.tt_script.specs.declared.command.Ending.TheVariants as endings
 use Rattle.tt_script.proofs.PartSteps.{index-deeper}
-use Rattle.tt_script.proofs.Readers.{after-after, after-zero, after-mapped, mapped-mapped, mapped-same}
+use Rattle.tt_script.proofs.Readers.{after-after, after-zero, after-mapped}
 
 -- ---- words in quotes ----
 

@@ -1,5 +1,5 @@
 -- What the grammar cuts off a text, the readers count.
-use Rattle.std.proofs.Common.{◌≡◌, ◌≢◌, ℕ, zero, suc, ◌+◌, ◌-◌, ◌<◌, ◌≤◌, Bool, true, false, not, ◌==◌, ◌&&◌, ◌||◌, List, [], ◌∷◌, ◌++◌, length, drop, take, refl, ap, sym, ◌∙◌, subst, arith}
+use Rattle.std.proofs.Common.{◌≡◌, ℕ, suc, ◌+◌, Bool, true, false, ◌==◌, ◌&&◌, ◌||◌, List, [], ◌∷◌, length, drop, refl, ap, sym, ◌∙◌, subst, arith}
 use Rattle.std.proofs.lemmas.List.{drop-drop}
 use Rattle.std.proofs.lemmas.Bool.{eq-eqb, ne_eqb}
 use Rattle.tt_text.specs.Characters.{is_white_space, is_blank}
@@ -24,7 +24,7 @@ cut_same {text = text} {rest = rest} e c = subst (λ k. Cut k text rest) (sym e)
 pub cut_cut : {m n : ℕ} {text middle rest : List ℕ} → Cut m text middle → Cut n middle rest → Cut (m + n) text rest
 cut_cut {m} {n} {text} {middle} {rest} c d = record {
   place = sym (drop-drop n m text) ∙ ap (drop n) c.place ∙ d.place;
-  size = omega (arith, c.size, d.size)
+  size = omega (arith, c.size, d.size);
 }
 
 or_false : (p q : Bool) → p || q ≡ false → (p ≡ false) × (q ≡ false)

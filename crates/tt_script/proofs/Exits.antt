@@ -1,8 +1,8 @@
 -- The exits of the parser by `?`.
-use Rattle.std.proofs.Common.{◌≡◌, ℕ, ◌+◌, refl, ap, sym, ◌∙◌, subst, Result, Ok, Err}
+use Rattle.std.proofs.Common.{◌≡◌, ℕ, ap, sym, subst, Result, Ok, Err}
 use Rattle.std.specs.Prelude.{IsErrAnd}
 use Rattle.tt_script.specs.Answers.{Answers, Continues, Refuses}
-use Rattle.tt_script.specs.Reading.{Read, takes, fails, after, mapped, and_then}
+use Rattle.tt_script.specs.Reading.{Read, fails, mapped, and_then}
 use Rattle.tt_script.specs.declared.command.ParseFault.{ParseFault}
 use Rattle.tt_script.specs.declared.stop.Stop.{Stop}
 use Rattle.tt_script.specs.declared.stop.Stop.TheVariants.{NoMemory, Fault}

@@ -1,15 +1,15 @@
 -- The first command that is read is the grammar's.
-use Rattle.std.proofs.Common.{◌≡◌, ◌≢◌, ℕ, zero, suc, ◌+◌, ◌-◌, ◌<◌, ◌≤◌, Bool, true, false, List, [], ◌∷◌, length, drop, take, min, refl, ap, sym, ◌∙◌, subst, arith}
-use Rattle.std.proofs.lemmas.List.{drop-drop, length-drop}
-use Rattle.tt_script.specs.Words.{PlainWord, PlainCommand, PlainFirst, nothing, bad, command}
-use Rattle.tt_script.specs.Reading.{Read, takes, fails, separates, ends_command, level, words, gap, skipped, terminator_length, command_at, first}
-use Rattle.tt_script.specs.Grammar.{IsGap, IsSkipped, IsWords, last_word, next_word, IsFirst}
+use Rattle.std.proofs.Common.{◌≡◌, ℕ, ◌+◌, ◌<◌, true, List, [], ◌∷◌, length, drop, refl, ap, sym, ◌∙◌, subst, arith}
+use Rattle.std.proofs.lemmas.List.{length-drop}
+use Rattle.tt_script.specs.Words.{PlainWord, PlainCommand, nothing, bad, command}
+use Rattle.tt_script.specs.Reading.{Read, takes, fails, ends_command, level, words, gap, skipped, terminator_length, command_at, first}
+use Rattle.tt_script.specs.Grammar.{IsSkipped, IsWords, last_word, next_word, IsFirst}
 use Rattle.tt_script.specs.Law.{CommandLaw, NothingLaw, FaultLaw}
 use Rattle.tt_script.specs.declared.script.TheConstants.{DEPTH}
 use Rattle.tt_script.specs.declared.command.ParseFault.{ParseFault}
 use Rattle.tt_script.specs.declared.command.Place.{Place}
 use Rattle.tt_script.specs.declared.command.Place.TheVariants as places
-use Rattle.tt_script.proofs.Cuts.{Cut, gap_cut, skipped_cut}
+use Rattle.tt_script.proofs.Cuts.{gap_cut, skipped_cut}
 use Rattle.tt_script.proofs.IntoCuts.{gap_is, skipped_is, skipped_end-none}
 use Rattle.tt_script.proofs.FromGrammar.{words_read}
 use Rattle.tt_script.proofs.IntoGrammar.{words_stand, script_begins, takes-count}
@@ -66,7 +66,7 @@ stands text xs ws n e h r =
       ended = words_ended found.0;
       start = cut.size;
       text_end = omega (arith, cut.size, again.0.cut.size, same);
-      next = omega (arith, cut.size, again.0.cut.size, same, gaps.size, length-drop 1 (drop (gap 0 (drop n xs)) (drop n xs)))
+      next = omega (arith, cut.size, again.0.cut.size, same, gaps.size, length-drop 1 (drop (gap 0 (drop n xs)) (drop n xs)));
     }
 
 -- what a text begins with, by what stands after what is skipped
@@ -80,9 +80,11 @@ begins_so text = go (drop (skipped 0 text) text) refl
   where
     here : (xs : List ℕ) → drop (skipped 0 text) text ≡ xs → first text ≡ command_at (skipped 0 text) xs
     here xs e = first-on text ∙ ap (command_at (skipped 0 text)) e
+
     words_so : (b : ℕ) (xs : List ℕ) → drop (skipped 0 text) text ≡ b ∷ xs → (q : Read (List PlainWord)) → words places.Script (level DEPTH) 0 (b ∷ xs) ≡ q → Begins text
     words_so b xs e (fails fault) r = faulty fault (skipped 0 text) (here (b ∷ xs) e ∙ at-fault (skipped 0 text) b xs fault r)
     words_so b xs e (takes ws n) r = begun_by _ (here (b ∷ xs) e ∙ at-command (skipped 0 text) b xs ws n r) (stands text (b ∷ xs) ws n e (omega arith) r)
+
     go : (xs : List ℕ) → drop (skipped 0 text) text ≡ xs → Begins text
     go [] e = whole e (here [] e ∙ at-nothing (skipped 0 text) [] refl)
     go (b ∷ xs) e = words_so b xs e (words places.Script (level DEPTH) 0 (b ∷ xs)) refl

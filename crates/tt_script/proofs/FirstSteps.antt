@@ -1,8 +1,8 @@
 -- The first command at a place.
-use Rattle.std.proofs.Common.{◌≡◌, ◌≢◌, ℕ, zero, suc, ◌+◌, ◌-◌, ◌<◌, ◌≤◌, Bool, true, false, List, [], ◌∷◌, length, get_or, drop, take, min, refl, ap, sym, ◌∙◌, arith}
-use Rattle.std.proofs.lemmas.List.{drop_more, drop-drop, drop_all, length-drop}
-use Rattle.tt_script.specs.Words.{PlainWord, PlainCommand, PlainFirst, nothing, bad, command}
-use Rattle.tt_script.specs.Reading.{Read, takes, fails, after, level, words, gap, skipped, terminator_length, command_at, first, moved}
+use Rattle.std.proofs.Common.{◌≡◌, ℕ, ◌+◌, ◌-◌, ◌<◌, ◌≤◌, List, [], ◌∷◌, length, get_or, drop, refl, ap, sym, ◌∙◌, arith}
+use Rattle.std.proofs.lemmas.List.{drop_more, drop-drop, drop_all}
+use Rattle.tt_script.specs.Words.{PlainWord, nothing, bad, command}
+use Rattle.tt_script.specs.Reading.{takes, fails, after, level, words, skipped, terminator_length, command_at, first, moved}
 use Rattle.tt_script.specs.declared.script.TheConstants.{DEPTH}
 use Rattle.tt_script.specs.declared.command.ParseFault.{ParseFault}
 use Rattle.tt_script.specs.declared.command.Place.TheVariants as places

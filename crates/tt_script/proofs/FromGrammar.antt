@@ -1,23 +1,23 @@
 -- What the grammar cuts a text into, the readers read.
-use Rattle.std.proofs.Common.{◌≡◌, ◌≢◌, ℕ, zero, suc, pred, ◌+◌, ◌-◌, ◌<◌, ◌≤◌, Bool, true, false, not, ◌==◌, ◌&&◌, ◌||◌, List, [], ◌∷◌, ◌++◌, length, drop, take, refl, ap, sym, ◌∙◌, subst, arith, Option, Some, None}
+use Rattle.std.proofs.Common.{◌≡◌, ◌≢◌, ℕ, suc, pred, ◌+◌, ◌<◌, ◌≤◌, Bool, true, false, ◌==◌, ◌&&◌, List, [], ◌∷◌, ◌++◌, length, drop, take, refl, ap, sym, ◌∙◌, arith, Some}
 use Rattle.std.proofs.lemmas.List.{drop-drop, length-drop, length-append, take_at, drop_at}
 use Rattle.std.proofs.lemmas.Bool.{eq-eqb, ne_eqb, lt-ltb, eqb-true}
 use Rattle.std.specs.Prelude.{nat_lt, if◌then◌else◌}
-use Rattle.std.specs.List.{position_or_len, prefix_len}
+use Rattle.std.specs.List.{position_or_len}
 use Rattle.tt_text.specs.Backslash.{backslash}
 use Rattle.tt_text.specs.Braces.{IsBalanced, IsClosedAt, matching_brace}
 use Rattle.tt_text.proofs.BraceLemmas.{matching_brace_law}
-use Rattle.tt_script.specs.Words.{PlainPart, letters, variable, element, script, PlainParts, none, more, with_part, PlainWord, PlainCommand}
-use Rattle.tt_script.specs.Reading.{Read, takes, fails, after, mapped, and_then, begins, separates, separated, ends_command, ends_parts, expands, letters_of, joined_lines, name_length, named, Level, level, part, parts, dollar, braced_variable, named_variable, word_parts, quoted, braced, word, words, gap, skipped, commands}
+use Rattle.tt_script.specs.Words.{PlainPart, variable, element, script, PlainParts, none, with_part, PlainWord}
+use Rattle.tt_script.specs.Reading.{Read, takes, fails, after, mapped, and_then, begins, separates, separated, ends_command, ends_parts, expands, letters_of, joined_lines, name_length, named, Level, level, part, parts, braced_variable, named_variable, word_parts, quoted, braced, word, words, gap, skipped, commands}
 use Rattle.tt_script.specs.Grammar.{IsGap, IsSkipped, IsNamed, IsPart, byte_part, escape_part, script_part, variable_part, element_part, braced_part, dollar_part, IsParts, parts_end, parts_more, IsWordParts, in_quotes, in_braces, bare, IsWord, expanded, whole_word, IsWords, last_word, next_word, IsCommands, no_command, one_command}
-use Rattle.tt_script.specs.declared.command.ParseFault.TheVariants.{AfterQuote, AfterBrace, VariableBrace}
+use Rattle.tt_script.specs.declared.command.ParseFault.TheVariants.{AfterQuote, VariableBrace}
 use Rattle.tt_script.specs.declared.command.Place.{Place}
 use Rattle.tt_script.specs.declared.command.Place.TheVariants as places
 use Rattle.tt_script.specs.declared.command.Ending.{Ending}
 use Rattle.tt_script.specs.declared.command.Ending.TheVariants as endings
 use Rattle.tt_script.proofs.Cuts.{Cut, cut_none, cut_more, cut_same, cut_cut, gap_cut, skipped_cut}
 use Rattle.tt_script.proofs.Escapes.{backslash_within}
-use Rattle.tt_script.proofs.Readers.{after-after, braced-closed}
+use Rattle.tt_script.proofs.Readers.{braced-closed}
 use Rattle.tt_script.proofs.PartSteps.{index-deeper, dollar-braced, dollar-named, dollar-itself, named-element, named-variable, part-dollar, part-brackets, part-escape, part-letter, parts-end, parts-part, parts-fault, parts_passes}
 use Rattle.tt_script.proofs.CommandSteps.{brackets-deeper, quoted-on, separated-yes, parts-quoted, parts-braced, parts-bare, made, word-expands, word-plain, words-one, words-more, words_passes, closed-on, more-on, after-takes}
 
@@ -41,7 +41,7 @@ ReadsSome {A} r value text rest = (done : ReadAs r value text rest) × (0 < done
 cut_one : (n c : ℕ) (text rest : List ℕ) → Cut n text (c ∷ rest) → Cut (n + 1) text rest
 cut_one n c text rest cut = record {
   place = sym (drop-drop 1 n text) ∙ ap (drop 1) cut.place;
-  size = omega (arith, cut.size)
+  size = omega (arith, cut.size);
 }
 
 -- the front of a text is what the rest leaves
@@ -53,7 +53,7 @@ front n text xs rest e cut =
 cut_at : (text xs rest : List ℕ) → text ≡ xs ++ rest → Cut (length xs) text rest
 cut_at text xs rest e = record {
   place = ap (drop (length xs)) e ∙ drop_at xs rest (length xs) refl;
-  size = omega (arith, ap length e, length-append xs rest)
+  size = omega (arith, ap length e, length-append xs rest);
 }
 
 -- ---- parts ----
@@ -111,9 +111,9 @@ parts_step depth ending first [] e p ps w = absurd p
 parts_step depth ending first {middle} {rest} {others} {whole} (b ∷ text) e p ps w = record {
   n = suc (p.n + ps.n);
   read = parts-part (level depth) ending b text first p.n e p.read
-    ∙ ap (λ r. after 1 (mapped (with_part first) r)) (parts_passes (level depth) ending p.n text ∙ ap (λ r. after p.n (parts (level depth) ending 0 r)) p.cut.place ∙ ap (after p.n) ps.read)
-    ∙ ap (takes (with_part first others)) (omega arith) ∙ ap (λ v. takes v (suc (p.n + ps.n))) (sym w);
-  cut = cut_more b (cut_cut p.cut ps.cut)
+      ∙ ap (λ r. after 1 (mapped (with_part first) r)) (parts_passes (level depth) ending p.n text ∙ ap (λ r. after p.n (parts (level depth) ending 0 r)) p.cut.place ∙ ap (after p.n) ps.read)
+      ∙ ap (takes (with_part first others)) (omega arith) ∙ ap (λ v. takes v (suc (p.n + ps.n))) (sym w);
+  cut = cut_more b (cut_cut p.cut ps.cut);
 }
 
 -- ---- one rule each ----
@@ -122,9 +122,9 @@ script_read : (depth b c : ℕ) (text inside rest : List ℕ) → b ≡ 91 → t
 script_read depth b c text inside rest e g r = record {
   n = r.n + 1;
   read = part-brackets (level (suc depth)) b text (ap (λ x. x == 36) e) (eq-eqb b 91 e)
-    ∙ ap (λ x. and_then x (λ v k. takes (script v) (k + 1))) (brackets-deeper depth text ∙ ap (λ x. and_then x (λ _ k. takes (take k text) k)) r.read)
-    ∙ ap (λ v. takes (script v) (r.n + 1)) (front r.n text inside (c ∷ rest) g r.cut);
-  cut = cut_one r.n c text rest r.cut
+      ∙ ap (λ x. and_then x (λ v k. takes (script v) (k + 1))) (brackets-deeper depth text ∙ ap (λ x. and_then x (λ _ k. takes (take k text) k)) r.read)
+      ∙ ap (λ v. takes (script v) (r.n + 1)) (front r.n text inside (c ∷ rest) g r.cut);
+  cut = cut_one r.n c text rest r.cut;
 }
 
 module _ (level : Level) (b : ℕ) (text name rest : List ℕ) (e : b ≡ 36) (h : IsNamed text name rest) where
@@ -144,7 +144,7 @@ module _ (level : Level) (b : ℕ) (text name rest : List ℕ) (e : b ≡ 36) (h
   variable_read g = record {
     n = length name;
     read = named_on ∙ named-variable level text (length name) (ap (begins 40) name_cut.place ∙ g) ∙ ap (λ v. takes (variable v) (length name)) name_front;
-    cut = name_cut
+    cut = name_cut;
   }
 
 element_read : (depth b c d : ℕ) (text name inner rest : List ℕ) (index : PlainParts) → b ≡ 36 → c ≡ 40 → IsNamed text name (c ∷ inner) → ReadAs (parts (level depth) endings.Parenthesis 0 inner) index inner (d ∷ rest) → ReadAs (part (level (suc depth)) b text) (element name index) text rest
@@ -154,17 +154,17 @@ element_read depth b c d text name inner rest index e f h r =
     record {
       n = n + 1 + r.n + 1;
       read = named_on (level (suc depth)) b text name (c ∷ inner) e h
-        ∙ named-element (level (suc depth)) text n (ap (begins 40) (name_cut (level (suc depth)) b text name (c ∷ inner) e h).place ∙ eq-eqb c 40 f)
-        ∙ ap (λ x. and_then (after (n + 1) x) (λ v m. takes (element (take n text) v) (m + 1))) (index-deeper depth (drop (n + 1) text) ∙ ap (parts (level depth) endings.Parenthesis 0) cut.place ∙ r.read)
-        ∙ ap (λ v. takes (element v index) (n + 1 + r.n + 1)) (name_front (level (suc depth)) b text name (c ∷ inner) e h);
-      cut = cut_one (n + 1 + r.n) d text rest (cut_cut cut r.cut)
+          ∙ named-element (level (suc depth)) text n (ap (begins 40) (name_cut (level (suc depth)) b text name (c ∷ inner) e h).place ∙ eq-eqb c 40 f)
+          ∙ ap (λ x. and_then (after (n + 1) x) (λ v m. takes (element (take n text) v) (m + 1))) (index-deeper depth (drop (n + 1) text) ∙ ap (parts (level depth) endings.Parenthesis 0) cut.place ∙ r.read)
+          ∙ ap (λ v. takes (element v index) (n + 1 + r.n + 1)) (name_front (level (suc depth)) b text name (c ∷ inner) e h);
+      cut = cut_one (n + 1 + r.n) d text rest (cut_cut cut r.cut);
     }
 
 brace_read : (depth b c d : ℕ) (text name rest : List ℕ) (p : PlainPart) → b ≡ 36 → c ≡ 123 → d ≡ 125 → text ≡ name ++ (d ∷ rest) → position_or_len (λ x. x == 125) name ≡ length name → p ≡ named name → ReadAs (part (level depth) b (c ∷ text)) p (c ∷ text) rest
 brace_read depth b c d text name rest p e f g h k m = record {
   n = 1 + (length name + 1);
   read = part-dollar (level depth) b (c ∷ text) (eq-eqb b 36 e) ∙ dollar-braced (level depth) (c ∷ text) (eq-eqb c 123 f) ∙ ap (after 1) (braced_read text name rest d h g k) ∙ ap (λ v. takes v (1 + (length name + 1))) (sym m);
-  cut = cut_same (omega arith) (cut_more c (cut_one (length name) d text rest (cut_at text name (d ∷ rest) h)))
+  cut = cut_same (omega arith) (cut_more c (cut_one (length name) d text rest (cut_at text name (d ∷ rest) h)));
 }
 
 word_quoted : (depth b c : ℕ) (place : Place) (text rest : List ℕ) (value : PlainParts) → b ≡ 34 → separates place rest ≡ true → ReadAs (parts (level depth) endings.Quote 0 text) value text (c ∷ rest) → ReadAs (word_parts place (level depth) (b ∷ text)) value (b ∷ text) rest
@@ -173,8 +173,8 @@ word_quoted depth b c place text rest value e f r =
     record {
       n = 1 + (r.n + 1);
       read = parts-quoted place (level depth) (b ∷ text) (eq-eqb b 34 e)
-        ∙ ap (after 1) (quoted-on place (level depth) text ∙ ap (λ x. and_then x (λ v k. separated place AfterQuote text v (k + 1))) r.read ∙ separated-yes place AfterQuote text value (r.n + 1) (ap (separates place) cut.place ∙ f));
-      cut = cut_same (omega arith) (cut_more b cut)
+          ∙ ap (after 1) (quoted-on place (level depth) text ∙ ap (λ x. and_then x (λ v k. separated place AfterQuote text v (k + 1))) r.read ∙ separated-yes place AfterQuote text value (r.n + 1) (ap (separates place) cut.place ∙ f));
+      cut = cut_same (omega arith) (cut_more b cut);
     }
 
 word_braced : (depth b c : ℕ) (place : Place) (text inside rest : List ℕ) (value : PlainParts) → b ≡ 123 → c ≡ 125 → text ≡ inside ++ (c ∷ rest) → IsBalanced inside → separates place rest ≡ true → value ≡ letters_of (joined_lines 0 inside) → ReadAs (word_parts place (level depth) (b ∷ text)) value (b ∷ text) rest
@@ -188,10 +188,10 @@ word_braced depth b c place text inside rest value e f g balanced h w =
     record {
       n = 1 + (n + 1);
       read = parts-braced place (level depth) (b ∷ text) (ap (λ x. x == 34) e) (eq-eqb b 123 e)
-        ∙ ap (after 1) (braced-closed place text n found (ap (separates place) cut.place ∙ h))
-        ∙ ap (λ x. takes (letters_of (joined_lines 0 x)) (1 + (n + 1))) (front n text inside (c ∷ rest) g whole)
-        ∙ ap (λ v. takes v (1 + (n + 1))) (sym w);
-      cut = cut_same (omega arith) (cut_more b cut)
+          ∙ ap (after 1) (braced-closed place text n found (ap (separates place) cut.place ∙ h))
+          ∙ ap (λ x. takes (letters_of (joined_lines 0 x)) (1 + (n + 1))) (front n text inside (c ∷ rest) g whole)
+          ∙ ap (λ v. takes v (1 + (n + 1))) (sym w);
+      cut = cut_same (omega arith) (cut_more b cut);
     }
 
 and_both : (p q : Bool) → p && q ≡ true → (p ≡ true) × (q ≡ true)
@@ -208,12 +208,14 @@ expands_length text e =
     omega (arith, begins-length 125 (drop 2 text) last, length-drop 2 text)
 
 word_expanded : (depth : ℕ) (place : Place) (text rest : List ℕ) (value : PlainParts) → expands text ≡ true → ReadAs (word_parts place (level depth) (drop 3 text)) value (drop 3 text) rest → ReadsSome (word place (level depth) text) (made true value) text rest
-word_expanded depth place text rest value e r =
-    (record {
-      n = 3 + r.n;
-      read = word-expands place (level depth) text e ∙ ap (λ x. after 3 (mapped (made true) x)) r.read;
-      cut = cut_cut (record { place = refl; size = omega (arith, length-drop 3 text, expands_length text e) }) r.cut
-    }, omega arith)
+word_expanded depth place text rest value e r = (
+  record {
+    n = 3 + r.n;
+    read = word-expands place (level depth) text e ∙ ap (λ x. after 3 (mapped (made true) x)) r.read;
+    cut = cut_cut (record { place = refl; size = omega (arith, length-drop 3 text, expands_length text e) }) r.cut;
+  },
+  omega arith,
+)
 
 words_last : (depth : ℕ) (place : Place) (text rest next : List ℕ) (first : PlainWord) → 0 < length text → (r : ReadAs (word place (level depth) text) first text rest) → 0 < r.n → IsGap rest next → ends_command place next ≡ true → ReadsSome (words place (level depth) 0 text) (first ∷ []) text rest
 words_last depth place [] rest next first h r some g e = absurd (omega arith)
@@ -231,15 +233,17 @@ words_next depth place (b ∷ text) middle next rest first others h shorter r g 
     let k : ℕ = pred (r.n + gap 0 middle) in
     let step : suc k ≡ r.n + gap 0 middle = omega (arith, r.cut.size) in
     let after_gap : drop (r.n + gap 0 (drop r.n (b ∷ text))) (b ∷ text) ≡ next = ap (λ m. drop m (b ∷ text)) count ∙ both.place in
-    let tail : drop k text ≡ next = ap (λ m. drop m (b ∷ text)) step ∙ both.place in
-    (record {
-      n = r.n + gap 0 middle + ws.n;
-      read = words-more place (level depth) b text first r.n r.read (ap (ends_command place) after_gap ∙ e)
-        ∙ ap (λ m. after 1 (mapped (λ v. first ∷ v) (words place (level depth) (pred m) text))) count
-        ∙ ap (λ x. after 1 (mapped (λ v. first ∷ v) x)) (words_passes place (level depth) k text ∙ ap (λ x. after k (words place (level depth) 0 x)) tail ∙ ap (after k) ws.read)
-        ∙ ap (takes (first ∷ others)) (omega arith);
-      cut = cut_cut both ws.cut
-    }, omega (arith, r.cut.size))
+    let tail : drop k text ≡ next = ap (λ m. drop m (b ∷ text)) step ∙ both.place in (
+      record {
+        n = r.n + gap 0 middle + ws.n;
+        read = words-more place (level depth) b text first r.n r.read (ap (ends_command place) after_gap ∙ e)
+            ∙ ap (λ m. after 1 (mapped (λ v. first ∷ v) (words place (level depth) (pred m) text))) count
+            ∙ ap (λ x. after 1 (mapped (λ v. first ∷ v) x)) (words_passes place (level depth) k text ∙ ap (λ x. after k (words place (level depth) 0 x)) tail ∙ ap (after k) ws.read)
+            ∙ ap (takes (first ∷ others)) (omega arith);
+        cut = cut_cut both ws.cut;
+      },
+      omega (arith, r.cut.size),
+    )
 
 commands_closed : (depth : ℕ) (text rest : List ℕ) → IsSkipped text rest → begins 93 rest ≡ true → ReadAs (commands (level depth) 0 text) tt text rest
 commands_closed depth text rest s e =
@@ -253,8 +257,8 @@ commands_more depth text start next rest ws s e shorter r cs =
     record {
       n = skipped 0 text + r.n + cs.n;
       read = more-on (level depth) text ws r.n (ap (begins 93) cut.place ∙ e) (omega (arith, cut.size)) (ap (words places.Brackets (level depth) 0) cut.place ∙ r.read) (omega (arith, r.cut.size))
-        ∙ ap (λ x. after (skipped 0 text + r.n) (commands (level depth) 0 x)) both.place ∙ ap (after (skipped 0 text + r.n)) cs.read;
-      cut = cut_cut both cs.cut
+          ∙ ap (λ x. after (skipped 0 text + r.n) (commands (level depth) 0 x)) both.place ∙ ap (after (skipped 0 text + r.n)) cs.read;
+      cut = cut_cut both cs.cut;
     }
 
 -- ---- a word has a byte ----
@@ -298,7 +302,7 @@ mutual
   part_read (escape_part {depth} {b} {text} e f g) = record {
     n = (backslash text).takes;
     read = part-escape (level depth) b text (ap (λ x. x == 36) e) (ap (λ x. x == 91) e) (eq-eqb b 92 e) ∙ ap (λ v. takes v (backslash text).takes) (sym f);
-    cut = record { place = sym g; size = omega (arith, ap length g, length-drop (backslash text).takes text, backslash_within text) }
+    cut = record { place = sym g; size = omega (arith, ap length g, length-drop (backslash text).takes text, backslash_within text) };
   }
   part_read (script_part {depth} {b} {c} {text} {inside} {rest} e f g cs) = script_read depth b c text inside rest e g (commands_read cs)
   part_read (variable_part {depth} {b} {text} {name} {rest} e h g) = variable_read (level depth) b text name rest e h g
@@ -307,7 +311,7 @@ mutual
   part_read (dollar_part {depth} {b} {text} e f g) = record {
     n = 0;
     read = part-dollar (level depth) b text (eq-eqb b 36 e) ∙ dollar-itself (level depth) text f (ap (nat_lt 0) g);
-    cut = cut_none text
+    cut = cut_none text;
   }
 
   pub parts_read : {depth : ℕ} {ending : Ending} {text rest : List ℕ} {ps : PlainParts} → IsParts depth ending text ps rest → ReadAs (parts (level depth) ending 0 text) ps text rest

@@ -1,11 +1,11 @@
 -- What the readers count stands in the grammar: gaps, comments and what is skipped.
-use Rattle.std.proofs.Common.{◌≡◌, ◌≢◌, ℕ, zero, suc, ◌+◌, ◌-◌, ◌<◌, ◌≤◌, Bool, true, false, not, ◌==◌, ◌&&◌, ◌||◌, List, [], ◌∷◌, ◌++◌, length, drop, take, refl, ap, sym, ◌∙◌, subst, arith}
-use Rattle.std.proofs.lemmas.Bool.{eq-eqb, ne_eqb, eqb-true, eqb-false}
+use Rattle.std.proofs.Common.{◌≡◌, ℕ, zero, suc, Bool, true, false, ◌==◌, ◌&&◌, ◌||◌, List, [], ◌∷◌, drop, refl, ap, sym, ◌∙◌, subst}
+use Rattle.std.proofs.lemmas.Bool.{eqb-true, eqb-false}
 use Rattle.tt_text.specs.Characters.{is_white_space, is_blank}
 use Rattle.tt_script.specs.Reading.{begins, continues_line, gap, comment, skipped}
 use Rattle.tt_script.specs.Grammar.{begins_gap, IsGap, gap_ends, gap_blank, gap_line, IsComment, comment_ends, comment_newline, comment_byte, comment_escape, comment_last, begins_skipped, IsSkipped, skip_ends, skip_separator, skip_line, skip_comment}
 use Rattle.tt_script.proofs.Scanning.{gap-blank, gap-line, gap-none, comment-letter, comment-escape, comment-newline, skipped-space, skipped-line, skipped-comment, skipped-none}
-use Rattle.tt_script.proofs.Cuts.{gap-one, escaped-one, no_comment, skipped-one}
+use Rattle.tt_script.proofs.Cuts.{escaped-one, no_comment}
 
 and_both : (p q : Bool) → p && q ≡ true → (p ≡ true) × (q ≡ true)
 and_both true q e = (refl, e)

@@ -1,26 +1,25 @@
 -- What the readers read stands in the grammar.
-use Rattle.std.proofs.Common.{◌≡◌, ◌≢◌, ℕ, zero, suc, pred, ◌+◌, ◌-◌, ◌<◌, ◌≤◌, Bool, true, false, not, ◌==◌, ◌&&◌, ◌||◌, List, [], ◌∷◌, ◌++◌, length, drop, take, refl, ap, sym, ◌∙◌, subst, arith, Option, Some, None}
+use Rattle.std.proofs.Common.{◌≡◌, ℕ, zero, suc, pred, ◌+◌, ◌-◌, ◌<◌, ◌≤◌, Bool, true, false, ◌==◌, ◌&&◌, ◌||◌, List, [], ◌∷◌, ◌++◌, length, drop, take, refl, ap, sym, ◌∙◌, subst, arith, Option, Some, None}
 use Rattle.std.proofs.lemmas.List.{drop-drop, length-drop, length-take, take_at, drop_at}
 use Rattle.std.proofs.lemmas.List.Sums.{prefix_len-le-length}
-use Rattle.std.proofs.lemmas.Bool.{eq-eqb, ne_eqb, lt-ltb, ltb-true, ltb-false, eqb-true, eqb-false}
+use Rattle.std.proofs.lemmas.Bool.{ne_eqb, ltb-true, ltb-false, eqb-true, eqb-false}
 use Rattle.std.specs.Prelude.{nat_lt, if◌then◌else◌}
 use Rattle.std.specs.List.{position_or_len, prefix_len}
-use Rattle.tt_text.specs.Backslash.{backslash}
 use Rattle.tt_text.specs.Characters.{is_white_space, is_blank}
-use Rattle.tt_text.specs.Braces.{IsBalanced, IsClosedAt, matching_brace}
+use Rattle.tt_text.specs.Braces.{matching_brace}
 use Rattle.tt_text.proofs.BraceLemmas.{matching_brace_law}
-use Rattle.tt_script.specs.Words.{PlainPart, letters, variable, element, script, PlainParts, none, more, with_part, PlainWord, PlainCommand}
-use Rattle.tt_script.specs.Reading.{Read, takes, fails, after, mapped, and_then, begins, separates, separated, is_terminator, continues_line, ends_command, ends_parts, expands, letters_of, joined_lines, name_length, is_name_byte, named, Level, level, part, parts, parts_at_end, dollar, braced_variable, named_variable, word_parts, quoted, braced, word, words, gap, skipped, commands}
-use Rattle.tt_script.specs.Grammar.{IsGap, begins_gap, IsSkipped, begins_skipped, IsNamed, IsPart, byte_part, escape_part, script_part, variable_part, element_part, braced_part, dollar_part, IsParts, parts_end, parts_more, IsWordParts, in_quotes, in_braces, bare, IsWord, expanded, whole_word, IsWords, last_word, next_word, IsCommands, no_command, one_command}
+use Rattle.tt_script.specs.Words.{PlainPart, element, script, PlainParts, with_part, PlainWord}
+use Rattle.tt_script.specs.Reading.{Read, takes, fails, after, mapped, and_then, begins, separates, separated, continues_line, ends_command, ends_parts, expands, letters_of, joined_lines, name_length, is_name_byte, named, Level, level, part, parts, parts_at_end, dollar, braced_variable, word_parts, quoted, braced, word, words, gap, skipped, commands}
+use Rattle.tt_script.specs.Grammar.{IsGap, begins_gap, begins_skipped, IsNamed, IsPart, byte_part, escape_part, script_part, variable_part, element_part, braced_part, dollar_part, IsParts, parts_end, parts_more, IsWordParts, in_quotes, in_braces, bare, IsWord, expanded, whole_word, IsWords, last_word, next_word, IsCommands, no_command, one_command}
 use Rattle.tt_script.specs.declared.command.ParseFault.{ParseFault}
-use Rattle.tt_script.specs.declared.command.ParseFault.TheVariants.{AfterQuote, AfterBrace, VariableBrace, CloseBracket}
+use Rattle.tt_script.specs.declared.command.ParseFault.TheVariants.{AfterQuote, VariableBrace, CloseBracket}
 use Rattle.tt_script.specs.declared.command.Place.{Place}
 use Rattle.tt_script.specs.declared.command.Place.TheVariants as places
 use Rattle.tt_script.specs.declared.command.Ending.{Ending}
 use Rattle.tt_script.specs.declared.command.Ending.TheVariants as endings
 use Rattle.tt_script.proofs.IntoCuts.{gap_is, gap_end-none, skipped_is, skipped_end-none, drop_none, or_both}
 use Rattle.tt_script.proofs.Naming.{name-letter, name-colons, name-none}
-use Rattle.tt_script.proofs.Readers.{after-after, braced-closed, braced-after, braced-open}
+use Rattle.tt_script.proofs.Readers.{braced-closed, braced-after, braced-open}
 use Rattle.tt_script.proofs.PartSteps.{index-too_deep, brackets-too_deep, index-deeper, dollar-braced, dollar-named, dollar-itself, named-element, named-variable, part-dollar, part-brackets, part-escape, part-letter, parts-end, parts-part, parts-fault}
 use Rattle.tt_script.proofs.CommandSteps.{brackets-deeper, quoted-on, separated-yes, separated-none, parts-quoted, parts-braced, parts-bare, made, word-expands, word-plain, words-one, words-more, words-fault, commands-closed, commands-ended, commands-more, commands-fault, after-takes, no-separator, no_white, no_newline}
 use Rattle.tt_script.proofs.FromGrammar.{mapped-takes, word_parts_some}
@@ -78,7 +77,7 @@ named_is text e =
     record {
       cut = joined n text;
       longest = sym size;
-      some = λ none_left. no_length (take n text) none_left (omega (arith, size, ltb-true 0 n e))
+      some = λ none_left. no_length (take n text) none_left (omega (arith, size, ltb-true 0 n e));
     }
   where
     no_length : (xs : List ℕ) → xs ≡ [] → 0 < length xs → ⊥
@@ -105,6 +104,7 @@ position_take (b ∷ text) = go (b == 125) refl (position_take text)
   where
     F : List ℕ → ℕ
     F = position_or_len (λ x. x == 125)
+
     go : (v : Bool) → (b == 125) ≡ v → F (take (F text) text) ≡ length (take (F text) text) → F (take (F (b ∷ text)) (b ∷ text)) ≡ length (take (F (b ∷ text)) (b ∷ text))
     go true e next = ap (λ k. F (take k (b ∷ text))) (position-none (λ x. x == 125) b text e) ∙ sym (ap (λ k. length (take k (b ∷ text))) (position-none (λ x. x == 125) b text e))
     go false e next =
@@ -116,6 +116,7 @@ braced_is depth b c text p n e f r = go (nat_lt m (length text)) refl
   where
     m : ℕ
     m = position_or_len (λ x. x == 125) text
+
     go : (v : Bool) → nat_lt m (length text) ≡ v → IsPart depth (b ∷ c ∷ text) p (drop n text)
     go false g = absurd (no_takes (sym (ap (λ v. if v then takes (named (take m text)) (m + 1) else fails VariableBrace) g) ∙ r))
     go true g =
@@ -221,12 +222,14 @@ module _ (depth : ℕ) (sound : Sound depth) where
     where
       k : ℕ
       k = name_length 0 text
+
       brace : (xs : List ℕ) → begins 123 xs ≡ true → (m : ℕ) → after 1 (braced_variable (drop 1 xs)) ≡ takes p m → IsPart depth (b ∷ xs) p (drop m xs)
       brace [] f m g = cc
       brace (c ∷ xs) f m g =
           let read = after-takes 1 m (braced_variable xs) p g in
           let count : suc (m - 1) ≡ m = omega (arith, read.1) in
           subst (λ j. IsPart depth (b ∷ c ∷ xs) p (drop j (c ∷ xs))) count (braced_is depth b c xs p (m - 1) e (eqb-true c 123 f) read.0)
+
       go : (u v w : Bool) → begins 123 text ≡ u → nat_lt 0 k ≡ v → begins 40 (drop k text) ≡ w → IsPart depth (b ∷ text) p (drop n text)
       go true v w f g h = brace text f n (sym (dollar-braced (level depth) text f) ∙ r)
       go false false w f g h =
@@ -312,7 +315,8 @@ module _ (depth : ℕ) (sound : Sound depth) where
           let inner : take m text ≡ at_brace.inner = ap (take m) at_brace.cut ∙ take_at at_brace.inner (125 ∷ at_brace.rest) m at_brace.place in
           let rest : drop (m + 1) text ≡ at_brace.rest = sym (drop-drop 1 m text) ∙ ap (λ t. drop 1 (drop m t)) at_brace.cut ∙ ap (drop 1) (drop_at at_brace.inner (125 ∷ at_brace.rest) m at_brace.place) in
           subst (λ j. IsWordParts depth place (b ∷ text) value (drop j text)) (takes-count same) (subst (λ t. IsWordParts depth place (b ∷ text) value t) (sym rest)
-            (in_braces at_brace.inner e refl at_brace.cut at_brace.balanced (ap (separates place) (sym rest) ∙ h) (sym (takes-value same) ∙ ap (λ xs. letters_of (joined_lines 0 xs)) inner)))
+          (in_braces at_brace.inner e refl at_brace.cut at_brace.balanced (ap (separates place) (sym rest) ∙ h) (sym (takes-value same) ∙ ap (λ xs. letters_of (joined_lines 0 xs)) inner)))
+
       go : (o : Option ℕ) → matching_brace text ≡ o → IsWordParts depth place (b ∷ text) value (drop n text)
       go None f = absurd (no_takes (sym (braced-open place text f) ∙ r))
       go (Some m) f = closes m f (separates place (drop (m + 1) text)) refl
@@ -356,6 +360,7 @@ module _ (depth : ℕ) (sound : Sound depth) where
     where
       xs : List ℕ
       xs = b ∷ text
+
       go : (q : Read PlainWord) → word place (level depth) (b ∷ text) ≡ q → ((j : ℕ) (others : List PlainWord) (m : ℕ) → separates place (drop j text) ≡ false → words place (level depth) j text ≡ takes others m → IsWords depth place (drop j text) others (drop m text) × (j < m)) → IsWords depth place (b ∷ text) ws (drop n (b ∷ text)) × (0 < n)
       go (fails fault) e next = absurd (no_takes (sym (words-fault place (level depth) b text fault e) ∙ r))
       go (takes first m) e next = after_word first m e (word_is place (b ∷ text) first m h e) (ends_command place (drop (m + gap 0 (drop m (b ∷ text))) (b ∷ text))) refl
@@ -380,7 +385,7 @@ module _ (depth : ℕ) (sound : Sound depth) where
               let rest = next j inner.0 (n - 1) begins_word inner.1 in
               (subst (λ i. IsWords depth place xs ws (drop i xs)) size (subst (λ v. IsWords depth place xs v (drop (n - 1) text)) inner.2 (next_word this.0 gap_here unended rest.0)), omega (arith, outer.1))
 
--- ---- commands ----
+  -- ---- commands ----
 
   commands_is : (k : ℕ) (text : List ℕ) (n : ℕ) → commands (level depth) k text ≡ takes tt n → IsCommands depth (drop k text) (drop n text) × (begins 93 (drop n text) ≡ true)
   commands_is k [] n r = absurd (no_takes (sym (commands-none (level depth) k) ∙ r))
@@ -393,10 +398,13 @@ module _ (depth : ℕ) (sound : Sound depth) where
     where
       xs : List ℕ
       xs = b ∷ text
+
       s : ℕ
       s = skipped 0 (b ∷ text)
+
       start : List ℕ
       start = drop s (b ∷ text)
+
       go : (v : Bool) → begins 93 (drop (skipped 0 (b ∷ text)) (b ∷ text)) ≡ v → (u : Bool) → nat_lt (skipped 0 (b ∷ text)) (length (b ∷ text)) ≡ u → (q : Read (List PlainWord)) → words places.Brackets (level depth) 0 (drop (skipped 0 (b ∷ text)) (b ∷ text)) ≡ q → ((j m : ℕ) → commands (level depth) j text ≡ takes tt m → IsCommands depth (drop j text) (drop m text) × (begins 93 (drop m text) ≡ true)) → IsCommands depth (b ∷ text) (drop n (b ∷ text)) × (begins 93 (drop n (b ∷ text)) ≡ true)
       go true e u f q g next =
           let same = takes-count (sym (commands-closed (level depth) b text e) ∙ r) in
@@ -418,15 +426,15 @@ module _ (depth : ℕ) (sound : Sound depth) where
 pub sound : (depth : ℕ) → Sound depth
 sound zero = record {
   index = λ text value n r. absurd (no_takes (sym (index-too_deep text) ∙ r));
-  brackets = λ text inside n r. absurd (no_takes (sym (brackets-too_deep text) ∙ r))
+  brackets = λ text inside n r. absurd (no_takes (sym (brackets-too_deep text) ∙ r));
 }
 sound (suc depth) = record {
   index = λ text value n r. parts_is depth (sound depth) endings.Parenthesis 0 text value n (sym (index-deeper depth text) ∙ r);
   brackets = λ text inside n r.
-    (let found = and_then-takes (commands (level depth) 0 text) (λ _ m. takes (take m text) m) inside n (sym (brackets-deeper depth text) ∙ r) in
-    let size = takes-count found.3 in
-    let here = commands_is depth (sound depth) 0 text found.1 found.2 in
-    (sym (takes-value found.3) ∙ ap (λ m. take m text) size, subst (λ m. IsCommands depth text (drop m text)) size here.0, subst (λ m. begins 93 (drop m text) ≡ true) size here.1))
+      (let found = and_then-takes (commands (level depth) 0 text) (λ _ m. takes (take m text) m) inside n (sym (brackets-deeper depth text) ∙ r) in
+      let size = takes-count found.3 in
+      let here = commands_is depth (sound depth) 0 text found.1 found.2 in
+      (sym (takes-value found.3) ∙ ap (λ m. take m text) size, subst (λ m. IsCommands depth text (drop m text)) size here.0, subst (λ m. begins 93 (drop m text) ≡ true) size here.1));
 }
 
 pub words_stand : (depth : ℕ) (text : List ℕ) (ws : List PlainWord) (n : ℕ) → separates places.Script text ≡ false → words places.Script (level depth) 0 text ≡ takes ws n → IsWords depth places.Script text ws (drop n text) × (0 < n)

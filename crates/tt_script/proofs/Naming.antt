@@ -1,13 +1,13 @@
 -- One step of what is scanned for a variable's name.
-use Rattle.std.proofs.Common.{◌≡◌, ◌≢◌, ℕ, zero, suc, ◌+◌, ◌-◌, ◌<◌, ◌≤◌, Bool, true, false, not, ◌||◌, ◌&&◌, ◌==◌, List, [], ◌∷◌, length, get_or, drop, take, refl, ap, sym, ◌∙◌, arith}
-use Rattle.std.proofs.lemmas.List.{drop_more, drop-drop, drop_all, length-drop, length-take}
+use Rattle.std.proofs.Common.{◌≡◌, ◌≢◌, ℕ, zero, suc, ◌+◌, ◌<◌, ◌≤◌, Bool, true, false, not, ◌&&◌, ◌==◌, List, [], ◌∷◌, length, get_or, drop, take, refl, ap, sym, ◌∙◌, arith}
+use Rattle.std.proofs.lemmas.List.{drop_more, drop-drop, drop_all, length-take}
 use Rattle.std.proofs.lemmas.List.Sums.{prefix_len-le-length}
 use Rattle.std.proofs.lemmas.Bool.{eq-eqb, ne_eqb}
 use Rattle.std.specs.List.{prefix_len, position_or_len}
 use Rattle.tt_lanes.specs.Classes.{is_special}
 use Rattle.tt_script.proofs.Runs.{next_special}
 use Rattle.tt_script.specs.Reading.{begins, is_name_byte, name_length}
-use Rattle.tt_script.proofs.Runs.{passes, all, counted}
+use Rattle.tt_script.proofs.Runs.{passes, counted}
 use Rattle.tt_script.proofs.Scanning.{unlike, next_special-bounds, begins_at}
 
 -- ---- runs by a test ----

@@ -1,11 +1,9 @@
 -- One step of each reader.
-use Rattle.std.proofs.Common.{◌≡◌, ◌≢◌, ℕ, zero, suc, ◌+◌, ◌-◌, ◌<◌, ◌≤◌, Bool, true, false, not, ◌==◌, List, [], ◌∷◌, ◌++◌, length, get_or, drop, take, pred, refl, ap, sym, ◌∙◌, arith, Option, Some, None}
-use Rattle.std.proofs.lemmas.List.{drop_more, drop-drop, drop_all, length-drop, length-take}
+use Rattle.std.proofs.Common.{◌≡◌, ℕ, ◌+◌, ◌-◌, true, false, List, drop, take, refl, ap, ◌∙◌, arith, Some, None}
+use Rattle.std.proofs.lemmas.List.{drop-drop}
 use Rattle.tt_text.specs.Braces.{matching_brace, further}
 use Rattle.tt_script.proofs.Bracing.{further-none, further-some}
-use Rattle.tt_script.specs.Words.{PlainPart, letters, variable, element, script, PlainParts, none, more, with_letters, with_part, PlainWord}
-use Rattle.tt_script.specs.Reading.{Read, takes, fails, after, mapped, and_then, separates, separated, braced, letters_of, joined_lines}
-use Rattle.tt_script.specs.declared.command.ParseFault.{ParseFault}
+use Rattle.tt_script.specs.Reading.{Read, takes, fails, after, mapped, separates, separated, braced, letters_of, joined_lines}
 use Rattle.tt_script.specs.declared.command.ParseFault.TheVariants.{CloseBrace, AfterBrace}
 use Rattle.tt_script.specs.declared.command.Place.{Place}
 

@@ -1,5 +1,5 @@
 -- A run of bytes that a function passes over one by one.
-use Rattle.std.proofs.Common.{◌≡◌, ℕ, zero, suc, ◌+◌, ◌<◌, ◌≤◌, Bool, true, false, ◌&&◌, List, [], ◌∷◌, length, drop, take, refl, ap, sym, ◌∙◌, arith, cond}
+use Rattle.std.proofs.Common.{◌≡◌, ℕ, zero, suc, ◌+◌, ◌≤◌, Bool, true, false, ◌&&◌, List, [], ◌∷◌, length, drop, take, refl, ap, ◌∙◌, arith}
 use Rattle.std.specs.List.{prefix_len, position_or_len}
 use Rattle.tt_lanes.specs.Classes.{is_special}
 

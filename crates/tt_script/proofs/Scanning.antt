@@ -1,16 +1,16 @@
 -- One step of what is scanned without nesting.
-use Rattle.std.proofs.Common.{◌≡◌, ◌≢◌, ℕ, zero, suc, ◌+◌, ◌-◌, ◌<◌, ◌≤◌, Bool, true, false, ◌||◌, ◌&&◌, ◌==◌, List, [], ◌∷◌, length, get_or, drop, take, not, min, refl, ap, sym, ◌∙◌, arith, add-one}
+use Rattle.std.proofs.Common.{◌≡◌, ◌≢◌, ℕ, zero, suc, ◌+◌, ◌<◌, ◌≤◌, Bool, true, false, ◌||◌, ◌&&◌, ◌==◌, List, [], ◌∷◌, length, get_or, drop, take, not, min, refl, ap, sym, ◌∙◌, arith}
 use Rattle.std.proofs.lemmas.List.{drop_more, drop-drop, drop_all, length-drop, length-take}
 use Rattle.std.proofs.lemmas.Bool.{eq-eqb, ne_eqb, cases_lt}
 use Rattle.std.proofs.Common.{◌⊎◌, inl, inr}
 use Rattle.std.proofs.lemmas.Bool.Decides.{eqb_tells}
 use Rattle.std.proofs.lemmas.List.Sums.{prefix_len-le-length}
 use Rattle.tt_text.specs.Characters.{is_blank, is_white_space}
-use Rattle.std.specs.List.{prefix_len, position_or_len}
+use Rattle.std.specs.List.{prefix_len}
 use Rattle.tt_lanes.specs.Classes.{is_special}
 use Rattle.tt_script.proofs.Runs.{next_special}
 use Rattle.tt_script.specs.Reading.{gap, continues_line, begins, begins_black, expands, comment, skipped}
-use Rattle.tt_script.proofs.Runs.{passes, all, counted}
+use Rattle.tt_script.proofs.Runs.{passes, counted}
 
 -- bytes that are passed over
 pub gap_passes : (k : ℕ) (text : List ℕ) → gap k text ≡ k + gap 0 (drop k text)

@@ -1,7 +1,6 @@
 -- How an answer of the parser stands to what the text reads as.
 use Rattle.std.specs.Prelude.{◌≡◌, ◌≤◌, ◌<◌, ℕ, Result, Ok, Err}
 use Rattle.tt_script.specs.Reading.{Read, takes, fails}
-use Rattle.tt_script.specs.declared.command.ParseFault.{ParseFault}
 use Rattle.tt_script.specs.declared.command.Ending.{Ending}
 use Rattle.tt_script.specs.declared.command.Ending.TheVariants as endings
 use Rattle.tt_script.specs.declared.stop.Stop.{Stop}

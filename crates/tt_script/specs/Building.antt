@@ -1,6 +1,6 @@
 -- Parts in the making.
-use Rattle.std.specs.Prelude.{◌≡◌, ℕ, List, [], ◌∷◌, drop}
-use Rattle.tt_script.specs.Words.{PlainPart, letters, PlainParts, none, more, with_letters}
+use Rattle.std.specs.Prelude.{ℕ, List, [], ◌∷◌, drop}
+use Rattle.tt_script.specs.Words.{letters, PlainParts, more, with_letters}
 use Rattle.tt_script.specs.Reading.{Read, after, mapped, Level, parts}
 use Rattle.tt_script.specs.Plain.{plain_part}
 use Rattle.tt_script.specs.declared.command.Part.{Part}

@@ -5,8 +5,8 @@ use Rattle.std.specs.List.{position_or_len}
 use Rattle.tt_text.specs.Characters.{is_white_space, is_blank}
 use Rattle.tt_text.specs.Backslash.{backslash}
 use Rattle.tt_text.specs.Braces.{IsBalanced}
-use Rattle.tt_script.specs.Words.{PlainPart, letters, variable, element, script, PlainParts, none, more, with_part, PlainWord, PlainCommand}
-use Rattle.tt_script.specs.Reading.{begins, begins_black, continues_line, separates, ends_command, ends_parts, expands, letters_of, joined_lines, name_length, named}
+use Rattle.tt_script.specs.Words.{PlainPart, letters, variable, element, script, PlainParts, none, with_part, PlainWord, PlainCommand}
+use Rattle.tt_script.specs.Reading.{begins, continues_line, separates, ends_command, ends_parts, expands, letters_of, joined_lines, name_length, named}
 use Rattle.tt_script.specs.declared.script.TheConstants.{DEPTH}
 use Rattle.tt_script.specs.declared.command.Place.{Place}
 use Rattle.tt_script.specs.declared.command.Place.TheVariants as places

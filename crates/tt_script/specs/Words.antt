@@ -1,5 +1,5 @@
 -- What a script is made of, as trees with lists: contracts see what the parser answers in this form.
-use Rattle.std.specs.Prelude.{ℕ, ◌+◌, Bool, List, [], ◌∷◌, ◌++◌, length}
+use Rattle.std.specs.Prelude.{ℕ, Bool, List, [], ◌∷◌, ◌++◌}
 use Rattle.tt_script.specs.declared.command.ParseFault.{ParseFault}
 
 mutual

@@ -1,7 +1,6 @@
-use Rattle.std.proofs.Common.{◌≡◌, ◌∙◌, sym, ap, arith, Option, Some, None, zero-add, refl}
-use Rattle.tt_script.proofs.Bracing.{closing-run, closing_at-passed, closing_at-outer, closing_at-end, Deepens}
+use Rattle.std.proofs.Common.{◌∙◌, arith, Some}
+use Rattle.tt_script.proofs.Bracing.{closing-run, closing_at-passed, Deepens}
 use Rattle.tt_script.proofs.Scanning.{next_special-bounds}
-use Rattle.tt_text.specs.Braces.{closing_brace, further, matching_brace}
 use Rattle.tt_script.proofs.braces.closing_brace.Goals as goal
 
 pub loop-at-init : goal.loop-at-init

@@ -1,4 +1,4 @@
-use Rattle.std.proofs.Common.{◌≡◌, ◌+◌, ◌-◌, ◌≤◌, length, drop, false}
+use Rattle.std.proofs.Common.{◌≡◌, ◌-◌, ◌≤◌, length, drop, false}
 use Rattle.tt_text.specs.Braces.{closing_brace, further}
 use Rattle.tt_script.proofs.braces.closing_brace.Given as goal
 

@@ -1,6 +1,5 @@
-use Rattle.std.proofs.Common.{rules, arith, ◌≡◌, ◌+◌, ◌∙◌, ap, drop, List, ◌++◌, append-nil, length, sym, [], ℕ, Some}
+use Rattle.std.proofs.Common.{arith, ◌+◌, ◌∙◌, ap, ◌++◌, append-nil, sym, Some}
 use Rattle.std.proofs.lemmas.Option.{slice_get-get_or}
-use Rattle.tt_script.specs.Reading.{joined_lines}
 use Rattle.tt_script.proofs.Escapes.{backslash_at_within}
 use Rattle.tt_script.proofs.Joining.{joined_on, joined_at-letter, joined_at-newline, joined_at-pair, joined_at-end}
 use Rattle.tt_script.proofs.Scanning.{next_special-bounds}

@@ -1,6 +1,5 @@
 use Rattle.std.proofs.Common.{◌≡◌, ◌+◌, ◌-◌, ◌≤◌, ◌==◌, length, drop}
-use Rattle.std.specs.List.{prefix_len, position_or_len}
-use Rattle.tt_script.specs.Reading.{name_length}
+use Rattle.std.specs.List.{prefix_len}
 use Rattle.tt_script.proofs.names.colons_end.Given as goal
 
 abbrev pub invariant-loop-at : goal.invariant-loop-at

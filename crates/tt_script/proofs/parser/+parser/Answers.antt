@@ -1,22 +1,19 @@
-use Rattle.std.proofs.Common.{◌≡◌, ◌≢◌, ℕ, ◌+◌, ◌-◌, ◌<◌, ◌≤◌, true, false, not, List, [], ◌∷◌, ◌++◌, length, get_or, drop, take, arith, refl, ap, sym, subst, ◌∙◌, ◌==◌, false}
+use Rattle.std.proofs.Common.{◌≡◌, ◌+◌, ◌<◌, true, false, List, [], ◌∷◌, ◌++◌, length, drop, take, arith, ap, sym, subst, ◌∙◌, false}
 use Rattle.tt_text.specs.Backslash.{backslash}
 use Rattle.std.proofs.lemmas.Option.{slice_get-get_or}
 use Rattle.std.proofs.lemmas.List.{append_assoc}
 use Rattle.std.proofs.Common.{Some}
 use Rattle.tt_script.specs.declared.command.Word.{Word}
-use Rattle.tt_script.specs.Words.{PlainWord, PlainParts, PlainPart, letters, variable, element, script, none, with_letters}
-use Rattle.tt_script.specs.Answers.{Answers, Continues, Refuses}
-use Rattle.tt_script.specs.Building.{left, so_far}
+use Rattle.tt_script.specs.Words.{PlainWord, letters, variable, element, with_letters}
+use Rattle.tt_script.specs.Answers.{Answers}
+use Rattle.tt_script.specs.Building.{so_far}
 use Rattle.tt_script.specs.Plain.{plain_part, plain_parts, plain_word, plain_words}
-use Rattle.tt_script.specs.Reading.{Read, takes, fails, after, mapped, and_then, level, Level, parts, dollar, braced_variable}
-use Rattle.tt_script.specs.declared.command.ParseFault.{ParseFault}
-use Rattle.tt_script.specs.declared.command.Ending.TheVariants as endings
-use Rattle.tt_script.specs.declared.command.Place.TheVariants as places
+use Rattle.tt_script.specs.Reading.{Read, takes, after, mapped, level}
 use Rattle.tt_script.proofs.Builds.{plain_letters, plain_variable, plain_element, plain_script, plain_words-push}
-use Rattle.tt_script.proofs.Readers.{after-after, after-mapped, mapped-mapped, mapped-same}
-use Rattle.tt_script.proofs.PartSteps.{index-too_deep, brackets-too_deep, dollar_at-braced, dollar_at-itself, dollar_at-variable, dollar_at-element, dollar_at-read, dollar_at-fault, part_at-dollar, part_at-script, part_at-script_fault, part_at-escape, left_at-part, left_at-fault, left_at-letters}
+use Rattle.tt_script.proofs.Readers.{mapped-mapped, mapped-same}
+use Rattle.tt_script.proofs.PartSteps.{index-too_deep, brackets-too_deep, dollar_at-braced, dollar_at-itself, dollar_at-variable, dollar_at-read, dollar_at-fault, part_at-dollar, part_at-script, part_at-script_fault, part_at-escape, left_at-part, left_at-fault, left_at-letters}
 use Rattle.tt_script.proofs.CommandSteps.{quoted_at-fault, quoted_at-closed, quoted_at-after, parts_at-quoted, parts_at-braced, parts_at-bare, made, word_at-expands, word_at-plain, expands-room, words_at-last, words_at-more, words_at-fault, commands_at-closed, commands_at-ended, commands_at-more, commands_at-fault, brackets_at-closed, brackets_at-fault, ends_command-room, after_gap-word, in_brackets-word, index_at}
-use Rattle.tt_script.proofs.Exits.{answers_exit, continues_exit, refuses_by, refuses-and_then, refuses-mapped}
+use Rattle.tt_script.proofs.Exits.{answers_exit, continues_exit, refuses_by}
 use Rattle.tt_script.proofs.Escapes.{backslash_at_within}
 use Rattle.tt_script.proofs.parser.+parser.Goals as goal
 

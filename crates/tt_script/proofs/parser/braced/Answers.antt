@@ -1,7 +1,6 @@
-use Rattle.std.proofs.Common.{◌≡◌, ◌+◌, ◌∙◌, sym, ap, Option, None}
+use Rattle.std.proofs.Common.{◌+◌, ◌∙◌, sym, ap}
 use Rattle.tt_script.specs.Reading.{takes, letters_of}
 use Rattle.tt_script.proofs.Readers.{braced_at-closed, braced_at-after, braced_at-open}
-use Rattle.tt_script.proofs.PartSteps.{parts_passes}
 use Rattle.tt_script.proofs.parser.braced.Goals as goal
 
 pub returns-clause-read : goal.returns-clause-read

@@ -1,7 +1,6 @@
-use Rattle.std.proofs.Common.{◌≡◌, ◌+◌, ap, sym, ◌∙◌, arith, List, ℕ, drop, subst, refl}
-use Rattle.tt_script.specs.Words.{none, PlainParts}
-use Rattle.tt_script.specs.Answers.{Refuses}
-use Rattle.tt_script.specs.Reading.{after, takes, fails, parts, parts_at_end, level, Level}
+use Rattle.std.proofs.Common.{ap, ◌∙◌, arith}
+use Rattle.tt_script.specs.Words.{none}
+use Rattle.tt_script.specs.Reading.{after, takes, parts_at_end, level}
 use Rattle.tt_script.proofs.PartSteps.{parts_at-end, parts_at-all}
 use Rattle.tt_script.proofs.parser.must_end.Goals as goal
 

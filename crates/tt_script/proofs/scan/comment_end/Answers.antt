@@ -1,5 +1,4 @@
-use Rattle.std.proofs.Common.{◌≡◌, ◌+◌, drop, arith}
-use Rattle.tt_script.specs.Reading.{comment}
+use Rattle.std.proofs.Common.{arith}
 use Rattle.tt_script.proofs.Scanning.{comment_at-passed, comment-run, next_special-bounds}
 use Rattle.tt_script.proofs.scan.comment_end.Goals as goal
 

@@ -1,4 +1,4 @@
-use Rattle.std.proofs.Common.{◌≡◌, ◌≤◌, ◌+◌, ◌-◌, ◌==◌, ◌⊎◌, inl, inr, not, length, drop, arith, sym, subst, ℕ, List}
+use Rattle.std.proofs.Common.{◌≡◌, ◌≤◌, ◌+◌, ◌-◌, ◌==◌, ◌⊎◌, inl, inr, not, drop, arith, sym, subst, ℕ, List}
 use Rattle.std.specs.List.{prefix_len}
 use Rattle.tt_script.specs.Scanning.{is_letter}
 use Rattle.tt_lanes.specs.Classes.{is_special}

@@ -1,4 +1,4 @@
-use Rattle.std.proofs.Common.{◌≡◌, ◌+◌, ◌-◌, ◌≤◌, ◌==◌, length, drop}
+use Rattle.std.proofs.Common.{◌≡◌, ◌+◌, ◌-◌, ◌≤◌, ◌==◌, drop}
 use Rattle.std.specs.List.{position_or_len}
 use Rattle.tt_script.proofs.scan.parenthesis_before.Given as goal
 

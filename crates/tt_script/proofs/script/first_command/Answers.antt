@@ -1,4 +1,4 @@
-use Rattle.std.proofs.Common.{◌≡◌, ◌<◌, length, arith, sym, ◌∙◌}
+use Rattle.std.proofs.Common.{◌<◌, length, arith, sym}
 use Rattle.tt_script.proofs.FirstSteps.{first_at-nothing, first_at-fault, first_at-command}
 use Rattle.tt_script.proofs.script.first_command.Goals as goal
 

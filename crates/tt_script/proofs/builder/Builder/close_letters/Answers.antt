@@ -1,8 +1,6 @@
-use Rattle.std.proofs.Common.{rules, ap, ◌∙◌, sym, List, ◌++◌, ◌∷◌, [], length, ◌==◌, ◌≡◌, false}
+use Rattle.std.proofs.Common.{ap, ◌∙◌, sym, length, ◌==◌, ◌≡◌, false}
 use Rattle.tt_script.specs.Words.{more, letters}
-use Rattle.tt_script.specs.Plain.{plain_part}
 use Rattle.tt_script.specs.Building.{before}
-use Rattle.tt_script.specs.declared.command.Part.TheVariants.{Letters}
 use Rattle.tt_script.proofs.Builds.{before-push, plain_letters, apart-letters}
 use Rattle.tt_script.proofs.builder.Builder.close_letters.Goals as goal
 

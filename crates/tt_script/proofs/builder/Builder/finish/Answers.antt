@@ -1,4 +1,4 @@
-use Rattle.std.proofs.Common.{rules, ap, ◌∙◌, sym, List, ◌++◌, ◌∷◌, []}
+use Rattle.std.proofs.Common.{ap, ◌∙◌, sym}
 use Rattle.tt_script.specs.Words.{none}
 use Rattle.tt_script.specs.Building.{before}
 use Rattle.tt_script.proofs.Builds.{before-none, apart-none}

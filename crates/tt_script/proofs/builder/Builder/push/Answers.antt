@@ -1,4 +1,4 @@
-use Rattle.std.proofs.Common.{rules, ap, ◌∙◌, sym, List, ◌++◌, ◌∷◌, []}
+use Rattle.std.proofs.Common.{ap, ◌∙◌, sym, ◌++◌, ◌∷◌, []}
 use Rattle.tt_script.specs.Words.{with_letters, with_part, more}
 use Rattle.tt_script.specs.Plain.{plain_part}
 use Rattle.tt_script.specs.Building.{before}
