@@ -2,10 +2,9 @@
 use Rattle.std.proofs.Common.{◌≡◌, ℕ, ◌+◌, ◌<◌, true, List, [], ◌∷◌, length, drop, refl, ap, sym, ◌∙◌, subst, arith}
 use Rattle.std.proofs.lemmas.List.{length-drop}
 use Rattle.tt_script.specs.Words.{PlainWord, PlainCommand, nothing, bad, command}
-use Rattle.tt_script.specs.Reading.{Read, takes, fails, ends_command, level, words, gap, skipped, terminator_length, command_at, first}
+use Rattle.tt_script.specs.Reading.{most_open, Read, takes, fails, ends_command, level, words, gap, skipped, terminator_length, command_at, first}
 use Rattle.tt_script.specs.Grammar.{IsSkipped, IsWords, last_word, next_word, IsFirst}
 use Rattle.tt_script.specs.Law.{CommandLaw, NothingLaw, FaultLaw}
-use Rattle.tt_script.specs.declared.script.TheConstants.{DEPTH}
 use Rattle.tt_script.specs.declared.command.ParseFault.{ParseFault}
 use Rattle.tt_script.specs.declared.command.Place.{Place}
 use Rattle.tt_script.specs.declared.command.Place.TheVariants as places
@@ -31,7 +30,7 @@ same_command e = cc
 no_nothing : {fault : ParseFault} {place : ℕ} → nothing ≡ bad fault place → ⊥
 no_nothing e = cc
 
-command_read : (start : ℕ) (text : List ℕ) (ws : List PlainWord) (n : ℕ) → 0 < length text → words places.Script (level DEPTH) 0 text ≡ takes ws n → command_at start text ≡ command (record { words = ws; start = start; text_end = start + n; next = start + n + terminator_length (drop n text) })
+command_read : (start : ℕ) (text : List ℕ) (ws : List PlainWord) (n : ℕ) → 0 < length text → words places.Script (level most_open) 0 text ≡ takes ws n → command_at start text ≡ command (record { words = ws; start = start; text_end = start + n; next = start + n + terminator_length (drop n text) })
 command_read start [] ws n h e = absurd (omega arith)
 command_read start (b ∷ text) ws n h e = at-command start b text ws n e
 
@@ -48,11 +47,11 @@ first_read text c h =
     ∙ same_numbers c.words _ _ _ c.start c.text_end c.next (omega (arith, skip.size, h.start)) (omega (arith, skip.size, ws.0.cut.size, h.text_end)) (omega (arith, skip.size, ws.0.cut.size, h.text_end, gaps.size, tail, h.next, length-drop 1 h.terminator))
 
 -- what is read stands in the grammar
-stands : (text xs : List ℕ) (ws : List PlainWord) (n : ℕ) → drop (skipped 0 text) text ≡ xs → 0 < length xs → words places.Script (level DEPTH) 0 xs ≡ takes ws n → IsFirst text (record { words = ws; start = skipped 0 text; text_end = skipped 0 text + n; next = skipped 0 text + n + terminator_length (drop n xs) })
+stands : (text xs : List ℕ) (ws : List PlainWord) (n : ℕ) → drop (skipped 0 text) text ≡ xs → 0 < length xs → words places.Script (level most_open) 0 xs ≡ takes ws n → IsFirst text (record { words = ws; start = skipped 0 text; text_end = skipped 0 text + n; next = skipped 0 text + n + terminator_length (drop n xs) })
 stands text xs ws n e h r =
     let skip : IsSkipped text xs = subst (IsSkipped text) e (skipped_is 0 text) in
     let cut = skipped_cut skip in
-    let found = words_stand DEPTH xs ws n (script_begins xs (skipped_end-none skip) h) r in
+    let found = words_stand most_open xs ws n (script_begins xs (skipped_end-none skip) h) r in
     let again = words_read found.0 in
     let same : again.0.n ≡ n = takes-count (sym again.0.read ∙ r) in
     let gaps = gap_cut (gap_is 0 (drop n xs)) in
@@ -81,13 +80,13 @@ begins_so text = go (drop (skipped 0 text) text) refl
     here : (xs : List ℕ) → drop (skipped 0 text) text ≡ xs → first text ≡ command_at (skipped 0 text) xs
     here xs e = first-on text ∙ ap (command_at (skipped 0 text)) e
 
-    words_so : (b : ℕ) (xs : List ℕ) → drop (skipped 0 text) text ≡ b ∷ xs → (q : Read (List PlainWord)) → words places.Script (level DEPTH) 0 (b ∷ xs) ≡ q → Begins text
+    words_so : (b : ℕ) (xs : List ℕ) → drop (skipped 0 text) text ≡ b ∷ xs → (q : Read (List PlainWord)) → words places.Script (level most_open) 0 (b ∷ xs) ≡ q → Begins text
     words_so b xs e (fails fault) r = faulty fault (skipped 0 text) (here (b ∷ xs) e ∙ at-fault (skipped 0 text) b xs fault r)
     words_so b xs e (takes ws n) r = begun_by _ (here (b ∷ xs) e ∙ at-command (skipped 0 text) b xs ws n r) (stands text (b ∷ xs) ws n e (omega arith) r)
 
     go : (xs : List ℕ) → drop (skipped 0 text) text ≡ xs → Begins text
     go [] e = whole e (here [] e ∙ at-nothing (skipped 0 text) [] refl)
-    go (b ∷ xs) e = words_so b xs e (words places.Script (level DEPTH) 0 (b ∷ xs)) refl
+    go (b ∷ xs) e = words_so b xs e (words places.Script (level most_open) 0 (b ∷ xs)) refl
 
 -- from the function to the grammar
 pub first_is : (text : List ℕ) (c : PlainCommand) → first text ≡ command c → IsFirst text c

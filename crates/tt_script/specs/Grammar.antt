@@ -6,8 +6,7 @@ use Rattle.tt_text.specs.Characters.{is_white_space, is_blank}
 use Rattle.tt_text.specs.Backslash.{backslash}
 use Rattle.tt_text.specs.Braces.{IsBalanced}
 use Rattle.tt_script.specs.Words.{PlainPart, letters, variable, element, script, PlainParts, none, with_part, PlainWord, PlainCommand}
-use Rattle.tt_script.specs.Reading.{begins, continues_line, separates, ends_command, ends_parts, expands, letters_of, joined_lines, name_length, named}
-use Rattle.tt_script.specs.declared.script.TheConstants.{DEPTH}
+use Rattle.tt_script.specs.Reading.{most_open, begins, continues_line, separates, ends_command, ends_parts, expands, letters_of, joined_lines, name_length, named}
 use Rattle.tt_script.specs.declared.command.Place.{Place}
 use Rattle.tt_script.specs.declared.command.Place.TheVariants as places
 use Rattle.tt_script.specs.declared.command.Ending.{Ending}
@@ -111,7 +110,7 @@ pub record IsFirst (text : List ℕ) (c : PlainCommand) : Type 0 where
   pub after : List ℕ
   pub terminator : List ℕ
   pub skipped : IsSkipped text begun
-  pub words : IsWords DEPTH places.Script begun c.words after
+  pub words : IsWords most_open places.Script begun c.words after
   pub gap : IsGap after terminator
   pub ended : ends_command places.Script terminator ≡ true
   pub start : c.start + length begun ≡ length text

@@ -7,7 +7,6 @@ use Rattle.tt_text.specs.Characters.{is_white_space, is_blank}
 use Rattle.tt_text.specs.Backslash.{backslash}
 use Rattle.tt_text.specs.Braces.{matching_brace}
 use Rattle.tt_script.specs.Words.{PlainPart, letters, variable, element, script, PlainParts, none, with_letters, with_part, PlainWord, PlainFirst, nothing, bad, command}
-use Rattle.tt_script.specs.declared.script.TheConstants.{DEPTH}
 use Rattle.tt_script.specs.declared.command.ParseFault.{ParseFault}
 use Rattle.tt_script.specs.declared.command.ParseFault.TheVariants.{CloseBrace, CloseBracket, CloseQuote, AfterBrace, AfterQuote, CloseParen, VariableBrace, TooDeep}
 use Rattle.tt_script.specs.declared.command.Place.{Place}
@@ -299,6 +298,10 @@ level (suc depth) = record {
 
 -- ---- the first command ----
 
+-- how many brackets and indices of one command are open at once, at most
+abbrev pub most_open : ℕ
+most_open = 1000
+
 -- the terminator after a command's last word, with the gap before it
 abbrev pub terminator_length : List ℕ → ℕ
 terminator_length text = min (gap 0 text + 1) (length text)
@@ -307,7 +310,7 @@ terminator_length text = min (gap 0 text + 1) (length text)
 unfoldable pub command_at : ℕ → List ℕ → PlainFirst
 command_at start [] = nothing
 command_at start (b ∷ text) =
-    elim (words places.Script (level DEPTH) 0 (b ∷ text)) [
+    elim (words places.Script (level most_open) 0 (b ∷ text)) [
       | takes ws n ↦ command (record { words = ws; start = start; text_end = start + n; next = start + n + terminator_length (drop n (b ∷ text)) })
       | fails fault ↦ bad fault start
     ]
