@@ -174,12 +174,13 @@ cut negative size =
     let number = if negative then neg_ℤ (pos size) else pos size in
     if fits number then Ok number else Err TooLarge
 
+-- what a sign and what follows it are read as, where those digits write a number or none
+abbrev pub read_as : Bool → List ℕ → Option ℕ → Result ℤ NumberFault
+read_as negative unsigned (Some size) = cut negative size
+read_as negative unsigned None = if is_float unsigned then Err Float else Err NotWhole
+
 abbrev pub reading_of : List ℕ → Result ℤ NumberFault
-reading_of text =
-    elim (number_of (base_and_digits (unsigned_part text))) [
-      | Some size ↦ cut (is_minus_first text) size
-      | None ↦ if is_float (unsigned_part text) then Err Float else Err NotWhole
-    ]
+reading_of text = read_as (is_minus_first text) (unsigned_part text) (number_of (base_and_digits (unsigned_part text)))
 
 -- what a text is read as
 unfoldable pub whole_of : List ℕ → Result ℤ NumberFault
