@@ -1,2 +1,4 @@
+pub mod Floats
+pub mod Numbers
 pub mod Signs
 pub mod Trimming

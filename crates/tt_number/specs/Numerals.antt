@@ -133,14 +133,15 @@ base_of_mark mark =
     if is_octal_mark mark then Some 8 else
     if is_binary_mark mark then Some 2 else None
 
--- the base and the digits of an unsigned number
-abbrev pub after_zero : ℕ → List ℕ → ℕ × List ℕ
-after_zero mark digits = elim (base_of_mark mark) [ Some base ↦ (base, digits) | None ↦ (8, mark ∷ digits) ]
+-- the base and the digits of an unsigned number; a byte after a first `0` that is no mark is a digit itself
+abbrev pub after_zero : Option ℕ → ℕ → List ℕ → ℕ × List ℕ
+after_zero (Some base) mark digits = (base, digits)
+after_zero None digit digits = (8, digit ∷ digits)
 
 abbrev pub base_and_digits : List ℕ → ℕ × List ℕ
 base_and_digits [] = (10, [])
 base_and_digits (digit ∷ []) = (10, digit ∷ [])
-base_and_digits (digit ∷ mark ∷ digits) = if digit == 48 then after_zero mark digits else (10, digit ∷ mark ∷ digits)
+base_and_digits (digit ∷ mark ∷ digits) = if digit == 48 then after_zero (base_of_mark mark) mark digits else (10, digit ∷ mark ∷ digits)
 
 -- the number that digits write, where they are digits
 abbrev pub number_of : ℕ × List ℕ → Option ℕ

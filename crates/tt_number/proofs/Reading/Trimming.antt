@@ -13,9 +13,15 @@ all_parts p x xs h = and_parts (p x) (list_all p xs) h
 pub all_from : (p : ℕ → Bool) (x : ℕ) (xs : List ℕ) → p x ≡ true → list_all p xs ≡ true → list_all p (x ∷ xs) ≡ true
 all_from p x xs h t = and_from (p x) (list_all p xs) h t
 
+abbrev pub not_white : ℕ → Bool
+not_white b = not (is_white_space b)
+
 -- no byte is white space
 abbrev pub is_plain : List ℕ → Bool
-is_plain text = list_all (λ b. not (is_white_space b)) text
+is_plain text = list_all not_white text
+
+pub nonempty : (x : ℕ) (xs : List ℕ) → x ∷ xs ≡ [] → ⊥
+nonempty x xs e = cc
 
 front_skipped : (before rest : List ℕ) → list_all is_white_space before ≡ true → without_white_front (before ++ rest) ≡ without_white_front rest
 front_skipped [] rest h = refl
@@ -25,19 +31,19 @@ back_gone : (after : List ℕ) → list_all is_white_space after ≡ true → wi
 back_gone [] h = refl
 back_gone (b ∷ after) h = rw h
 
-not_white : (b : Bool) → not b ≡ true → b ≡ false
-not_white true h = cc
-not_white false h = refl
+turned : (b : Bool) → not b ≡ true → b ≡ false
+turned true h = cc
+turned false h = refl
 
 back_kept : (mid after : List ℕ) → is_plain mid ≡ true → list_all is_white_space after ≡ true → without_white_back (mid ++ after) ≡ mid
 back_kept [] after plain white = back_gone after white
-back_kept (b ∷ mid) after plain white = let p = all_parts (λ b. not (is_white_space b)) b mid plain in rw (not_white (is_white_space b) p.0, back_kept mid after p.1 white)
+back_kept (b ∷ mid) after plain white = let p = all_parts not_white b mid plain in rw (turned (is_white_space b) p.0, back_kept mid after p.1 white)
 
 pub trimmed_plain : (before : List ℕ) (b : ℕ) (mid after : List ℕ) → list_all is_white_space before ≡ true → is_plain (b ∷ mid) ≡ true → list_all is_white_space after ≡ true → trimmed (before ++ ((b ∷ mid) ++ after)) ≡ b ∷ mid
 unfolding trimmed
 trimmed_plain before b mid after front plain back =
-    let p = all_parts (λ b. not (is_white_space b)) b mid plain in
-    let front : without_white_front (before ++ ((b ∷ mid) ++ after)) ≡ (b ∷ mid) ++ after = front_skipped before ((b ∷ mid) ++ after) front ∙ rw (not_white (is_white_space b) p.0) in
+    let p = all_parts not_white b mid plain in
+    let front : without_white_front (before ++ ((b ∷ mid) ++ after)) ≡ (b ∷ mid) ++ after = front_skipped before ((b ∷ mid) ++ after) front ∙ rw (turned (is_white_space b) p.0) in
     ap without_white_back front ∙ back_kept (b ∷ mid) after plain back
 
 -- a text is what is left of it with white space on that side
@@ -77,8 +83,8 @@ digit_plain c base h d = grind (arith, nat_tests)
 
 pub digits_plain : (base : ℕ) (digits : List ℕ) → base ≤ 16 → all_digits base digits ≡ true → is_plain digits ≡ true
 digits_plain base [] h d = refl
-digits_plain base (c ∷ digits) h d = let p = all_parts (λ digit. is_digit digit base) c digits d in all_from (λ b. not (is_white_space b)) c digits (digit_plain c base h p.0) (digits_plain base digits h p.1)
+digits_plain base (c ∷ digits) h d = let p = all_parts (λ digit. is_digit digit base) c digits d in all_from not_white c digits (digit_plain c base h p.0) (digits_plain base digits h p.1)
 
 pub plain_append : (xs ys : List ℕ) → is_plain xs ≡ true → is_plain ys ≡ true → is_plain (xs ++ ys) ≡ true
 plain_append [] ys p q = q
-plain_append (x ∷ xs) ys p q = let r = all_parts (λ b. not (is_white_space b)) x xs p in all_from (λ b. not (is_white_space b)) x (xs ++ ys) r.0 (plain_append xs ys r.1 q)
+plain_append (x ∷ xs) ys p q = let r = all_parts not_white x xs p in all_from not_white x (xs ++ ys) r.0 (plain_append xs ys r.1 q)
