@@ -1,10 +1,9 @@
 -- The quotient that is rounded down, and its remainder.
-use Rattle.std.proofs.Common.{◌≡◌, ◌≢◌, ℕ, zero, suc, ◌+◌, ◌-◌, ◌*◌, ◌<◌, ◌≤◌, ◌/◌, ◌%◌, ℤ, pos, negsuc, ◌+ℤ◌, ◌*ℤ◌, neg_ℤ, inl, inr, refl, sym, ap, ◌∙◌, arith}
-use Rattle.std.proofs.Math.IntN.{neg_ℤ-neg_ℤ, neg_ℤ-+ℤ, *ℤ-negsuc, negsuc-*ℤ-pos, pos-*ℤ-pos}
+use Rattle.std.proofs.Common.{◌≡◌, ℕ, zero, suc, ◌+◌, ◌*◌, ◌/◌, ℤ, pos, negsuc, ◌+ℤ◌, ◌*ℤ◌, neg_ℤ, inl, inr, refl, sym, ap, ◌∙◌, arith}
+use Rattle.std.proofs.Math.IntN.{neg_ℤ-neg_ℤ, neg_ℤ-+ℤ, *ℤ-negsuc, negsuc-*ℤ-pos}
 use Rattle.std.proofs.lemmas.Int.{ints}
 use Rattle.std.proofs.lemmas.Nat.{div-add-mod', mod_below}
 use Rattle.std.specs.Int.{int_div_euclid, int_rem_euclid}
-use Rattle.tt_number.specs.Operators.{quotient_down, remainder_down}
 use Rattle.tt_number.specs.Division.{DividesDown, DivisionRoundsDown}
 
 -- Euclid's quotient and remainder, by a divisor above 0
@@ -19,7 +18,7 @@ below (negsuc a) d = let m = mod_below a (suc d) (omega arith) in record { whole
 turned : (a q r : ℤ) (d : ℕ) → DividesDown (neg_ℤ a) (pos (suc d)) q r → DividesDown a (negsuc d) q (neg_ℤ r)
 turned a q r d h = record {
   whole = rw (*ℤ-negsuc q d) (sym (neg_ℤ-+ℤ (q *ℤ pos (suc d)) r) ∙ ap neg_ℤ h.whole ∙ neg_ℤ-neg_ℤ a);
-  between = elim h.between [ inl p ↦ inr (omega (arith, ints, p.0, p.1), omega (arith, ints, p.0, p.1)) | inr p ↦ absurd (omega (arith, ints, p.0, p.1)) ]
+  between = elim h.between [ inl p ↦ inr (omega (arith, ints, p.0, p.1), omega (arith, ints, p.0, p.1)) | inr p ↦ absurd (omega (arith, ints, p.0, p.1)) ];
 }
 
 pub division_rounds_down : DivisionRoundsDown

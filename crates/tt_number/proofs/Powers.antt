@@ -1,13 +1,12 @@
 -- Powers and shifts past 64 bits.
-use Rattle.std.proofs.Common.{inl, inr, ◌<ℤ◌, ◌≤ℤ◌, ◌≡◌, ℕ, zero, suc, ◌+◌, ◌*◌, ◌^◌, ◌<◌, ◌≤◌, ◌/◌, ◌%◌, Bool, true, false, cond, eqb, min, ◌≢◌, ℤ, pos, negsuc, ◌*ℤ◌, neg_ℤ, Err, Ok, Result, refl, sym, ap, subst, ◌∙◌, arith}
+use Rattle.std.proofs.Common.{inl, inr, ◌<ℤ◌, ◌≤ℤ◌, ◌≡◌, ℕ, zero, suc, ◌^◌, ◌<◌, ◌≤◌, ◌/◌, ◌%◌, true, false, cond, eqb, min, ◌≢◌, ℤ, pos, negsuc, ◌*ℤ◌, neg_ℤ, Err, Ok, refl, sym, ◌∙◌, arith}
 use Rattle.std.proofs.lemmas.Bool.{cases_lt}
 use Rattle.std.proofs.lemmas.Bool.Decides.{nat_tests}
 use Rattle.std.proofs.lemmas.Int.{ints, unsigned_abs-mul}
-use Rattle.std.proofs.Math.Nat.{div-eq_of_lt, div-le_self, pow-suc, pow-le-pow_left, pow-le-pow_right, mul-le-mul_left, mul-le-mul_right}
+use Rattle.std.proofs.Math.Nat.{div-eq_of_lt, div-le_self, pow-suc, pow-le-pow_left, pow-le-pow_right, mul-le-mul_right}
 use Rattle.std.specs.Int.{w64, int_pow, int_shr}
 use Rattle.std.specs.Int.RustNames.{unsigned_abs, FitsSigned}
 use Rattle.tt_number.specs.Operators.{fitted, quotient_down}
-use Rattle.tt_number.specs.declared.operators.ArithFault.{ArithFault}
 use Rattle.tt_number.specs.declared.operators.ArithFault.TheVariants.{Overflow}
 
 -- a number whose size is past 63 bits does not fit

@@ -1,6 +1,7 @@
 -- How a text is read as a whole number (expr(n), OPERANDS): a grammar, and the function that follows it.
-use Rattle.std.specs.Prelude.{◌≡◌, ℕ, ◌+◌, ◌*◌, ◌^◌, nat_lt, Bool, true, false, ◌&&◌, ◌||◌, if◌then◌else◌, ◌==◌, ◌⊎◌, ◌↔◌, IsTrue, ℤ, pos, neg_ℤ, FitsSigned, List, [], ◌∷◌, ◌++◌, length, take, drop, position, Option, Some, None, Result, Ok, Err}
+use Rattle.std.specs.Prelude.{◌≡◌, ℕ, ◌+◌, ◌*◌, ◌^◌, nat_lt, Bool, false, ◌&&◌, ◌||◌, if◌then◌else◌, ◌==◌, ◌⊎◌, ◌↔◌, IsTrue, ℤ, pos, neg_ℤ, FitsSigned, List, [], ◌∷◌, ◌++◌, length, take, drop, position, Option, Some, None, Result, Ok, Err}
 use Rattle.std.specs.Char.{digit_value, is_digit}
+use Rattle.std.specs.Fmt.{signed_decimal}
 use Rattle.std.specs.Int.{w64}
 use Rattle.std.specs.List.{list_all}
 use Rattle.tt_text.specs.Characters.{is_white_space}
@@ -190,3 +191,7 @@ whole_of text = reading_of (trimmed text)
 -- the function answers what the grammar says, and nothing else
 abbrev pub ReadingLaw : Type 0
 ReadingLaw = (text : List ℕ) (reading : Result ℤ NumberFault) → (whole_of text ≡ reading) ↔ IsReading text reading
+
+-- the decimal text of a number is read as that number
+abbrev pub DecimalLaw : Type 0
+DecimalLaw = (number : ℤ) → FitsSigned w64 number → whole_of (signed_decimal number) ≡ Ok number

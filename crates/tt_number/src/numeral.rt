@@ -54,10 +54,7 @@ fn without_white_front(mut text: &[u8]) -> &[u8]
     text
 }
 
-#[tactic(
-    auto,
-    using(crate::proofs::Trims::white_end, crate::proofs::Trims::kept_end)
-)]
+#[tactic(auto, using(crate::proofs::Trims::white_end, crate::proofs::Trims::kept_end))]
 fn without_white_back(mut text: &[u8]) -> &[u8]
     ensures { result.now ≡ without_white_back text.now }
 {

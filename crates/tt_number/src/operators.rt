@@ -143,18 +143,15 @@ fn power(base: i64, exponent: i64) -> Result<i64, ArithFault>
     }
 }
 
-#[tactic(auto, using(
-    crate::proofs::Powers::long_power,
-    crate::proofs::Powers::idle_power,
-    crate::proofs::Powers::even_power,
-    crate::proofs::Powers::odd_power
-))]
+#[tactic(auto, using(crate::proofs::Powers::long_power, crate::proofs::Powers::idle_power, crate::proofs::Powers::even_power, crate::proofs::Powers::odd_power))]
 // A base of two or more passes 64 bits at an exponent of 64, so a huge one takes no long work.
 fn raised(base: i64, exponent: u64) -> Result<i64, ArithFault>
     ensures { result ≡ fitted (int_pow base exponent) }
 {
     if exponent < 64 {
-        return base.checked_pow(exponent as u32).ok_or(ArithFault::Overflow);
+        return base
+            .checked_pow(exponent as u32)
+            .ok_or(ArithFault::Overflow);
     }
     if base.unsigned_abs() > 1 {
         Err(ArithFault::Overflow)

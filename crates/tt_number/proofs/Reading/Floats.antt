@@ -1,19 +1,17 @@
 -- The grammar of floating-point numbers against the function that tells them.
-use Rattle.std.proofs.Common.{◌≡◌, ◌≢◌, ℕ, suc, ◌+◌, ◌<◌, ◌≤◌, Bool, true, false, not, ◌&&◌, cond, List, [], ◌∷◌, ◌++◌, length, get_or, take, drop, Option, Some, None, refl, sym, ap, subst, ◌∙◌, inl, inr, append_assoc, arith, ◌==◌, ◌||◌, length-append, length-take, length-drop, add-one, ℤ}
+use Rattle.std.proofs.Common.{◌≡◌, ℕ, ◌+◌, ◌<◌, ◌≤◌, Bool, true, false, not, ◌&&◌, List, [], ◌∷◌, ◌++◌, length, get_or, take, drop, Option, Some, None, refl, ap, ◌∙◌, inl, inr, append_assoc, arith, ◌==◌, ◌||◌, length-append, length-take, length-drop, add-one, ℤ}
 use Rattle.std.specs.Char.{is_digit}
-use Rattle.std.specs.List.{list_all, position, position_or_len, prefix_len}
+use Rattle.std.specs.List.{list_all, position, position_or_len}
 use Rattle.std.specs.Prelude.{nat_lt, ◌⊎◌}
-use Rattle.std.proofs.lemmas.Bool.{cases_Bool, eqb-true, eqb-false, ne_eqb, eq-eqb, or_cases, or_left, or_right, and_parts, and_from, both_ways, lt-ltb, le-ltb, ltb-true, not-false, not-true}
+use Rattle.std.proofs.lemmas.Bool.{cases_Bool, eqb-true, or_cases, or_left, or_right, and_parts, and_from, both_ways, lt-ltb, le-ltb, ltb-true}
 use Rattle.std.proofs.lemmas.Bool.Decides.{nat_tests}
-use Rattle.std.proofs.lemmas.List.{take_more}
 use Rattle.std.proofs.lemmas.List.Sums.{passes_at_first}
 use Rattle.std.proofs.Math.Seq.{take-append_seam, drop-append-add, split_at}
 use Rattle.tt_number.specs.Numerals.{IsPointed, IsFloat, IsSign, all_digits, is_numeral, number_of, base_and_digits, base_of_mark, after_zero, is_point, is_pointed, divides_digits, is_exponent_mark, is_float, is_float_with, is_scaled, unsigned_part}
 use Rattle.tt_number.specs.Numerals.IsFloat.{pointed, scaled}
-use Rattle.tt_number.specs.Numerals.IsSign.{none, plus, minus}
 use Rattle.tt_number.proofs.Trims.{and_false}
-use Rattle.tt_number.proofs.Reading.Trimming.{not_white, nonempty, is_plain, all_parts, all_from, digits_plain, digit_plain, plain_append}
-use Rattle.tt_number.proofs.Reading.Signs.{is_sign_byte, after_sign, sign_of}
+use Rattle.tt_number.proofs.Reading.Trimming.{not_white, is_plain, all_parts, all_from, digits_plain, plain_append}
+use Rattle.tt_number.proofs.Reading.Signs.{is_sign_byte, after_sign, sign_of, sign_plain}
 use Rattle.tt_number.proofs.Reading.Numbers.{numeral_digits, digit_no_mark, digit_no_sign}
 
 -- ---- places
@@ -100,7 +98,7 @@ to_pointed text h = go (position is_point text) refl h
           front = take at text;
           back = drop (at + 1) text;
           spelled = rw (point, ← add-one at) at cut;
-          digits = and_from (nat_lt 0 (length (take at text ++ drop (at + 1) text))) (all_digits 10 (take at text ++ drop (at + 1) text)) (lt-ltb 0 _ (omega (arith, length-append (take at text) (drop (at + 1) text), length-take at text, length-drop (at + 1) text))) (append_digits 10 (take at text) (drop (at + 1) text) r.1 q.1)
+          digits = and_from (nat_lt 0 (length (take at text ++ drop (at + 1) text))) (all_digits 10 (take at text ++ drop (at + 1) text)) (lt-ltb 0 _ (omega (arith, length-append (take at text) (drop (at + 1) text), length-take at text, length-drop (at + 1) text))) (append_digits 10 (take at text) (drop (at + 1) text) r.1 q.1);
         }
 
 -- ---- no float is a whole number
@@ -165,14 +163,19 @@ front_pointed front back h = go front h
   where
     parts : (front : List ℕ) → is_numeral 10 (front ++ back) ≡ true → (all_digits 10 front ≡ true) × (all_digits 10 back ≡ true)
     parts front h = digits_append 10 front back (numeral_digits 10 (front ++ back) h)
+
     plain_of : (front : List ℕ) → is_numeral 10 (front ++ back) ≡ true → is_plain (front ++ (46 ∷ back)) ≡ true
     plain_of front h = plain_append front (46 ∷ back) (digits_plain 10 front (omega arith) (parts front h).0) (all_from not_white 46 back refl (digits_plain 10 back (omega arith) (parts front h).1))
+
     unmarked_of : (front : List ℕ) → is_numeral 10 (front ++ back) ≡ true → fails is_exponent_mark (front ++ (46 ∷ back)) ≡ true
     unmarked_of front h = fails_append is_exponent_mark front (46 ∷ back) (no_mark front (parts front h).0) (all_from (λ b. not (is_exponent_mark b)) 46 back refl (no_mark back (parts front h).1))
+
     is_of : (front : List ℕ) → is_numeral 10 (front ++ back) ≡ true → (is_numeral 10 (front ++ (46 ∷ back)) || is_pointed (front ++ (46 ∷ back))) ≡ true
     is_of front h = or_right (is_numeral 10 (front ++ (46 ∷ back))) (is_pointed (front ++ (46 ∷ back))) (pointed_yes front back h)
+
     none_of : (front : List ℕ) → is_numeral 10 (front ++ back) ≡ true → (bad : ℕ) (rest : List ℕ) → IsBad bad → number_of (base_and_digits ((front ++ (46 ∷ back)) ++ (bad ∷ rest))) ≡ None
     none_of front h bad rest b = ap (λ t. number_of (base_and_digits t)) (append_assoc front (46 ∷ back) (bad ∷ rest)) ∙ no_number front 46 (back ++ (bad ∷ rest)) (parts front h).0 bad_point
+
     go : (front : List ℕ) → is_numeral 10 (front ++ back) ≡ true → IsFront (front ++ (46 ∷ back))
     go [] h = record { first = 46; others = back; begins = refl; no_sign = refl; plain = plain_of [] h; unmarked = unmarked_of [] h; is = is_of [] h; none = none_of [] h }
     go (d ∷ ds) h = record { first = d; others = ds ++ (46 ∷ back); begins = refl; no_sign = digit_no_sign d 10 (omega arith) (all_parts (λ digit. is_digit digit 10) d ds (parts (d ∷ ds) h).0).0; plain = plain_of (d ∷ ds) h; unmarked = unmarked_of (d ∷ ds) h; is = is_of (d ∷ ds) h; none = none_of (d ∷ ds) h }
@@ -194,11 +197,6 @@ read_pointed front back h =
     let all = digits_append 10 front back (numeral_digits 10 (front ++ back) h) in
     record { first = f.first; rest = f.others; begins = f.begins; no_sign = f.no_sign; plain = f.plain; is = ap (is_float_with (front ++ (46 ∷ back))) (no_place is_exponent_mark (front ++ (46 ∷ back)) f.unmarked) ∙ pointed_yes front back h; none = no_number front 46 back all.0 bad_point }
 
-sign_plain : {sign : List ℕ} {signed : ℕ → ℤ} → IsSign sign signed → is_plain sign ≡ true
-sign_plain none = refl
-sign_plain plus = refl
-sign_plain minus = refl
-
 mark_plain : (mark : ℕ) → is_exponent_mark mark ≡ true → not_white mark ≡ true
 mark_plain mark m = elim (or_cases (mark == 101) (mark == 69) m) [ inl p ↦ rw (eqb-true mark 101 p) refl | inr p ↦ rw (eqb-true mark 69 p) refl ]
 
@@ -219,7 +217,7 @@ read_scaled {sign} front mark digits f m s h =
       no_sign = f.no_sign;
       plain = plain_append front (mark ∷ (sign ++ digits)) f.plain (all_from not_white mark (sign ++ digits) (mark_plain mark m) (plain_append sign digits (sign_plain s) (digits_plain 10 digits (omega arith) (numeral_digits 10 digits h))));
       is = ap (is_float_with text) (place is_exponent_mark front mark (sign ++ digits) f.unmarked m) ∙ parts;
-      none = f.none mark (sign ++ digits) (bad_mark mark m)
+      none = f.none mark (sign ++ digits) (bad_mark mark m);
     }
 
 pub read_float : {text : List ℕ} → IsFloat text → IsFloatRead text
@@ -236,6 +234,7 @@ find_float text h = go (position is_exponent_mark text) refl h
   where
     front_of : (front : List ℕ) → (is_numeral 10 front || is_pointed front) ≡ true → (is_numeral 10 front ≡ true) ⊎ IsPointed front
     front_of front h = elim (or_cases (is_numeral 10 front) (is_pointed front) h) [ inl p ↦ inl p | inr p ↦ inr (to_pointed front p) ]
+
     go : (o : Option ℕ) → position is_exponent_mark text ≡ o → is_float_with text o ≡ true → IsFloat text
     go None e h = pointed (to_pointed text h)
     go (Some at) e h =

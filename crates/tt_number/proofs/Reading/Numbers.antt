@@ -1,14 +1,12 @@
 -- The grammar of unsigned whole numbers against the function that reads them.
-use Rattle.std.proofs.Common.{◌≡◌, ◌≢◌, ℕ, ◌<◌, ◌≤◌, Bool, true, false, not, ◌&&◌, cond, List, [], ◌∷◌, ◌++◌, length, Option, Some, None, refl, sym, ap, subst, ◌∙◌, inl, inr, arith, ◌==◌, ◌||◌}
+use Rattle.std.proofs.Common.{◌≡◌, ◌≢◌, ℕ, ◌≤◌, true, false, List, [], ◌∷◌, length, Option, Some, None, refl, ap, subst, inl, inr, arith, ◌==◌}
 use Rattle.std.specs.Char.{is_digit}
-use Rattle.std.specs.List.{list_all}
-use Rattle.std.specs.Prelude.{nat_lt, ◌⊎◌}
-use Rattle.std.proofs.lemmas.Bool.{cases_Bool, eqb-true, eqb-false, ne_eqb, eq-eqb, or_cases, or_parts, and_parts, and_from, both_ways}
+use Rattle.std.specs.Prelude.{nat_lt}
+use Rattle.std.proofs.lemmas.Bool.{cases_Bool, eqb-true, eqb-false, ne_eqb, or_cases, and_parts, both_ways}
 use Rattle.std.proofs.lemmas.Bool.Decides.{nat_tests}
 use Rattle.tt_number.specs.Numerals.{IsUnsigned, digit_sum, all_digits, is_numeral, number_of, base_and_digits, base_of_mark, after_zero, is_hexadecimal_mark, is_octal_mark, is_binary_mark}
 use Rattle.tt_number.specs.Numerals.IsUnsigned.{hexadecimal, octal, binary, leading_zero, decimal}
-use Rattle.tt_number.proofs.Trims.{and_false}
-use Rattle.tt_number.proofs.Reading.Trimming.{not_white, nonempty, is_plain, all_parts, all_from, digits_plain, digit_plain}
+use Rattle.tt_number.proofs.Reading.Trimming.{not_white, nonempty, is_plain, all_parts, all_from, digits_plain}
 use Rattle.tt_number.proofs.Reading.Signs.{is_sign_byte}
 
 pub numeral_digits : (base : ℕ) (digits : List ℕ) → is_numeral base digits ≡ true → all_digits base digits ≡ true
@@ -71,12 +69,12 @@ found_after_zero mark ds n h =
     elim (cases_Bool (is_hexadecimal_mark mark)) [
       | inl p ↦ found (48 ∷ mark ∷ ds) 16 ds n (after_mark mark ds n (Some 16) (rw p refl) h) (λ d. hexadecimal p d)
       | inr p ↦ elim (cases_Bool (is_octal_mark mark)) [
-          | inl q ↦ found (48 ∷ mark ∷ ds) 8 ds n (after_mark mark ds n (Some 8) (rw (p, q) refl) h) (λ d. octal q d)
-          | inr q ↦ elim (cases_Bool (is_binary_mark mark)) [
-              | inl r ↦ found (48 ∷ mark ∷ ds) 2 ds n (after_mark mark ds n (Some 2) (rw (p, q, r) refl) h) (λ d. binary r d)
-              | inr r ↦ found (48 ∷ mark ∷ ds) 8 (mark ∷ ds) n (after_mark mark ds n None (rw (p, q, r) refl) h) (λ d. leading_zero d)
-            ]
+        | inl q ↦ found (48 ∷ mark ∷ ds) 8 ds n (after_mark mark ds n (Some 8) (rw (p, q) refl) h) (λ d. octal q d)
+        | inr q ↦ elim (cases_Bool (is_binary_mark mark)) [
+          | inl r ↦ found (48 ∷ mark ∷ ds) 2 ds n (after_mark mark ds n (Some 2) (rw (p, q, r) refl) h) (λ d. binary r d)
+          | inr r ↦ found (48 ∷ mark ∷ ds) 8 (mark ∷ ds) n (after_mark mark ds n None (rw (p, q, r) refl) h) (λ d. leading_zero d)
         ]
+      ]
     ]
 
 pub find_unsigned : (text : List ℕ) (n : ℕ) → number_of (base_and_digits text) ≡ Some n → IsFound text n

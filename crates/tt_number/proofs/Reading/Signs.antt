@@ -1,9 +1,10 @@
 -- A sign before a text that begins with none, and numbers cut at 64 bits.
-use Rattle.std.proofs.Common.{◌≡◌, ◌≢◌, ℕ, zero, suc, ◌^◌, ◌<◌, Bool, true, false, cond, ℤ, pos, negsuc, neg_ℤ, List, [], ◌∷◌, ◌++◌, Result, Ok, Err, refl, sym, ap, ◌∙◌, inl, inr, arith, ◌==◌, ◌||◌}
-use Rattle.std.proofs.lemmas.Bool.{cases_Bool, eqb-true, ne_eqb, or_cases, or_parts, ltb-true, lt-ltb, both_ways}
+use Rattle.std.proofs.Common.{◌≡◌, ℕ, ◌^◌, Bool, true, false, cond, ℤ, pos, negsuc, neg_ℤ, List, [], ◌∷◌, ◌++◌, Result, Ok, Err, refl, inl, inr, ◌==◌, ◌||◌}
+use Rattle.std.proofs.lemmas.Bool.{cases_Bool, eqb-true, or_parts, ltb-true, lt-ltb}
 use Rattle.std.specs.Int.{w64}
 use Rattle.std.specs.Int.RustNames.{FitsSigned}
 use Rattle.tt_number.specs.Operators.{fits}
+use Rattle.tt_number.proofs.Reading.Trimming.{is_plain}
 use Rattle.tt_number.specs.Numerals.{IsSign, is_minus_first, unsigned_part, cut}
 use Rattle.tt_number.specs.Numerals.IsSign.{none, plus, minus}
 use Rattle.tt_number.specs.declared.numeral.NumberFault.{NumberFault}
@@ -49,7 +50,13 @@ sign_of (b ∷ text) =
     elim (cases_Bool (b == 43)) [
       | inl p ↦ (let e = eqb-true b 43 p in rw e (record { sign = 43 ∷ []; signed = pos; has = plus; spelled = refl; cuts = λ n. refl }))
       | inr p ↦ elim (cases_Bool (b == 45)) [
-          | inl q ↦ (let e = eqb-true b 45 q in rw e (record { sign = 45 ∷ []; signed = λ n. neg_ℤ (pos n); has = minus; spelled = refl; cuts = λ n. refl }))
-          | inr q ↦ record { sign = []; signed = pos; has = none; spelled = rw (p, q) refl; cuts = λ n. rw q refl }
-        ]
+        | inl q ↦ (let e = eqb-true b 45 q in rw e (record { sign = 45 ∷ []; signed = λ n. neg_ℤ (pos n); has = minus; spelled = refl; cuts = λ n. refl }))
+        | inr q ↦ record { sign = []; signed = pos; has = none; spelled = rw (p, q) refl; cuts = λ n. rw q refl }
+      ]
     ]
+
+-- a sign is no white space
+pub sign_plain : {sign : List ℕ} {signed : ℕ → ℤ} → IsSign sign signed → is_plain sign ≡ true
+sign_plain none = refl
+sign_plain plus = refl
+sign_plain minus = refl
