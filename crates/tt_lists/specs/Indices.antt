@@ -1,0 +1,1 @@
+-- The indices of list commands (lindex(n), string(n)).

@@ -1,0 +1,4 @@
+pub mod Indices
+pub mod ListText
+pub mod Reading
+pub mod Spelling
