@@ -1,5 +1,5 @@
 -- Items read one after another.
-use Rattle.std.proofs.Common.{◌≡◌, ◌≢◌, ℕ, zero, suc, ◌+◌, ◌-◌, ◌<◌, ◌≤◌, min, Bool, true, false, ◌==◌, List, [], ◌∷◌, ◌++◌, length, get_or, take, drop, Option, Some, None, refl, sym, ap, subst, ◌∙◌, inl, inr, append_assoc, arith, length-append, length-take, length-drop}
+use Rattle.std.proofs.Common.{◌≡◌, ◌≢◌, ℕ, zero, suc, ◌+◌, ◌-◌, ◌<◌, ◌≤◌, min, Bool, true, false, ◌==◌, List, [], ◌∷◌, ◌++◌, length, get_or, take, drop, Option, Some, None, refl, sym, ap, subst, ◌∙◌, inl, inr, append_assoc, append-nil, arith, length-append, length-take, length-drop}
 use Rattle.std.specs.List.{take_while, prefix_len}
 use Rattle.std.proofs.lemmas.Bool.{cases_Bool, cases_eq, cases_lt, eq-eqb, ne_eqb, eqb-true, ltb-true, lt-ltb, le-ltb}
 use Rattle.std.proofs.lemmas.List.{take-take, take_all}
@@ -111,3 +111,62 @@ split-item b text item (suc takes) h e =
     let bound : takes ≤ length text = omega (arith, (item_takes b text item (suc takes) h e).1) in
     let less : suc takes - 1 ≡ takes = omega arith in
     split-item_kept b text item (suc takes) h e ∙ ap (λ k. with_item item (split_after k text)) less ∙ ap (with_item item) (split_skip takes text bound)
+
+-- ---- the loop over items
+
+-- items read before those of the rest
+abbrev pub after_items : List (List ℕ) → Split → Split
+after_items before (Items items) = Items (before ++ items)
+after_items before (Bad fault) = Bad fault
+
+front_le : (text : List ℕ) → length (without_white_front text) ≤ length text
+front_le [] = omega arith
+front_le (b ∷ text) = elim (cases_Bool (is_white_space b)) [ inl p ↦ rw (p, without_white_front) (omega (arith, front_le text)) | inr p ↦ rw (p, without_white_front) (omega arith) ]
+
+pub front_again : (text : List ℕ) → without_white_front (without_white_front text) ≡ without_white_front text
+front_again [] = refl
+front_again (b ∷ text) = elim (cases_Bool (is_white_space b)) [ inl p ↦ rw (p, without_white_front) (front_again text) | inr p ↦ rw (p, without_white_front) (rw (p, without_white_front) refl) ]
+
+front_not_white : (b : ℕ) (text : List ℕ) → without_white_front (b ∷ text) ≡ b ∷ text → is_white_space b ≡ false
+front_not_white b text e = elim (cases_Bool (is_white_space b)) [ inl p ↦ absurd (omega (arith, front_le text, ap length (rw (p, without_white_front) at e))) | inr p ↦ p ]
+
+pub split-front : (text : List ℕ) → split_of (without_white_front text) ≡ split_of text
+split-front [] = refl
+split-front (b ∷ text) = elim (cases_Bool (is_white_space b)) [ inl p ↦ rw (p, without_white_front) (split-front text ∙ sym (split-white b text p)) | inr p ↦ rw (p, without_white_front) refl ]
+
+pub none_before : (split : Split) → after_items [] split ≡ split
+none_before (Items items) = refl
+none_before (Bad fault) = refl
+
+one_more : (before : List (List ℕ)) (item : List ℕ) (split : Split) → after_items before (with_item item split) ≡ after_items (before ++ (item ∷ [])) split
+one_more before item (Items items) = ap Items (sym (append_assoc before (item ∷ []) items))
+one_more before item (Bad fault) = refl
+
+pub front_less : (text : List ℕ) (n : ℕ) → length (without_white_front (drop n text)) + n ≤ length text + (n - length text)
+front_less text n = omega (arith, front_le (drop n text), length-drop n text)
+
+-- what a turn of the loop knows where an item is read
+pub record ReadsItem (rest item : List ℕ) (takes : ℕ) : Type 0 where
+  pub some : 1 ≤ takes
+  pub within : takes ≤ length rest
+  pub split : (before : List (List ℕ)) → after_items before (split_of rest) ≡ after_items (before ++ (item ∷ [])) (split_of (without_white_front (drop takes rest)))
+
+pub reads_item : (rest item : List ℕ) (takes : ℕ) → 0 < length rest → without_white_front rest ≡ rest → item_at rest ≡ Item item takes → ReadsItem rest item takes
+reads_item [] item takes h e read = absurd (omega arith)
+reads_item (b ∷ text) item takes h e read =
+    let white = front_not_white b text e in
+    let bounds = item_takes b text item takes white read in
+    record {
+      some = bounds.0;
+      within = bounds.1;
+      split = λ before. ap (after_items before) (split-item b text item takes white read) ∙ one_more before item (split_of (drop takes (b ∷ text))) ∙ ap (after_items (before ++ (item ∷ []))) (sym (split-front (drop takes (b ∷ text))))
+    }
+
+pub reads_fault : (rest : List ℕ) (fault : ListFault) (before : List (List ℕ)) → 0 < length rest → without_white_front rest ≡ rest → item_at rest ≡ Wrong fault → after_items before (split_of rest) ≡ Bad fault
+reads_fault [] fault before h e read = absurd (omega arith)
+reads_fault (b ∷ text) fault before h e read = ap (after_items before) (split-wrong b text fault (front_not_white b text e) read)
+
+pub reads_end : (rest : List ℕ) (before : List (List ℕ)) → length rest ≡ 0 → after_items before (split_of rest) ≡ Items before
+unfolding split_after
+reads_end [] before h = ap Items (append-nil before)
+reads_end (b ∷ text) before h = absurd (omega arith)

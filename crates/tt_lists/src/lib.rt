@@ -9,4 +9,5 @@ mod spelling;
 mod splitting;
 
 pub use items::{ListFault, Split, Texts};
+pub use spelling::{element, join_list};
 pub use splitting::split;

@@ -1,4 +1,4 @@
-ghost use Rattle.std.specs.Prelude.{◌≡◌, ◌<◌, ◌≤◌, length, IfOk, take, take_while};
+ghost use Rattle.std.specs.Prelude.{◌≡◌, ◌<◌, ◌≤◌, length, IfOk, drop, take, take_while};
 ghost use Rattle.tt_text.specs.Braces.{matching_brace};
 ghost use Rattle.tt_lists.specs.ListText.{is_no_white_space, is_quote};
 ghost use Rattle.tt_lists.specs.Reading.{IsSplit, split_of, without_white_front, item_at, in_braces, in_quotes, is_separated, run};
@@ -32,12 +32,19 @@ pub fn split(alloc: Global, text: &[u8]) -> Result<Split, NoMemory>
         match item_at(alloc, rest)? {
             Reading::Item(item, takes) => {
                 items.push(item)?;
-                rest = without_white_front(&rest[takes..]);
+                rest = after_item(rest, takes);
             }
             Reading::Wrong(fault) => return Ok(Split::Bad(fault)),
         }
     }
     Ok(Split::Items(items))
+}
+
+fn after_item(text: &[u8], takes: usize) -> &[u8]
+    requires { takes ≤ length text.now }
+    ensures { result.now ≡ without_white_front (drop takes text.now) }
+{
+    without_white_front(&text[takes..])
 }
 
 fn without_white_front(mut text: &[u8]) -> &[u8]
