@@ -1,8 +1,11 @@
 -- The search for the brace that closes, byte by byte.
-use Rattle.std.proofs.Common.{◌≡◌, ◌≢◌, ℕ, zero, suc, ◌+◌, ◌-◌, ◌<◌, ◌≤◌, Bool, true, false, ◌==◌, List, [], ◌∷◌, length, get_or, drop, Option, Some, None, refl, sym, ap, ◌∙◌, inl, inr, arith, drop-drop, add-one}
-use Rattle.std.proofs.lemmas.Bool.{eq-eqb, ne_eqb}
+use Rattle.std.proofs.Common.{◌≡◌, ◌≢◌, ℕ, zero, suc, ◌+◌, ◌-◌, ◌<◌, ◌≤◌, Bool, true, false, ◌==◌, List, [], ◌∷◌, ◌++◌, ◌&&◌, append-nil, length-append, length, get_or, drop, Option, Some, None, refl, sym, ap, ◌∙◌, inl, inr, arith, drop-drop, add-one, add-zero}
+use Rattle.std.proofs.lemmas.Bool.{cases_eq, eq-eqb, ne_eqb}
 use Rattle.std.proofs.lemmas.List.{drop_more, drop_all}
-use Rattle.tt_text.specs.Braces.{closing_brace, matching_brace, further, mark_of, Letter}
+use Rattle.std.proofs.Math.Seq.{drop-append_seam}
+use Rattle.tt_lists.specs.Scanning.{IsScan}
+use Rattle.tt_lists.specs.declared.braces.Scan.TheVariants.{Closes, Ends}
+use Rattle.tt_text.specs.Braces.{is_balanced, closing_brace, matching_brace, further, mark_of, Letter}
 
 further_twice : (m n : ℕ) (o : Option ℕ) → further m (further n o) ≡ further (m + n) o
 further_twice m n None = refl
@@ -68,3 +71,34 @@ begins text = zero_further (matching_brace text)
 
 pub moved : (text : List ℕ) (at depth to deep : ℕ) → to ≡ at → deep ≡ depth → further (at + 1) (closing_brace false depth (drop (at + 1) text)) ≡ further (to + 1) (closing_brace false deep (drop (to + 1) text))
 moved text at depth to deep e f = cc
+
+-- ---- how the search ends
+
+pub closes_alone : (text : List ℕ) (place : ℕ) → IsScan text (Closes place) → matching_brace text ≡ Some place
+closes_alone text place h = ap matching_brace (sym (append-nil text)) ∙ h.1 []
+
+pub ends_alone : (text : List ℕ) (depth at : ℕ) → IsScan text (Ends depth at) → matching_brace text ≡ None
+ends_alone text depth at h = ap matching_brace (sym (append-nil text)) ∙ h.2 [] ∙ ends (text ++ []) at depth (omega (arith, h.0, ap length (append-nil text)))
+
+-- whether the brace after a text is the one that matches
+abbrev is_last : ℕ → Option ℕ → Bool
+is_last long (Some n) = n == long
+is_last long None = false
+
+pub closes_within : (text : List ℕ) (place : ℕ) → IsScan text (Closes place) → is_balanced text ≡ false
+closes_within text place h = ap (is_last (length text)) (h.1 (125 ∷ [])) ∙ ne_eqb place (length text) (omega (arith, h.0))
+
+pub ends_balanced : (text : List ℕ) (depth at : ℕ) → IsScan text (Ends depth at) → is_balanced text ≡ ((depth == 0) && (at == length text))
+ends_balanced text depth at h =
+    ap (is_last (length text)) (h.2 (125 ∷ []))
+    ∙ elim (cases_eq at (length text)) [
+      | inl e ↦ ap (λ t. is_last (length text) (further at (closing_brace false depth t))) (ap (λ n. drop n (text ++ (125 ∷ []))) e ∙ drop-append_seam text (125 ∷ [])) ∙ at_end depth e
+      | inr e ↦ ap (λ t. is_last (length text) (further at (closing_brace false depth t))) (drop_all at (text ++ (125 ∷ [])) (omega (arith, h.0, length-append text (125 ∷ [])))) ∙ sym (rw (ne_eqb at (length text) e) (and_false (depth == 0)))
+    ]
+  where
+    and_false : (b : Bool) → (b && false) ≡ false
+    and_false true = refl
+    and_false false = refl
+    at_end : (depth : ℕ) → at ≡ length text → is_last (length text) (further at (closing_brace false depth (125 ∷ []))) ≡ ((depth == 0) && (at == length text))
+    at_end zero e = ap (λ n. n == length text) (add-zero at)
+    at_end (suc depth) e = rw (ne_eqb (suc depth) 0 (omega arith)) refl

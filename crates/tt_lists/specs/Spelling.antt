@@ -78,12 +78,11 @@ styled Bare place item = flat_map escape_bare item
 unfoldable pub spelling : Place → List ℕ → List ℕ
 spelling place item = styled (style_of place item) place item
 
--- the items after the first, each with a space before it
-abbrev pub later_items : List (List ℕ) → List ℕ
-later_items [] = []
-later_items (item ∷ items) = 32 ∷ (spelling Later item ++ later_items items)
+-- an item after the first, with the space before it
+abbrev pub later_item : List ℕ → List ℕ
+later_item item = 32 ∷ spelling Later item
 
 -- the one canonical text of a list
 abbrev pub list_of : List (List ℕ) → List ℕ
 list_of [] = []
-list_of (item ∷ items) = spelling First item ++ later_items items
+list_of (item ∷ items) = spelling First item ++ flat_map later_item items

@@ -3,7 +3,7 @@ ghost use Rattle.std.specs.List.{list_any, flat_map};
 ghost use Rattle.tt_text.specs.Braces.{is_balanced};
 ghost use Rattle.tt_lists.specs.ListText.{IsListText};
 ghost use Rattle.tt_lists.specs.Reading.{split_of};
-ghost use Rattle.tt_lists.specs.Spelling.{is_comment_sign, joins_lines, is_substituted, wants_braces, wants_braces_first, fits_braces, style_of, escape, escape_first, escape_bare, escaped, styled, spelling, later_items, list_of};
+ghost use Rattle.tt_lists.specs.Spelling.{is_comment_sign, joins_lines, is_substituted, wants_braces, wants_braces_first, fits_braces, style_of, escape, escape_first, escape_bare, escaped, styled, spelling, later_item, list_of};
 
 use crate::braces::is_balanced;
 use crate::run::is_white_space;
@@ -45,15 +45,28 @@ pub fn join_list(alloc: Global, items: &[Text]) -> Result<Text, NoMemory>
     ensures canonical { IfOk result (λ text. text ≡ list_of items.now) }
 {
     let mut text = Text::new(alloc);
-    for (place, item) in items.iter().enumerate() {
-        if place > 0 {
-            text.push_bytes(b" ")?;
-            push_spelling(&mut text, Place::Later, item.as_bytes())?;
-        } else {
-            push_spelling(&mut text, Place::First, item.as_bytes())?;
-        }
+    if let Some((first, later)) = items.split_first() {
+        push_spelling(&mut text, Place::First, first.as_bytes())?;
+        push_later(&mut text, later)?;
     }
     Ok(text)
+}
+
+fn push_later(text: &mut Text, items: &[Text]) -> Result<(), NoMemory>
+    ensures { OnOk result (text.new ≡ text.old ++ flat_map later_item items.now) }
+{
+    for item in items {
+        push_later_item(text, item.as_bytes())?;
+    }
+    Ok(())
+}
+
+fn push_later_item(text: &mut Text, item: &[u8]) -> Result<(), NoMemory>
+    ensures { OnOk result (text.new ≡ text.old ++ later_item item.now) }
+{
+    text.push_bytes(b" ")?;
+    push_spelling(text, Place::Later, item)?;
+    Ok(())
 }
 
 #[tactic(auto, unfolding(crate::specs::Spelling::spelling))]
@@ -83,12 +96,25 @@ fn push_escaped(text: &mut Text, place: Place, item: &[u8]) -> Result<(), NoMemo
     let Some((first, rest)) = item.split_first() else {
         return Ok(());
     };
-    if is_comment_sign(place, *first) {
-        text.push_bytes(&[b'\\', *first])?;
+    push_escape_first(text, place, *first)?;
+    push_escapes(text, rest)?;
+    Ok(())
+}
+
+fn push_escape_first(text: &mut Text, place: Place, b: u8) -> Result<(), NoMemory>
+    ensures { OnOk result (text.new ≡ text.old ++ escape_first place b) }
+{
+    if is_comment_sign(place, b) {
+        text.push_bytes(&[b'\\', b])
     } else {
-        push_escape(text, *first)?;
+        push_escape(text, b)
     }
-    for b in rest {
+}
+
+fn push_escapes(text: &mut Text, item: &[u8]) -> Result<(), NoMemory>
+    ensures { OnOk result (text.new ≡ text.old ++ flat_map escape item.now) }
+{
+    for b in item {
         push_escape(text, *b)?;
     }
     Ok(())
