@@ -1,3 +1,5 @@
-pub mod Runs
 pub mod Bracing
+pub mod RunLaw
+pub mod Runs
+pub mod SplitLaw
 pub mod Splits

@@ -46,7 +46,7 @@ backslash_le (b ∷ text) = sequence_le (kind_of b) b text
 abbrev pub joined : List ℕ → ℕ → Run → Run
 joined value taken run = record { value = value ++ run.value; takes = taken + run.takes }
 
-same_run : (v w : List ℕ) (m n : ℕ) → v ≡ w → m ≡ n → ◌≡◌ {A = Run} (record { value = v; takes = m }) (record { value = w; takes = n })
+pub same_run : (v w : List ℕ) (m n : ℕ) → v ≡ w → m ≡ n → ◌≡◌ {A = Run} (record { value = v; takes = m }) (record { value = w; takes = n })
 same_run v w m n e f = cc
 
 pub run_skip : (stops : ℕ → Bool) (passed : ℕ) (text : List ℕ) → passed ≤ length text → run stops passed text ≡ joined [] passed (run stops 0 (drop passed text))

@@ -39,7 +39,7 @@ pub split-white : (b : ℕ) (text : List ℕ) → is_white_space b ≡ true → 
 unfolding split_after
 split-white b text h = rw (h, split_after) refl
 
-split-item_kept : (b : ℕ) (text item : List ℕ) (takes : ℕ) → is_white_space b ≡ false → item_at (b ∷ text) ≡ Item item takes → split_of (b ∷ text) ≡ with_item item (split_after (takes - 1) text)
+pub split-item_kept : (b : ℕ) (text item : List ℕ) (takes : ℕ) → is_white_space b ≡ false → item_at (b ∷ text) ≡ Item item takes → split_of (b ∷ text) ≡ with_item item (split_after (takes - 1) text)
 unfolding split_after
 split-item_kept b text item takes h e = rw (h, e, split_after) refl
 
