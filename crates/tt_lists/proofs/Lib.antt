@@ -1,4 +1,5 @@
 pub mod Bracing
+pub mod Joining
 pub mod RunLaw
 pub mod Runs
 pub mod SplitLaw
