@@ -99,6 +99,7 @@ ends_balanced text depth at h =
     and_false : (b : Bool) → (b && false) ≡ false
     and_false true = refl
     and_false false = refl
+
     at_end : (depth : ℕ) → at ≡ length text → is_last (length text) (further at (closing_brace false depth (125 ∷ []))) ≡ ((depth == 0) && (at == length text))
     at_end zero e = ap (λ n. n == length text) (add-zero at)
     at_end (suc depth) e = rw (ne_eqb (suc depth) 0 (omega arith)) refl

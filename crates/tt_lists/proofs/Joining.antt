@@ -14,6 +14,9 @@ use Rattle.tt_lists.specs.ListText.IsSeparated.{at_end, white}
 use Rattle.tt_lists.specs.ListText.IsItem.{braced, bare}
 use Rattle.tt_lists.specs.ListText.IsListText.{none, space, first}
 use Rattle.tt_lists.specs.Spelling.{is_comment_sign, joins_lines, is_substituted, wants_braces, wants_braces_first, fits_braces, style_of, escape, escape_first, escape_bare, escaped, styled, spelling, later_item, list_of}
+use Rattle.tt_lists.specs.Reading.{split_of}
+use Rattle.tt_lists.proofs.SplitLaw.{complete_items}
+use Rattle.tt_lists.specs.declared.items.Split.TheVariants.{Items}
 use Rattle.tt_lists.specs.declared.spelling.Place.{Place}
 use Rattle.tt_lists.specs.declared.spelling.Place.TheVariants.{First, Later}
 use Rattle.tt_lists.specs.declared.spelling.Style.{Style}
@@ -54,7 +57,7 @@ record IsOrdinary (b : ℕ) : Type 0 where
 ordinary : (b : ℕ) → (b == 9) ≡ false → (b == 10) ≡ false → (b == 11) ≡ false → (b == 12) ≡ false → (b == 13) ≡ false → gets_backslash b ≡ false → IsOrdinary b
 ordinary b h9 h10 h11 h12 h13 h = record {
   no_white = grind (arith, nat_tests);
-  no_backslash = λ e. both_ways (gets_backslash b) h (rw e refl)
+  no_backslash = λ e. both_ways (gets_backslash b) h (rw e refl);
 }
 
 -- what the escapes of a byte may be: the byte after a backslash, a letter after one, or the byte
@@ -68,21 +71,21 @@ escape_is b =
     elim (cases_Bool (b == 9)) [
       | inl p ↦ rw (eqb-true b 9 p) (letter_after refl)
       | inr h9 ↦ elim (cases_Bool (b == 10)) [
-          | inl p ↦ rw (eqb-true b 10 p) (letter_after refl)
-          | inr h10 ↦ elim (cases_Bool (b == 11)) [
-              | inl p ↦ rw (eqb-true b 11 p) (letter_after refl)
-              | inr h11 ↦ elim (cases_Bool (b == 12)) [
-                  | inl p ↦ rw (eqb-true b 12 p) (letter_after refl)
-                  | inr h12 ↦ elim (cases_Bool (b == 13)) [
-                      | inl p ↦ rw (eqb-true b 13 p) (letter_after refl)
-                      | inr h13 ↦ elim (cases_Bool (gets_backslash b)) [
-                          | inl p ↦ subst (IsEscape b) (sym (rw (h9, h10, h11, h12, h13) (cond-true (gets_backslash b) (92 ∷ b ∷ []) (b ∷ []) p))) (itself_after (plain_kind b p))
-                          | inr p ↦ subst (IsEscape b) (sym (rw (h9, h10, h11, h12, h13) (cond-false (gets_backslash b) (92 ∷ b ∷ []) (b ∷ []) p))) (as_it_is (ordinary b h9 h10 h11 h12 h13 p))
-                        ]
-                    ]
-                ]
+        | inl p ↦ rw (eqb-true b 10 p) (letter_after refl)
+        | inr h10 ↦ elim (cases_Bool (b == 11)) [
+          | inl p ↦ rw (eqb-true b 11 p) (letter_after refl)
+          | inr h11 ↦ elim (cases_Bool (b == 12)) [
+            | inl p ↦ rw (eqb-true b 12 p) (letter_after refl)
+            | inr h12 ↦ elim (cases_Bool (b == 13)) [
+              | inl p ↦ rw (eqb-true b 13 p) (letter_after refl)
+              | inr h13 ↦ elim (cases_Bool (gets_backslash b)) [
+                | inl p ↦ subst (IsEscape b) (sym (rw (h9, h10, h11, h12, h13) (cond-true (gets_backslash b) (92 ∷ b ∷ []) (b ∷ []) p))) (itself_after (plain_kind b p))
+                | inr p ↦ subst (IsEscape b) (sym (rw (h9, h10, h11, h12, h13) (cond-false (gets_backslash b) (92 ∷ b ∷ []) (b ∷ []) p))) (as_it_is (ordinary b h9 h10 h11 h12 h13 p))
+              ]
             ]
+          ]
         ]
+      ]
     ]
 
 escape_first_is : (place : Place) (b : ℕ) → IsEscape b (escape_first place b)
@@ -157,15 +160,17 @@ spelled place (b ∷ item) rest s =
     elim (cases_Bool (fits_braces whole)) [
       | inr p ↦ subst (λ t. IsItem (styled t place whole ++ rest) whole rest) (sym (style_escaped p)) (escaped_item place b item rest s)
       | inl p ↦ elim (cases_Bool (wants_braces_first place b || list_any wants_braces whole)) [
-          | inl q ↦ subst (λ t. IsItem (styled t place whole ++ rest) whole rest) (sym (style_braced p q)) (braced_item whole rest p s)
-          | inr q ↦ (let parts = or_parts (wants_braces_first place b) (list_any wants_braces whole) q in subst (λ t. IsItem (styled t place whole ++ rest) whole rest) (sym (style_bare p q)) (bare_item place b item rest parts.0 parts.1 s))
-        ]
+        | inl q ↦ subst (λ t. IsItem (styled t place whole ++ rest) whole rest) (sym (style_braced p q)) (braced_item whole rest p s)
+        | inr q ↦ (let parts = or_parts (wants_braces_first place b) (list_any wants_braces whole) q in subst (λ t. IsItem (styled t place whole ++ rest) whole rest) (sym (style_bare p q)) (bare_item place b item rest parts.0 parts.1 s))
+      ]
     ]
   where
     style_escaped : fits_braces (b ∷ item) ≡ false → style_of place (b ∷ item) ≡ Escaped
     style_escaped p = ap (λ t. cond (not t) Escaped (cond (wants_braces_first place b || list_any wants_braces (b ∷ item)) Braced Bare)) p
+
     style_braced : fits_braces (b ∷ item) ≡ true → (wants_braces_first place b || list_any wants_braces (b ∷ item)) ≡ true → style_of place (b ∷ item) ≡ Braced
     style_braced p q = ap (λ t. cond (not t) Escaped (cond (wants_braces_first place b || list_any wants_braces (b ∷ item)) Braced Bare)) p ∙ ap (λ t. cond t Braced Bare) q
+
     style_bare : fits_braces (b ∷ item) ≡ true → (wants_braces_first place b || list_any wants_braces (b ∷ item)) ≡ false → style_of place (b ∷ item) ≡ Bare
     style_bare p q = ap (λ t. cond (not t) Escaped (cond (wants_braces_first place b || list_any wants_braces (b ∷ item)) Braced Bare)) p ∙ ap (λ t. cond t Braced Bare) q
 
@@ -181,3 +186,6 @@ lists_later (item ∷ items) = space refl (first (spelled Later item (flat_map l
 pub lists_items : (items : List (List ℕ)) → IsListText (list_of items) items
 lists_items [] = none
 lists_items (item ∷ items) = first (spelled First item (flat_map later_item items) (separated_later items)) (lists_later items)
+
+pub splits_back : (items : List (List ℕ)) → split_of (list_of items) ≡ Items items
+splits_back items = complete_items (lists_items items)

@@ -1,5 +1,6 @@
 pub mod Bracing
 pub mod Joining
+pub mod Places
 pub mod RunLaw
 pub mod Runs
 pub mod SplitLaw

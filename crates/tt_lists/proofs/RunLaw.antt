@@ -22,9 +22,9 @@ run_sound stops zero (b ∷ text) h =
     elim (cases_Bool (stops b)) [
       | inl p ↦ subst P (sym (run-stopped stops b text p)) (stopped p)
       | inr p ↦ elim (cases_eq b 92) [
-          | inl q ↦ (let s = backslash text in let r = run stops s.takes text in subst P (sym (run-escape_kept stops b text p q)) (subst (IsRun stops (b ∷ text) (s.value ++ r.value)) (sym (drop_next r.takes b text)) (escape p q (run_sound stops s.takes text (backslash_le text)) refl)))
-          | inr q ↦ (let r = run stops zero text in subst P (sym (run-letter stops b text p q)) (subst (IsRun stops (b ∷ text) (b ∷ r.value)) (sym (drop_next r.takes b text)) (letter p q (run_sound stops zero text (omega arith)))))
-        ]
+        | inl q ↦ (let s = backslash text in let r = run stops s.takes text in subst P (sym (run-escape_kept stops b text p q)) (subst (IsRun stops (b ∷ text) (s.value ++ r.value)) (sym (drop_next r.takes b text)) (escape p q (run_sound stops s.takes text (backslash_le text)) refl)))
+        | inr q ↦ (let r = run stops zero text in subst P (sym (run-letter stops b text p q)) (subst (IsRun stops (b ∷ text) (b ∷ r.value)) (sym (drop_next r.takes b text)) (letter p q (run_sound stops zero text (omega arith)))))
+      ]
     ]
 
 -- a run by the grammar, as the function reads it
@@ -47,5 +47,5 @@ run_complete {stops} (escape {b} {text} {whole} {value} {rest} h e r w) =
       takes = 1 + s.takes + q.takes;
       is = run-escape stops b text h e ∙ ap (joined s.value (1 + s.takes)) q.is ∙ same_run _ _ _ _ (sym w) refl;
       cut = (let n : 1 + s.takes + q.takes ≡ 1 + (s.takes + q.takes) = omega arith in ap (λ k. drop k (b ∷ text)) n ∙ drop_next (s.takes + q.takes) b text ∙ sym (drop-drop q.takes s.takes text) ∙ q.cut);
-      size = omega (arith, q.size, length-drop s.takes text, backslash_le text)
+      size = omega (arith, q.size, length-drop s.takes text, backslash_le text);
     }

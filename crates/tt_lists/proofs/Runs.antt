@@ -73,9 +73,9 @@ run_le stops zero (b ∷ text) =
     elim (cases_Bool (stops b)) [
       | inl p ↦ rw (run-stopped stops b text p) (omega arith)
       | inr p ↦ elim (cases_eq b 92) [
-          | inl q ↦ rw (run-escape_kept stops b text p q) (omega (arith, run_le stops (backslash text).takes text))
-          | inr q ↦ rw (run-letter stops b text p q) (omega (arith, run_le stops zero text))
-        ]
+        | inl q ↦ rw (run-escape_kept stops b text p q) (omega (arith, run_le stops (backslash text).takes text))
+        | inr q ↦ rw (run-letter stops b text p q) (omega (arith, run_le stops zero text))
+      ]
     ]
 
 -- a step of a loop that reads a run

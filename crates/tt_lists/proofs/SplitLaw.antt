@@ -35,9 +35,6 @@ separated_to : {after : List ℕ} → IsSeparated after → is_separated after �
 separated_to at_end = refl
 separated_to (white h) = h
 
-
-
-
 followed_from : (after : List ℕ) → is_separated after ≡ false → IsFollowed after (take 20 (take_while is_no_white_space after))
 followed_from [] h = absurd (both_ways true h refl)
 followed_from (b ∷ after) h = by h
@@ -132,10 +129,10 @@ quotes_item b text item takes e h =
     let sound = run_sound is_quote 0 text (omega arith) in
     elim (cases_lt r.takes (length text)) [
       | inl p ↦ (
-        let q = quote_found text r.takes r.value p sound in
-        let i = ended_item AfterQuote r.value item (r.takes + 2) takes (drop (r.takes + 1) text) (rw (lt-ltb r.takes (length text) p, in_quotes) at h) in
-        let rest : drop (r.takes + 1) text ≡ drop takes (b ∷ text) = sym (after_two r.takes b text) ∙ ap (λ n. drop n (b ∷ text)) i.2 in
-        subst (λ c. IsItem (c ∷ text) item (drop takes (b ∷ text))) (sym e) (quoted q.1 (subst (λ v. IsRun is_quote text v (q.0 ∷ drop takes (b ∷ text))) i.1 (subst (IsRun is_quote text r.value) (q.2 ∙ ap (λ t. q.0 ∷ t) rest) sound)) (subst IsSeparated rest (separated_from (drop (r.takes + 1) text) i.0))))
+          let q = quote_found text r.takes r.value p sound in
+          let i = ended_item AfterQuote r.value item (r.takes + 2) takes (drop (r.takes + 1) text) (rw (lt-ltb r.takes (length text) p, in_quotes) at h) in
+          let rest : drop (r.takes + 1) text ≡ drop takes (b ∷ text) = sym (after_two r.takes b text) ∙ ap (λ n. drop n (b ∷ text)) i.2 in
+          subst (λ c. IsItem (c ∷ text) item (drop takes (b ∷ text))) (sym e) (quoted q.1 (subst (λ v. IsRun is_quote text v (q.0 ∷ drop takes (b ∷ text))) i.1 (subst (IsRun is_quote text r.value) (q.2 ∙ ap (λ t. q.0 ∷ t) rest) sound)) (subst IsSeparated rest (separated_from (drop (r.takes + 1) text) i.0))))
       | inr p ↦ absurd (cc (rw (le-ltb r.takes (length text) p, in_quotes) at h))
     ]
 
@@ -145,13 +142,13 @@ quotes_wrong b text fault e h =
     let sound = run_sound is_quote 0 text (omega arith) in
     elim (cases_lt r.takes (length text)) [
       | inl p ↦ (
-        let q = quote_found text r.takes r.value p sound in
-        let i = ended_wrong AfterQuote r.value (r.takes + 2) (drop (r.takes + 1) text) fault (rw (lt-ltb r.takes (length text) p, in_quotes) at h) in
-        subst (IsFaulty (b ∷ text)) i.1 (rw e (after_quote q.1 (subst (IsRun is_quote text r.value) q.2 sound) (followed_from (drop (r.takes + 1) text) i.0))))
+          let q = quote_found text r.takes r.value p sound in
+          let i = ended_wrong AfterQuote r.value (r.takes + 2) (drop (r.takes + 1) text) fault (rw (lt-ltb r.takes (length text) p, in_quotes) at h) in
+          subst (IsFaulty (b ∷ text)) i.1 (rw e (after_quote q.1 (subst (IsRun is_quote text r.value) q.2 sound) (followed_from (drop (r.takes + 1) text) i.0))))
       | inr p ↦ (
-        let is : OpenQuote ≡ fault = cc (rw (le-ltb r.takes (length text) p, in_quotes) at h) in
-        let all : drop r.takes text ≡ [] = drop_all r.takes text p in
-        subst (IsFaulty (b ∷ text)) is (rw e (open_quote (subst (IsRun is_quote text r.value) all sound))))
+          let is : OpenQuote ≡ fault = cc (rw (le-ltb r.takes (length text) p, in_quotes) at h) in
+          let all : drop r.takes text ≡ [] = drop_all r.takes text p in
+          subst (IsFaulty (b ∷ text)) is (rw e (open_quote (subst (IsRun is_quote text r.value) all sound))))
     ]
 
 item_sound : (b : ℕ) (text item : List ℕ) (takes : ℕ) → is_white_space b ≡ false → item_at (b ∷ text) ≡ Item item takes → IsItem (b ∷ text) item (drop takes (b ∷ text))
@@ -159,14 +156,14 @@ item_sound b text item takes w h =
     elim (cases_eq b 123) [
       | inl p ↦ braces_item b text item takes p (sym (item-brace b text p) ∙ h)
       | inr p ↦ elim (cases_eq b 34) [
-          | inl q ↦ quotes_item b text item takes q (sym (item-quote b text q) ∙ h)
-          | inr q ↦ (
+        | inl q ↦ quotes_item b text item takes q (sym (item-quote b text q) ∙ h)
+        | inr q ↦ (
             let r = run is_white_space 0 (b ∷ text) in
             let e : Item r.value r.takes ≡ Item item takes = sym (item-bare b text p q) ∙ h in
             let value : r.value ≡ item = cc in
             let place : r.takes ≡ takes = cc in
             bare w p q (subst (λ v. IsRun is_white_space (b ∷ text) v (drop takes (b ∷ text))) value (subst (λ n. IsRun is_white_space (b ∷ text) r.value (drop n (b ∷ text))) place (run_sound is_white_space 0 (b ∷ text) (omega arith)))))
-        ]
+      ]
     ]
 
 fault_sound : (b : ℕ) (text : List ℕ) (fault : ListFault) → item_at (b ∷ text) ≡ Wrong fault → IsFaulty (b ∷ text) fault
@@ -174,9 +171,9 @@ fault_sound b text fault h =
     elim (cases_eq b 123) [
       | inl p ↦ braces_wrong b text fault p (sym (item-brace b text p) ∙ h)
       | inr p ↦ elim (cases_eq b 34) [
-          | inl q ↦ quotes_wrong b text fault q (sym (item-quote b text q) ∙ h)
-          | inr q ↦ absurd (cc (sym (item-bare b text p q) ∙ h))
-        ]
+        | inl q ↦ quotes_wrong b text fault q (sym (item-quote b text q) ∙ h)
+        | inr q ↦ absurd (cc (sym (item-bare b text p q) ∙ h))
+      ]
     ]
 
 after_space : (b : ℕ) (text : List ℕ) (split : Split) → is_white_space b ≡ true → IsSplit text split → IsSplit (b ∷ text) split
@@ -284,3 +281,6 @@ split_sound text = sound 0 text (omega arith)
 
 pub split_law : SplitLaw
 split_law text split = (λ e. subst (IsSplit text) e (split_sound text), complete text split)
+
+pub split_by : (text : List ℕ) (split : Split) → split ≡ split_of text → IsSplit text split
+split_by text split e = subst (IsSplit text) (sym e) (split_sound text)

@@ -99,9 +99,9 @@ item_takes b text item takes h e =
     elim (cases_eq b 123) [
       | inl p ↦ (let q = braces_take text item takes (sym (item-brace b text p) ∙ e) in (q.0, omega (arith, q.1)))
       | inr p ↦ elim (cases_eq b 34) [
-          | inl q ↦ (let r = quotes_take text item takes (sym (item-quote b text q) ∙ e) in (r.0, omega (arith, r.1)))
-          | inr q ↦ (let n : (run is_white_space 0 (b ∷ text)).takes ≡ takes = cc (sym (item-bare b text p q) ∙ e) in (omega (arith, run_some is_white_space b text h, n), omega (arith, run_le is_white_space 0 (b ∷ text), n)))
-        ]
+        | inl q ↦ (let r = quotes_take text item takes (sym (item-quote b text q) ∙ e) in (r.0, omega (arith, r.1)))
+        | inr q ↦ (let n : (run is_white_space 0 (b ∷ text)).takes ≡ takes = cc (sym (item-bare b text p q) ∙ e) in (omega (arith, run_some is_white_space b text h, n), omega (arith, run_le is_white_space 0 (b ∷ text), n)))
+      ]
     ]
 
 -- an item is read, and the rest is split
@@ -159,7 +159,7 @@ reads_item (b ∷ text) item takes h e read =
     record {
       some = bounds.0;
       within = bounds.1;
-      split = λ before. ap (after_items before) (split-item b text item takes white read) ∙ one_more before item (split_of (drop takes (b ∷ text))) ∙ ap (after_items (before ++ (item ∷ []))) (sym (split-front (drop takes (b ∷ text))))
+      split = λ before. ap (after_items before) (split-item b text item takes white read) ∙ one_more before item (split_of (drop takes (b ∷ text))) ∙ ap (after_items (before ++ (item ∷ []))) (sym (split-front (drop takes (b ∷ text))));
     }
 
 pub reads_fault : (rest : List ℕ) (fault : ListFault) (before : List (List ℕ)) → 0 < length rest → without_white_front rest ≡ rest → item_at rest ≡ Wrong fault → after_items before (split_of rest) ≡ Bad fault

@@ -31,9 +31,9 @@ run stops zero (b ∷ text) =
     elim (stops b) [
       | true ↦ record { value = []; takes = 0 }
       | false ↦ elim (b == 92) [
-          | true ↦ prepend (backslash text).value (run stops (backslash text).takes text)
-          | false ↦ prepend (b ∷ []) (run stops zero text)
-        ]
+        | true ↦ prepend (backslash text).value (run stops (backslash text).takes text)
+        | false ↦ prepend (b ∷ []) (run stops zero text)
+      ]
     ]
 
 -- the end of a text or white space follows an item
@@ -69,9 +69,9 @@ item_with b text =
     elim (b == 123) [
       | true ↦ in_braces text (matching_brace text)
       | false ↦ elim (b == 34) [
-          | true ↦ in_quotes text (run is_quote 0 text)
-          | false ↦ in_bare (run is_white_space 0 (b ∷ text))
-        ]
+        | true ↦ in_quotes text (run is_quote 0 text)
+        | false ↦ in_bare (run is_white_space 0 (b ∷ text))
+      ]
     ]
 
 unfoldable pub item_at : List ℕ → Reading
@@ -91,9 +91,9 @@ split_after zero (b ∷ text) =
     elim (is_white_space b) [
       | true ↦ split_after zero text
       | false ↦ elim (item_at (b ∷ text)) [
-          | Item item takes ↦ with_item item (split_after (takes - 1) text)
-          | Wrong fault ↦ Bad fault
-        ]
+        | Item item takes ↦ with_item item (split_after (takes - 1) text)
+        | Wrong fault ↦ Bad fault
+      ]
     ]
 
 -- a text from its first byte on that is no white space

@@ -3,11 +3,19 @@
 #![tactic(auto)]
 
 mod braces;
+mod indices;
 mod items;
+pub mod laws;
+mod place;
 mod run;
 mod spelling;
 mod splitting;
 
+pub use indices::index;
 pub use items::{ListFault, Split, Texts};
+pub use place::Index;
 pub use spelling::{element, join_list};
 pub use splitting::split;
+
+#[cfg(test)]
+mod tests;

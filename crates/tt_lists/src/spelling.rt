@@ -6,6 +6,7 @@ ghost use Rattle.tt_lists.specs.Reading.{split_of};
 ghost use Rattle.tt_lists.specs.Spelling.{is_comment_sign, joins_lines, is_substituted, wants_braces, wants_braces_first, fits_braces, style_of, escape, escape_first, escape_bare, escaped, styled, spelling, later_item, list_of};
 
 use crate::braces::is_balanced;
+use crate::items::Split;
 use crate::run::is_white_space;
 use std::alloc::Global;
 use tt_text::{NoMemory, Text};
@@ -43,6 +44,15 @@ pub fn element(alloc: Global, item: &[u8]) -> Result<Text, NoMemory>
 /// `NoMemory` where the memory for it is refused.
 pub fn join_list(alloc: Global, items: &[Text]) -> Result<Text, NoMemory>
     ensures canonical { IfOk result (λ text. text ≡ list_of items.now) }
+    ensures lists { IfOk result (λ text. IsListText text items.now) }
+    ensures splits_back { IfOk result (λ text. split_of text ≡ Split.Items items.now) }
+{
+    let text = canonical(alloc, items)?;
+    Ok(text)
+}
+
+fn canonical(alloc: Global, items: &[Text]) -> Result<Text, NoMemory>
+    ensures { IfOk result (λ text. text ≡ list_of items.now) }
 {
     let mut text = Text::new(alloc);
     if let Some((first, later)) = items.split_first() {
@@ -129,7 +139,9 @@ fn push_escape(text: &mut Text, b: u8) -> Result<(), NoMemory>
         11 => text.push_bytes(b"\\v"),
         12 => text.push_bytes(b"\\f"),
         b'\r' => text.push_bytes(b"\\r"),
-        b' ' | b';' | b'$' | b'[' | b'\\' | b']' | b'{' | b'}' | b'"' => text.push_bytes(&[b'\\', b]),
+        b' ' | b';' | b'$' | b'[' | b'\\' | b']' | b'{' | b'}' | b'"' => text.push_bytes(&[
+            b'\\', b,
+        ]),
         _ => text.push_bytes(&[b]),
     }
 }
@@ -202,6 +214,5 @@ fn wants_braces_first(place: Place, b: u8) -> bool
 fn any_wants_braces(item: &[u8]) -> bool
     ensures { result ≡ list_any wants_braces item.now }
 {
-    item.iter()
-        .any(|&b| is_white_space(b) || b == b';' || b == b'$' || b == b'[' || b == b'\\')
+    item.iter().any(|&b| is_white_space(b) || b == b';' || b == b'$' || b == b'[' || b == b'\\')
 }

@@ -23,8 +23,10 @@ pub(crate) enum Reading {
 /// latter backslash sequences are replaced. `Bad` tells the first item that can't be read.
 ///
 /// `NoMemory` where the memory for the items is refused.
+#[tactic(auto, using(crate::proofs::SplitLaw::split_by))]
 pub fn split(alloc: Global, text: &[u8]) -> Result<Split, NoMemory>
     ensures answer { IfOk result (λ split. split ≡ split_of text.now) }
+    ensures by_grammar { IfOk result (IsSplit text.now) }
 {
     let mut items = Texts::new(alloc);
     let mut rest = without_white_front(text);

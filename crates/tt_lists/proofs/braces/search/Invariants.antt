@@ -6,7 +6,7 @@ abbrev pub invariant-loop-at : goal.invariant-loop-at
 invariant-loop-at l = record {
   within : l.at ≤ length l.text + 1;
   depth : l.depth ≤ l.at;
-  place : (more : List ℕ) → matching_brace (l.text ++ more) ≡ further l.at (closing_brace false l.depth (drop l.at (l.text ++ more)))
+  place : (more : List ℕ) → matching_brace (l.text ++ more) ≡ further l.at (closing_brace false l.depth (drop l.at (l.text ++ more)));
 }
 
 abbrev pub decreases-loop-at : goal.decreases-loop-at

@@ -2,6 +2,8 @@ use Rattle.std.proofs.Common.{◌≡◌, ◌∙◌, ◌<◌, ◌≤◌, length, 
 use Rattle.std.proofs.lemmas.Bool.Decides.{nat_tests}
 use Rattle.tt_lists.specs.Reading.{split_of, without_white_front}
 use Rattle.tt_lists.proofs.Splits.{after_items, front_again, front_less, none_before, split-front, reads_item, reads_fault, reads_end}
+use Rattle.tt_lists.specs.declared.items.Split.TheVariants.{Items, Bad}
+use Rattle.tt_lists.proofs.SplitLaw.{split_by}
 use Rattle.tt_lists.proofs.splitting.split.Goals as goal
 
 pub loop-rest-init : goal.loop-rest-init
@@ -10,7 +12,7 @@ loop-rest-init c =
     let front = c.without_white_front-rest.ensures in
     record {
       split = rw (c.new-items.ensures.empty, front) (sym (none_before (split_of (without_white_front text)) ∙ split-front text));
-      front = rw front (front_again text)
+      front = rw front (front_again text);
     }
 
 pub after_item-rest-requires : goal.after_item-rest-requires
@@ -32,15 +34,21 @@ loop-rest-preserved c =
     let pushed = c.in_ok-push-in-Item.ensures.pushed in
     record {
       split = rw (pushed, rest) (c.loop-rest.invariant.split ∙ reads.split c.loop-rest.items);
-      front = rw rest (front_again (drop c.in-Item.takes c.loop-rest.rest.now))
+      front = rw rest (front_again (drop c.in-Item.takes c.loop-rest.rest.now));
     }
 
-pub returns-in-Wrong : goal.returns-in-Wrong
-returns-in-Wrong c =
+pub returns-in-Wrong-clause-answer : goal.returns-in-Wrong-clause-answer
+returns-in-Wrong-clause-answer c =
     let some : 0 < length c.loop-rest.rest.now = grind (arith, nat_tests, c.loop-rest-test.ensures) in
-    record { answer = sym (c.loop-rest.invariant.split ∙ reads_fault c.loop-rest.rest.now c.in-Wrong.fault c.loop-rest.items some c.loop-rest.invariant.front (sym c.in_ok-item.ensures ∙ c.in-Wrong.is)) }
+    sym (c.loop-rest.invariant.split ∙ reads_fault c.loop-rest.rest.now c.in-Wrong.fault c.loop-rest.items some c.loop-rest.invariant.front (sym c.in_ok-item.ensures ∙ c.in-Wrong.is))
 
-pub returns : goal.returns
-returns c =
+pub returns-clause-answer : goal.returns-clause-answer
+returns-clause-answer c =
     let none : length c.loop-rest.rest.now ≡ 0 = grind (arith, nat_tests, c.loop-rest-test.ensures) in
-    record { answer = sym (c.loop-rest.invariant.split ∙ reads_end c.loop-rest.rest.now c.loop-rest.items none) }
+    sym (c.loop-rest.invariant.split ∙ reads_end c.loop-rest.rest.now c.loop-rest.items none)
+
+pub returns-in-Wrong-clause-by_grammar : goal.returns-in-Wrong-clause-by_grammar
+returns-in-Wrong-clause-by_grammar c = split_by c.args.text.now (Bad c.in-Wrong.fault) (returns-in-Wrong-clause-answer c)
+
+pub returns-clause-by_grammar : goal.returns-clause-by_grammar
+returns-clause-by_grammar c = split_by c.args.text.now (Items c.loop-rest.items) (returns-clause-answer c)

@@ -6,7 +6,7 @@ use Rattle.tt_lists.proofs.splitting.split.Given as goal
 abbrev pub invariant-loop-rest : goal.invariant-loop-rest
 invariant-loop-rest l = record {
   split : split_of l.fn.text ≡ after_items l.items (split_of l.rest);
-  front : without_white_front l.rest ≡ l.rest
+  front : without_white_front l.rest ≡ l.rest;
 }
 
 abbrev pub decreases-loop-rest : goal.decreases-loop-rest
