@@ -1,4 +1,5 @@
 pub mod Bracing
+pub mod IndexLaw
 pub mod Joining
 pub mod Places
 pub mod RunLaw

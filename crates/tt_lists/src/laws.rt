@@ -1,4 +1,5 @@
 //! Laws about the definitions, each proved as the contract of a function that does nothing.
+ghost use Rattle.tt_lists.specs.Indices.{IndexLaw};
 ghost use Rattle.tt_lists.specs.Reading.{SplitLaw};
 
 /// A text is split into the items that it lists by the grammar of Tcl(n), or told by its fault, and
@@ -6,3 +7,9 @@ ghost use Rattle.tt_lists.specs.Reading.{SplitLaw};
 pub fn texts_are_split_by_the_grammar()
     ensures { SplitLaw }
 {}
+
+/// A text is read as the index that it is by the grammar of lindex(n), and where it is none as none.
+pub fn indices_are_read_by_the_grammar()
+    ensures { IndexLaw }
+{
+}
