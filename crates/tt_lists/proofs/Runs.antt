@@ -1,14 +1,14 @@
 -- Runs of bytes, read from a place on.
-use Rattle.std.proofs.Common.{◌≡◌, ◌≢◌, ℕ, zero, suc, ◌+◌, ◌-◌, ◌<◌, ◌≤◌, min, Bool, true, false, ◌==◌, List, [], ◌∷◌, ◌++◌, length, get_or, take, drop, refl, sym, ap, ◌∙◌, inl, inr, append_assoc, append-nil, arith, length-take, length-drop, drop-drop, add-one, cond}
+use Rattle.std.proofs.Common.{◌≡◌, ◌≢◌, ℕ, zero, suc, ◌+◌, ◌-◌, ◌<◌, ◌≤◌, min, Bool, true, false, not, ◌==◌, List, [], ◌∷◌, ◌++◌, length, get_or, take, drop, refl, sym, ap, ◌∙◌, inl, inr, append_assoc, append-nil, arith, length-take, length-drop, drop-drop, add-one, cond}
 use Rattle.std.specs.Char.{is_digit}
 use Rattle.std.specs.List.{take_while, prefix_len}
 use Rattle.std.specs.Prelude.{nat_le}
 use Rattle.std.specs.Str.Parse.{digits_value}
-use Rattle.std.proofs.lemmas.Bool.{cases_Bool, cases_eq, eq-eqb, ne_eqb}
-use Rattle.std.proofs.lemmas.List.{drop_more, drop_all}
+use Rattle.std.proofs.lemmas.Bool.{and_parts, not-true, eqb-false, cases_Bool, cases_eq, eq-eqb, ne_eqb}
+use Rattle.std.proofs.lemmas.List.{drop_more, drop_all, take_all}
 use Rattle.std.proofs.lemmas.List.Sums.{prefix_len-le-length}
 use Rattle.tt_text.specs.Backslash.{backslash, sequence, kind_of, Kind, Control, Newline, Octal, Hexadecimal, Itself, leading_digits, octal_digits, hexadecimal_sequence, is_space_or_tab}
-use Rattle.tt_lists.specs.Reading.{run, prepend}
+use Rattle.tt_lists.specs.Reading.{is_plain, run, prepend}
 use Rattle.tt_lists.specs.declared.run.Run.{Run}
 
 -- ---- a backslash sequence ends within its text
@@ -102,3 +102,32 @@ stop_read stops text value at within h =
     ap (λ t. joined value at (run stops 0 t)) (drop_more text at 0 within)
     ∙ ap (joined value at) (run-stopped stops (get_or text at 0) (drop (at + 1) text) h)
     ∙ same_run _ _ _ _ (append-nil value) (omega arith)
+
+-- plain bytes are read at once
+plain_run : (stops : ℕ → Bool) (text : List ℕ) → run stops 0 text ≡ joined (take (prefix_len (is_plain stops) text) text) (prefix_len (is_plain stops) text) (run stops 0 (drop (prefix_len (is_plain stops) text) text))
+plain_run stops [] = refl
+plain_run stops (b ∷ text) =
+    elim (cases_Bool (is_plain stops b)) [
+      | inl p ↦ (
+        let n : ℕ = prefix_len (is_plain stops) text in
+        let parts = and_parts (not (stops b)) (not (b == 92)) p in
+        let one : 1 + n ≡ suc n = omega arith in
+        let front : take (1 + n) (b ∷ text) ≡ b ∷ take n text = ap (λ k. take k (b ∷ text)) one in
+        let back : drop (1 + n) (b ∷ text) ≡ drop n text = ap (λ k. drop k (b ∷ text)) one in
+        rw p (run-letter stops b text (not-true (stops b) parts.0) (eqb-false b 92 (not-true (b == 92) parts.1)) ∙ ap (prepend (b ∷ [])) (plain_run stops text) ∙ same_run _ _ _ _ (sym (rw (front, back) refl)) (rw back (omega arith))))
+      | inr p ↦ rw p (same_run _ _ _ _ refl (omega arith))
+    ]
+
+pub plain_read : (stops : ℕ → Bool) (text value : List ℕ) (at n : ℕ) → n ≡ prefix_len (is_plain stops) (drop at text) → joined value at (run stops 0 (drop at text)) ≡ joined (value ++ take n (drop at text)) (at + n) (run stops 0 (drop (at + n) text))
+plain_read stops text value at n e =
+    ap (joined value at) (plain_run stops (drop at text) ∙ ap (λ k. joined (take k (drop at text)) k (run stops 0 (drop k (drop at text)))) (sym e))
+    ∙ same_run _ _ _ _ (sym (append_assoc value (take n (drop at text)) (run stops 0 (drop n (drop at text))).value)) (omega arith)
+    ∙ ap (λ t. joined (value ++ take n (drop at text)) (at + n) (run stops 0 t)) (drop-drop n at text)
+
+-- at a plain byte there is one at least
+pub plain_some : (stops : ℕ → Bool) (text : List ℕ) (at : ℕ) → at < length text → stops (get_or text at 0) ≡ false → get_or text at 0 ≢ 92 → 1 ≤ prefix_len (is_plain stops) (drop at text)
+plain_some stops text at within h e = let q = ne_eqb (get_or text at 0) 92 e in rw (drop_more text at 0 within, h, q) (omega arith)
+
+-- the slice from a place on
+pub rest_whole : (text : List ℕ) (at : ℕ) → take (length text - at) (drop at text) ≡ drop at text
+rest_whole text at = take_all (length text - at) (drop at text) (omega (arith, length-drop at text))

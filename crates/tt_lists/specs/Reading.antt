@@ -1,5 +1,5 @@
 -- The function that reads list text. It follows the grammar, and answers lengths where that cuts texts.
-use Rattle.std.specs.Prelude.{◌≡◌, ℕ, zero, suc, ◌+◌, ◌-◌, nat_lt, Bool, true, false, ◌==◌, ◌↔◌, List, [], ◌∷◌, ◌++◌, length, drop, take, take_while, Option, Some, None}
+use Rattle.std.specs.Prelude.{◌≡◌, ℕ, zero, suc, ◌+◌, ◌-◌, nat_lt, Bool, true, false, not, ◌&&◌, ◌==◌, ◌↔◌, List, [], ◌∷◌, ◌++◌, length, drop, take, take_while, Option, Some, None}
 use Rattle.tt_text.specs.Backslash.{backslash}
 use Rattle.tt_text.specs.Braces.{matching_brace}
 use Rattle.tt_text.specs.Characters.{is_white_space}
@@ -18,6 +18,10 @@ use Rattle.tt_lists.specs.declared.items.Split.TheVariants.{Items, Bad}
 abbrev pub stops : Stop → ℕ → Bool
 stops WhiteSpace b = is_white_space b
 stops Quote b = is_quote b
+
+-- a byte that stands for itself, and does not stop a run
+abbrev pub is_plain : (ℕ → Bool) → ℕ → Bool
+is_plain stops b = not (stops b) && not (b == 92)
 
 -- one byte more, with what it stands for
 abbrev pub prepend : List ℕ → Run → Run

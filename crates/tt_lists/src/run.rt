@@ -1,6 +1,7 @@
 ghost use Rattle.std.specs.Prelude.{◌≡◌, ◌<◌, ◌≤◌, length, IfOk};
+ghost use Rattle.std.specs.List.{prefix_len};
 ghost use Rattle.tt_text.specs.Characters.{is_white_space};
-ghost use Rattle.tt_lists.specs.Reading.{run, stops};
+ghost use Rattle.tt_lists.specs.Reading.{is_plain, run, stops};
 
 use std::alloc::Global;
 use tt_text::{NoMemory, Text, backslash};
@@ -48,9 +49,20 @@ pub(crate) fn read_run(alloc: Global, text: &[u8], stop: Stop) -> Result<Run, No
             value.push_bytes(&sequence.bytes[..usize::from(sequence.len)])?;
             at = sequence.next;
         } else {
-            value.push_bytes(&text[at..at + 1])?;
-            at += 1;
+            let end = at + plain_length(&text[at..], stop);
+            value.push_bytes(&text[at..end])?;
+            at = end;
         }
     }
     Ok(Run { value, takes: at })
+}
+
+// How many bytes before a stop and before a backslash the text begins with.
+fn plain_length(text: &[u8], stop: Stop) -> usize
+    ensures value { result ≡ prefix_len (is_plain (stops stop)) text.now }
+    ensures within { result ≤ length text.now }
+{
+    text.iter()
+        .take_while(|b| !stops(stop, **b) && **b != b'\\')
+        .count()
 }
