@@ -1,6 +1,6 @@
 -- The search for the brace that closes, byte by byte.
-use Rattle.std.proofs.Common.{◌≡◌, ◌≢◌, ℕ, zero, suc, ◌+◌, ◌-◌, ◌<◌, ◌≤◌, Bool, true, false, ◌==◌, List, [], ◌∷◌, ◌++◌, ◌&&◌, append-nil, length-append, length, get_or, drop, Option, Some, None, refl, sym, ap, ◌∙◌, inl, inr, arith, drop-drop, add-one, add-zero}
-use Rattle.std.proofs.lemmas.Bool.{cases_eq, eq-eqb, ne_eqb}
+use Rattle.std.proofs.Common.{◌≡◌, ◌≢◌, ℕ, zero, suc, ◌+◌, ◌-◌, ◌<◌, ◌≤◌, Bool, true, false, ◌==◌, List, [], ◌∷◌, ◌++◌, ◌&&◌, append-nil, length-append, length, get_or, drop, Option, Some, None, refl, sym, ap, ◌∙◌, inl, inr, arith, drop-drop, add-zero}
+use Rattle.std.proofs.lemmas.Bool.{cases_eq, ne_eqb}
 use Rattle.std.proofs.lemmas.List.{drop_more, drop_all}
 use Rattle.std.proofs.Math.Seq.{drop-append_seam}
 use Rattle.tt_lists.specs.Scanning.{IsScan}

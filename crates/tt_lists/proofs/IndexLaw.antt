@@ -1,10 +1,10 @@
 -- Indices by the grammar and by the function.
-use Rattle.std.proofs.Common.{◌≡◌, ◌≢◌, ℕ, zero, suc, ◌+◌, ◌^◌, ◌<◌, ◌≤◌, Bool, true, false, not, ◌==◌, ◌&&◌, ◌||◌, cond, ℤ, pos, negsuc, neg_ℤ, ◌+ℤ◌, List, [], ◌∷◌, ◌++◌, length, take, drop, Option, Some, None, refl, sym, ap, subst, ◌∙◌, inl, inr, arith}
+use Rattle.std.proofs.Common.{◌≡◌, ℕ, ◌^◌, Bool, true, false, ◌==◌, ◌&&◌, ◌||◌, cond, ℤ, pos, negsuc, neg_ℤ, ◌+ℤ◌, List, [], ◌∷◌, ◌++◌, length, take, drop, Option, Some, None, refl, sym, ap, subst, ◌∙◌, inl, inr, arith}
 use Rattle.std.specs.List.{list_all, prefix_len, take_while}
 use Rattle.std.specs.Prelude.{nat_lt, FitsSigned, ◌⊎◌}
 use Rattle.std.specs.Int.{w64}
 use Rattle.std.specs.Str.Parse.{digits_value}
-use Rattle.std.proofs.lemmas.Bool.{cases_Bool, cases_eq, and_parts, or_cases, or_from, eqb-true, ne_eqb, eq-eqb, lt-ltb, ltb-true, both_ways}
+use Rattle.std.proofs.lemmas.Bool.{cases_Bool, and_parts, eqb-true, lt-ltb, ltb-true, both_ways}
 use Rattle.std.proofs.lemmas.Bool.Decides.{nat_tests}
 use Rattle.std.proofs.lemmas.List.{take-append-drop}
 use Rattle.std.proofs.Math.Seq.{take-append_seam, drop-append_seam}
@@ -48,9 +48,9 @@ offset_sound (b ∷ digits) z h =
     elim (cases_Bool (b == 43)) [
       | inl p ↦ (let e = eqb-true b 43 p in let q = signed_sound false digits z (rw p at h) in rw (e, q.1) (plus q.0))
       | inr p ↦ elim (cases_Bool (b == 45)) [
-          | inl q ↦ (let e = eqb-true b 45 q in let r = signed_sound true digits z (rw (p, q) at h) in rw (e, r.1) (minus r.0))
-          | inr q ↦ absurd (cc (rw (p, q) at h))
-        ]
+        | inl q ↦ (let e = eqb-true b 45 q in let r = signed_sound true digits z (rw (p, q) at h) in rw (e, r.1) (minus r.0))
+        | inr q ↦ absurd (cc (rw (p, q) at h))
+      ]
     ]
 
 offset_complete : {text : List ℕ} {z : ℤ} → IsOffset text z → offset_of text ≡ Some z
@@ -132,12 +132,12 @@ unfolding index_of
 sound text i h =
     elim (cases_Bool (is_end_first text)) [
       | inl p ↦ (
-        let q = place_sound FromEnd (offset_of (drop 3 text)) i (rw p at h) in
-        subst (λ t. IsIndex t i) (sym (ends_first text p)) (subst (IsIndex (101 ∷ 110 ∷ 100 ∷ drop 3 text)) q.is (from_end (offset_sound (drop 3 text) q.number q.told) q.inside)))
+          let q = place_sound FromEnd (offset_of (drop 3 text)) i (rw p at h) in
+          subst (λ t. IsIndex t i) (sym (ends_first text p)) (subst (IsIndex (101 ∷ 110 ∷ 100 ∷ drop 3 text)) q.is (from_end (offset_sound (drop 3 text) q.number q.told) q.inside)))
       | inr p ↦ elim (cases_Bool (is_sign_first text)) [
-          | inl q ↦ signed_index text i q (rw (p, q) at h)
-          | inr q ↦ first_sound text i (rw (p, q) at h)
-        ]
+        | inl q ↦ signed_index text i q (rw (p, q) at h)
+        | inr q ↦ first_sound text i (rw (p, q) at h)
+      ]
     ]
 
 -- an offset with something in it begins with a sign
@@ -158,6 +158,7 @@ complete_signed b digits z o f =
     no_end b [] e = refl
     no_end b (n ∷ []) e = refl
     no_end b (n ∷ d ∷ text) e = rw e refl
+
     sign : (b : ℕ) → (b == 43 || b == 45) ≡ true → (b == 43 || b == 45) ≡ true
     sign b e = e
 
@@ -177,6 +178,7 @@ complete_first digits offset number place d o e f = go digits d refl
         ∙ ap (λ n. place_of At (sum_of (Some (digits_value 10 digits)) n)) (offset_complete o)
         ∙ ap (λ z. place_of At (Some z)) (sym e)
         ∙ place_complete At place f
+
     go : (ds : List ℕ) → is_number ds ≡ true → digits ≡ ds → index_of (digits ++ offset) ≡ Some (At place)
     go [] d' same = absurd (both_ways false refl d')
     go (b ∷ ds) d' same =

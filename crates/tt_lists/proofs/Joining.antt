@@ -1,10 +1,10 @@
 -- A canonical text lists the items that it was made of.
-use Rattle.std.proofs.Common.{◌≡◌, ◌≢◌, ℕ, suc, ◌+◌, ◌<◌, ◌≤◌, Bool, true, false, not, ◌==◌, ◌||◌, ◌&&◌, cond, List, [], ◌∷◌, ◌++◌, drop, refl, sym, ap, subst, ◌∙◌, inl, inr, append_assoc, append-nil, arith}
+use Rattle.std.proofs.Common.{◌≡◌, ◌≢◌, ℕ, Bool, true, false, not, ◌==◌, ◌||◌, cond, List, [], ◌∷◌, ◌++◌, drop, refl, sym, ap, subst, ◌∙◌, inl, inr, append_assoc, arith}
 use Rattle.std.specs.List.{list_any, flat_map}
-use Rattle.std.proofs.lemmas.Bool.{cases_Bool, cases_eq, eqb-true, eqb-false, or_cases, or_parts, or_from, and_parts, not-true, ne_eqb, both_ways, cond-true, cond-false}
+use Rattle.std.proofs.lemmas.Bool.{cases_Bool, eqb-true, or_parts, and_parts, both_ways, cond-true, cond-false}
 use Rattle.std.proofs.lemmas.Bool.Decides.{nat_tests}
-use Rattle.tt_text.specs.Backslash.{backslash, sequence, kind_of, Kind, Itself, Control}
-use Rattle.tt_text.specs.Braces.{is_balanced, IsBalanced}
+use Rattle.tt_text.specs.Backslash.{backslash, sequence, kind_of, Itself, Control}
+use Rattle.tt_text.specs.Braces.{is_balanced}
 use Rattle.tt_text.specs.Braces.IsBalanced.{empty}
 use Rattle.tt_text.specs.Characters.{is_white_space}
 use Rattle.tt_text.proofs.BraceLemmas.{balanced_law}
@@ -19,8 +19,7 @@ use Rattle.tt_lists.proofs.SplitLaw.{complete_items}
 use Rattle.tt_lists.specs.declared.items.Split.TheVariants.{Items}
 use Rattle.tt_lists.specs.declared.spelling.Place.{Place}
 use Rattle.tt_lists.specs.declared.spelling.Place.TheVariants.{First, Later}
-use Rattle.tt_lists.specs.declared.spelling.Style.{Style}
-use Rattle.tt_lists.specs.declared.spelling.Style.TheVariants.{Empty, Escaped, Braced, Bare}
+use Rattle.tt_lists.specs.declared.spelling.Style.TheVariants.{Escaped, Braced, Bare}
 
 -- a run of a bare item
 abbrev Runs : List ℕ → List ℕ → List ℕ → Type 0

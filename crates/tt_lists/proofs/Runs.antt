@@ -1,5 +1,5 @@
 -- Runs of bytes, read from a place on.
-use Rattle.std.proofs.Common.{◌≡◌, ◌≢◌, ℕ, zero, suc, ◌+◌, ◌-◌, ◌<◌, ◌≤◌, min, Bool, true, false, not, ◌==◌, List, [], ◌∷◌, ◌++◌, length, get_or, take, drop, refl, sym, ap, ◌∙◌, inl, inr, append_assoc, append-nil, arith, length-take, length-drop, drop-drop, add-one, cond}
+use Rattle.std.proofs.Common.{◌≡◌, ◌≢◌, ℕ, zero, suc, ◌+◌, ◌-◌, ◌<◌, ◌≤◌, Bool, true, false, not, ◌==◌, List, [], ◌∷◌, ◌++◌, length, get_or, take, drop, refl, sym, ap, ◌∙◌, inl, inr, append_assoc, append-nil, arith, length-take, length-drop, drop-drop, cond}
 use Rattle.std.specs.Char.{is_digit}
 use Rattle.std.specs.List.{take_while, prefix_len}
 use Rattle.std.specs.Prelude.{nat_le}
@@ -109,12 +109,12 @@ plain_run stops [] = refl
 plain_run stops (b ∷ text) =
     elim (cases_Bool (is_plain stops b)) [
       | inl p ↦ (
-        let n : ℕ = prefix_len (is_plain stops) text in
-        let parts = and_parts (not (stops b)) (not (b == 92)) p in
-        let one : 1 + n ≡ suc n = omega arith in
-        let front : take (1 + n) (b ∷ text) ≡ b ∷ take n text = ap (λ k. take k (b ∷ text)) one in
-        let back : drop (1 + n) (b ∷ text) ≡ drop n text = ap (λ k. drop k (b ∷ text)) one in
-        rw p (run-letter stops b text (not-true (stops b) parts.0) (eqb-false b 92 (not-true (b == 92) parts.1)) ∙ ap (prepend (b ∷ [])) (plain_run stops text) ∙ same_run _ _ _ _ (sym (rw (front, back) refl)) (rw back (omega arith))))
+          let n : ℕ = prefix_len (is_plain stops) text in
+          let parts = and_parts (not (stops b)) (not (b == 92)) p in
+          let one : 1 + n ≡ suc n = omega arith in
+          let front : take (1 + n) (b ∷ text) ≡ b ∷ take n text = ap (λ k. take k (b ∷ text)) one in
+          let back : drop (1 + n) (b ∷ text) ≡ drop n text = ap (λ k. drop k (b ∷ text)) one in
+          rw p (run-letter stops b text (not-true (stops b) parts.0) (eqb-false b 92 (not-true (b == 92) parts.1)) ∙ ap (prepend (b ∷ [])) (plain_run stops text) ∙ same_run _ _ _ _ (sym (rw (front, back) refl)) (rw back (omega arith))))
       | inr p ↦ rw p (same_run _ _ _ _ refl (omega arith))
     ]
 

@@ -1,7 +1,7 @@
 -- Items and lists by the grammar and by the function.
-use Rattle.std.proofs.Common.{◌≡◌, ◌≢◌, ℕ, zero, suc, ◌+◌, ◌-◌, ◌<◌, ◌≤◌, Bool, true, false, ◌==◌, List, [], ◌∷◌, ◌++◌, length, drop, take, Option, Some, None, refl, sym, ap, subst, ◌∙◌, inl, inr, arith, length-append, length-drop, drop-drop}
+use Rattle.std.proofs.Common.{◌≡◌, ℕ, zero, suc, ◌+◌, ◌-◌, ◌<◌, ◌≤◌, Bool, true, false, List, [], ◌∷◌, ◌++◌, length, drop, take, Option, Some, None, refl, sym, ap, subst, ◌∙◌, inl, inr, arith, length-drop, drop-drop}
 use Rattle.std.specs.List.{take_while}
-use Rattle.std.proofs.lemmas.Bool.{cases_Bool, cases_eq, cases_lt, eqb-true, eq-eqb, both_ways, lt-ltb, le-ltb, ltb-true}
+use Rattle.std.proofs.lemmas.Bool.{cases_Bool, cases_eq, cases_lt, both_ways, lt-ltb, le-ltb}
 use Rattle.std.proofs.lemmas.List.{drop_all}
 use Rattle.std.proofs.Math.Seq.{take-append_seam, drop-append-add}
 use Rattle.tt_text.specs.Braces.{matching_brace, IsBalanced, IsClosedAt}
@@ -21,8 +21,7 @@ use Rattle.tt_lists.specs.declared.items.ListFault.{ListFault}
 use Rattle.tt_lists.specs.declared.items.ListFault.TheVariants.{OpenBrace, OpenQuote, AfterBrace, AfterQuote}
 use Rattle.tt_lists.specs.declared.splitting.Reading.{Reading}
 use Rattle.tt_lists.specs.declared.splitting.Reading.TheVariants.{Item, Wrong}
-use Rattle.tt_lists.proofs.RunLaw.{run_sound, run_complete, ReadsRun, drop_next}
-use Rattle.tt_lists.proofs.Runs.{run_le}
+use Rattle.tt_lists.proofs.RunLaw.{run_sound, run_complete, drop_next}
 use Rattle.tt_lists.proofs.Splits.{item-brace, item-quote, item-bare, item_takes, split-white, split-item, split-item_kept, split-wrong}
 
 -- ---- separators

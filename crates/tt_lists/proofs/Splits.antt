@@ -1,7 +1,7 @@
 -- Items read one after another.
-use Rattle.std.proofs.Common.{◌≡◌, ◌≢◌, ℕ, zero, suc, ◌+◌, ◌-◌, ◌<◌, ◌≤◌, min, Bool, true, false, ◌==◌, List, [], ◌∷◌, ◌++◌, length, get_or, take, drop, Option, Some, None, refl, sym, ap, subst, ◌∙◌, inl, inr, append_assoc, append-nil, arith, length-append, length-take, length-drop}
+use Rattle.std.proofs.Common.{◌≡◌, ◌≢◌, ℕ, zero, suc, ◌+◌, ◌-◌, ◌<◌, ◌≤◌, min, Bool, true, false, List, [], ◌∷◌, ◌++◌, length, take, drop, Option, Some, None, refl, sym, ap, ◌∙◌, inl, inr, append_assoc, append-nil, arith, length-append, length-take, length-drop}
 use Rattle.std.specs.List.{take_while, prefix_len}
-use Rattle.std.proofs.lemmas.Bool.{cases_Bool, cases_eq, cases_lt, eq-eqb, ne_eqb, eqb-true, ltb-true, lt-ltb, le-ltb}
+use Rattle.std.proofs.lemmas.Bool.{cases_Bool, cases_eq, cases_lt, eq-eqb, ne_eqb, lt-ltb, le-ltb}
 use Rattle.std.proofs.lemmas.List.{take-take, take_all}
 use Rattle.std.proofs.lemmas.List.Sums.{prefix_len-le-length}
 use Rattle.tt_text.specs.Braces.{matching_brace}
@@ -12,7 +12,6 @@ use Rattle.tt_lists.specs.declared.items.Split.{Split}
 use Rattle.tt_lists.specs.declared.items.Split.TheVariants.{Items, Bad}
 use Rattle.tt_lists.specs.declared.items.ListFault.{ListFault}
 use Rattle.tt_lists.specs.declared.items.ListFault.TheVariants.{AfterBrace, AfterQuote}
-use Rattle.tt_lists.specs.declared.splitting.Reading.{Reading}
 use Rattle.tt_lists.specs.declared.splitting.Reading.TheVariants.{Item, Wrong}
 use Rattle.tt_text.proofs.BraceLemmas.{matching_brace_law}
 use Rattle.tt_lists.proofs.Runs.{run_le, run-letter, run-escape_kept}

@@ -1,5 +1,5 @@
 -- The grammar of list text (Tcl(n), lists; list(n)): which items a text lists, and what is wrong with one that lists none.
-use Rattle.std.specs.Prelude.{◌≡◌, ◌≢◌, ℕ, Bool, true, false, not, ◌==◌, IsTrue, List, [], ◌∷◌, ◌++◌, drop, take, take_while}
+use Rattle.std.specs.Prelude.{◌≡◌, ◌≢◌, ℕ, Bool, false, not, ◌==◌, IsTrue, List, [], ◌∷◌, ◌++◌, drop, take, take_while}
 use Rattle.tt_text.specs.Backslash.{backslash}
 use Rattle.tt_text.specs.Braces.{IsBalanced, IsClosedAt}
 use Rattle.tt_text.specs.Characters.{is_white_space}

@@ -11,5 +11,4 @@ pub fn texts_are_split_by_the_grammar()
 /// A text is read as the index that it is by the grammar of lindex(n), and where it is none as none.
 pub fn indices_are_read_by_the_grammar()
     ensures { IndexLaw }
-{
-}
+{}

@@ -1,8 +1,8 @@
-use Rattle.std.proofs.Common.{◌≡◌, ◌+◌, ◌*◌, ◌<◌, ◌≤◌, ◌^◌, ◌∙◌, sym, ap, length, get_or, take, None, arith, rules}
+use Rattle.std.proofs.Common.{◌≡◌, ◌+◌, ◌∙◌, ap, None, arith, rules}
 use Rattle.std.proofs.lemmas.Bool.Decides.{nat_tests}
 use Rattle.std.proofs.lemmas.Int.Digits.{digits_value_more}
 use Rattle.std.specs.Char.{digit_value}
-use Rattle.tt_lists.proofs.Places.{bad_digit, too_great, whole_number, decimals_more}
+use Rattle.tt_lists.proofs.Places.{too_great, whole_number, decimals_more}
 use Rattle.tt_lists.proofs.indices.number_of.Goals as goal
 
 pub returns-in_err-checked_mul : goal.returns-in_err-checked_mul
