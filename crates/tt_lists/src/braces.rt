@@ -12,8 +12,8 @@ enum Scan {
     Ends(usize, usize),
 }
 
-#[tactic(auto, using(crate::proofs::Bracing::closes_alone, crate::proofs::Bracing::ends_alone))]
 /// The place of the brace that closes the one before this text. A byte after a backslash is none.
+#[tactic(auto, using(crate::proofs::Bracing::closes_alone, crate::proofs::Bracing::ends_alone))]
 pub(crate) fn matching_brace(text: &[u8]) -> Option<usize>
     ensures place { result ≡ matching_brace text.now }
     ensures within { IfSome result (λ place. place < length text.now) }
@@ -24,8 +24,8 @@ pub(crate) fn matching_brace(text: &[u8]) -> Option<usize>
     }
 }
 
-#[tactic(auto, using(crate::proofs::Bracing::closes_within, crate::proofs::Bracing::ends_balanced))]
 /// Whether the text may stand in braces: its braces match, and no backslash is left alone.
+#[tactic(auto, using(crate::proofs::Bracing::closes_within, crate::proofs::Bracing::ends_balanced))]
 pub(crate) fn is_balanced(text: &[u8]) -> bool
     ensures { result ≡ is_balanced text.now }
 {
