@@ -8,7 +8,8 @@ use std::alloc::Global;
 use std::env;
 use std::rt::Clock;
 use std::time::{Duration, Instant};
-use tt_lists::{Split, Texts, join_list, split};
+use tt_lists::{Split, join_list, split};
+use tt_text::Texts;
 
 // An item of each form.
 const ITEMS: &[u8] = b"word {two words} \"two more\" back\\ slash {a {b} c} #sign $name [script] ";

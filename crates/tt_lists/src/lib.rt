@@ -12,7 +12,7 @@ mod spelling;
 mod splitting;
 
 pub use indices::index;
-pub use items::{ListFault, Split, Texts};
+pub use items::{ListFault, Split};
 pub use place::Index;
 pub use spelling::{element, join_list};
 pub use splitting::split;

@@ -4,10 +4,10 @@ ghost use Rattle.tt_lists.specs.ListText.{is_no_white_space, is_quote};
 ghost use Rattle.tt_lists.specs.Reading.{IsSplit, split_of, without_white_front, item_at, in_braces, in_quotes, is_separated, run};
 
 use crate::braces::matching_brace;
-use crate::items::{ListFault, Split, Texts};
+use crate::items::{ListFault, Split};
 use crate::run::{Stop, is_white_space, read_run};
 use std::alloc::Global;
-use tt_text::{NoMemory, Text};
+use tt_text::{NoMemory, Text, Texts};
 
 /// One item and how many bytes write it, or what is wrong there.
 #[derive(Drop)]
