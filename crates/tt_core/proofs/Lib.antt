@@ -1,3 +1,4 @@
 pub mod PlainLemmas
 pub mod SuffixLemmas
 pub mod StepLemmas
+pub mod GrammarLemmas

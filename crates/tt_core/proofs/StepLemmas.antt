@@ -4,6 +4,7 @@ use Rattle.tt_core.specs.declared.fault.StepFault.TheVariants.{NoMemory, WriteFa
 use Rattle.tt_core.specs.declared.standing.Standing.TheVariants.{Running, Over, Failed}
 use Rattle.tt_core.specs.PlainScript.{First, Nothing, Puts, Other, first}
 use Rattle.tt_core.specs.Machine.{Beginning, Machine, Reply, Go, WriteOut, End, request_of, request_after, start_machine, step, run_from, run, asked, after_answer, act}
+use Rattle.tt_core.specs.Stage.{WritesOut}
 use Rattle.tt_core.specs.Standing.{IsAt, IsStanding}
 
 -- a step and nothing after it
@@ -161,6 +162,21 @@ next beginning threads thread = option_and_then (λ machine. step machine thread
 
 pub next-others : (beginning : Beginning) (threads : List ℕ) (place thread : ℕ) (old_out new_out old_err new_err : Option (List ℕ)) → IsStanding beginning threads place Running old_out new_out old_err new_err → thread ≢ 1 → next beginning threads thread ≡ None
 next-others beginning threads place thread old_out new_out old_err new_err is other = rw is.ran (step-others is.machine beginning.script place thread is.stands other)
+
+some_piece : (word : List ℕ) → word ++ 10 ∷ [] ≢ []
+some_piece [] = λ e. absurd (cc e)
+some_piece (byte ∷ word) = λ e. absurd (cc e)
+
+pub next-writes : (beginning : Beginning) (threads : List ℕ) (place thread : ℕ) (old_out new_out old_err new_err : Option (List ℕ)) (word rest : List ℕ) → IsStanding beginning threads place Running old_out new_out old_err new_err → thread ≡ 1 → first (drop place beginning.script) ≡ Puts word rest → WritesOut (run beginning threads) (next beginning threads thread)
+next-writes beginning threads place thread old_out new_out old_err new_err word rest is main e = record {
+  before = is.machine;
+  after = wrote is.machine (word ++ 10 ∷ []);
+  piece = word ++ 10 ∷ [];
+  is_earlier = is.ran;
+  is_later = rw (is.ran, main) (step-write is.machine beginning.script place word rest is.stands e);
+  some = some_piece word;
+  more = refl;
+}
 
 pub next-other : (beginning : Beginning) (threads : List ℕ) (place thread : ℕ) (old_out new_out old_err new_err : Option (List ℕ)) → IsStanding beginning threads place Running old_out new_out old_err new_err → thread ≡ 1 → first (drop place beginning.script) ≡ Other → next beginning threads thread ≡ None
 next-other beginning threads place thread old_out new_out old_err new_err is main e = rw (is.ran, main) (step-other is.machine beginning.script place is.stands e)

@@ -1,5 +1,6 @@
 pub mod Machine
 pub mod PlainCode
+pub mod PlainGrammar
 pub mod PlainScript
 pub mod Stage
 pub mod Standing

@@ -1,5 +1,5 @@
 -- A system as contracts see it, and what it has written.
-use Rattle.std.specs.Prelude.{◌≡◌, ℕ, List, [], ◌∷◌, ◌++◌, Option, Some, None, IsSome, option_and_then}
+use Rattle.std.specs.Prelude.{◌≡◌, ◌≢◌, ℕ, List, [], ◌∷◌, ◌++◌, Option, Some, None, IsSome, option_and_then}
 use Rattle.tt_devices.specs.Streams.{Grows}
 use Rattle.tt_core.specs.declared.fault.StepFault.{StepFault}
 use Rattle.tt_core.specs.declared.fault.StepFault.TheVariants.{WriteFault}
@@ -42,6 +42,16 @@ machine_of stage = run stage.beginning stage.schedule
 -- the machine after one more step, or none where the thread can't take it
 abbrev pub next_of : {S K E : Type 0} → Stage S K E → ℕ → Option Machine
 next_of stage thread = option_and_then (λ machine. step machine thread) (machine_of stage)
+
+-- from one machine to the next, standard output gets a piece that isn't empty
+pub record WritesOut (earlier later : Option Machine) : Type 0 where
+  pub before : Machine
+  pub after : Machine
+  pub piece : List ℕ
+  pub is_earlier : earlier ≡ Some before
+  pub is_later : later ≡ Some after
+  pub some : piece ≢ []
+  pub more : after.shared.out ≡ before.shared.out ++ piece
 
 -- a system that met no fault can step the thread where the machine can
 pub record CanStep {S K E : Type 0} (stage : Stage S K E) (thread : ℕ) : Type 0 where

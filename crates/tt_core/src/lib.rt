@@ -9,6 +9,6 @@ mod standing;
 mod system;
 
 pub use fault::{NewFault, StepFault};
-pub use plain::plain_form;
+pub use plain::{plain_form, plain_grammar};
 pub use setup::Setup;
 pub use system::System;

@@ -2,6 +2,7 @@ ghost use Rattle.std.specs.Prelude.{◌≡◌, ◌↔◌, ◌≤◌, IsTrue, len
 ghost use Rattle.std.specs.List.{prefix_len};
 ghost use Rattle.tt_core.specs.PlainScript.{is_space, is_blank, is_word_byte, is_braced_byte, ends_command, after_spaces, puts_of, braced, word_first, spaced_word_first, command_first, first, IsPlain};
 ghost use Rattle.tt_core.specs.PlainCode.{meaning};
+ghost use Rattle.tt_core.specs.PlainGrammar.{PutsLaw, NothingLaw};
 
 /// The most commands of a plain script.
 const MOST_COMMANDS: u32 = 5_000;
@@ -148,3 +149,9 @@ pub fn plain_form(text: &[u8]) -> bool
     }
     matches!(first_command(rest), First::Nothing)
 }
+
+/// The first command of a text is what the grammar of plain scripts says it is.
+pub fn plain_grammar()
+    ensures puts { PutsLaw }
+    ensures nothing { NothingLaw }
+{}

@@ -68,7 +68,7 @@ impl<S: Source, K: Sink, E: Sink> Model for System<S, K, E> {
 }
 
 impl<S: Source, K: Sink, E: Sink> System<S, K, E> {
-    ghost use Rattle.tt_core.specs.Stage.{Stage, CanStep, SameBeginning, IsFaithful, over_of, next_of, machine_of};
+    ghost use Rattle.tt_core.specs.Stage.{Stage, CanStep, SameBeginning, IsFaithful, over_of, next_of, machine_of, WritesOut};
 
     /// A run of this script over these devices, with no step taken.
     ///
@@ -145,6 +145,8 @@ impl<S: Source, K: Sink, E: Sink> System<S, K, E> {
         ensures read_fault { IsErrOf result StepFault.ReadFault → self.old.kept ≡ Some StepFault.ReadFault }
         ensures write_fault { IsErrOf result StepFault.WriteFault → self.old.kept ≡ None →
             Rises (K.fault_count self.old.output) (K.fault_count self.new.output) }
+        ensures had_a_piece { IsErrOf result StepFault.WriteFault → self.old.kept ≡ None →
+            WritesOut (machine_of self.old) (next_of self.old thread) }
         ensures entry_added { IsErrOf result StepFault.WriteFault → self.old.kept ≡ None →
             self.new.schedule ≡ self.old.schedule ++ thread ∷ [] }
         ensures no_entry { IsErrOf result StepFault.NoMemory → self.new.schedule ≡ self.old.schedule }

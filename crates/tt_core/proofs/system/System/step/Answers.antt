@@ -1,8 +1,8 @@
 use Rattle.std.proofs.Common.{◌≡◌, ap, refl, None, IsSome, drop}
 use Rattle.tt_core.specs.PlainScript.{first, Other}
-use Rattle.tt_core.specs.Stage.{next_of}
+use Rattle.tt_core.specs.Stage.{next_of, machine_of, WritesOut}
 use Rattle.tt_core.specs.Standing.{kept_of}
-use Rattle.tt_core.proofs.StepLemmas.{next-others, next-other, next-over, next-some, none_is, some_cannot, other_from, stands-over, stands-wrote, stands-cut}
+use Rattle.tt_core.proofs.StepLemmas.{next-others, next-other, next-over, next-some, next-writes, none_is, some_cannot, other_from, stands-over, stands-wrote, stands-cut}
 use Rattle.tt_core.proofs.system.System.step.Goals as goal
 
 pub returns-in-Over-clause-not_enabled : goal.returns-in-Over-clause-not_enabled
@@ -97,3 +97,10 @@ returns-clause-refused g c kept none =
     let has = (rw c.as_bytes-script.ensures.bytes at c.if-not-has_next.ensures).0 refl in
     let some : IsSome (next_of c.args.self.now c.args.thread) = rw (← c.self.view_is) (next-some _ _ _ c.args.thread _ _ _ _ at c.if-thread-ne-MAIN.false has) in
     absurd (some_cannot _ some none)
+
+pub returns-clause-had_a_piece : goal.returns-clause-had_a_piece
+returns-clause-had_a_piece g c failed kept =
+    let at = rw c.in-Running.is at c.self.invariant in
+    let writes = rw (c.as_bytes-script.ensures.bytes, c.in-Write.is) at c.in-Ok.ensures in
+    let more : WritesOut (machine_of c.args.self.now) (next_of c.args.self.now c.args.thread) = rw (← c.self.view_is) (next-writes _ _ _ c.args.thread _ _ _ _ writes.0 _ at c.if-thread-ne-MAIN.false writes.1) in
+    more

@@ -1,0 +1,6 @@
+//! What calls between the crates speak of: how an evaluation ended.
+#![tactic(auto)]
+
+mod outcome;
+
+pub use outcome::{Code, Outcome};

@@ -1,0 +1,8 @@
+pub mod Bracing
+pub mod IndexLaw
+pub mod Joining
+pub mod Places
+pub mod RunLaw
+pub mod Runs
+pub mod SplitLaw
+pub mod Splits

@@ -1,0 +1,5 @@
+pub mod Indices
+pub mod ListText
+pub mod Reading
+pub mod Scanning
+pub mod Spelling

@@ -1,0 +1,119 @@
+-- The function that reads list text. It follows the grammar, and answers lengths where that cuts texts.
+use Rattle.std.specs.Prelude.{◌≡◌, ℕ, zero, suc, ◌+◌, ◌-◌, nat_lt, Bool, true, false, not, ◌&&◌, ◌==◌, ◌↔◌, List, [], ◌∷◌, ◌++◌, length, drop, take, take_while, Option, Some, None}
+use Rattle.tt_text.specs.Backslash.{backslash}
+use Rattle.tt_text.specs.Braces.{matching_brace}
+use Rattle.tt_text.specs.Characters.{is_white_space}
+use Rattle.tt_lists.specs.ListText.{IsListText, IsFaulty, is_quote, is_no_white_space}
+use Rattle.tt_lists.specs.declared.run.Run.{Run}
+use Rattle.tt_lists.specs.declared.run.Stop.{Stop}
+use Rattle.tt_lists.specs.declared.run.Stop.TheVariants.{WhiteSpace, Quote}
+use Rattle.tt_lists.specs.declared.items.ListFault.{ListFault}
+use Rattle.tt_lists.specs.declared.items.ListFault.TheVariants.{OpenBrace, OpenQuote, AfterBrace, AfterQuote}
+use Rattle.tt_lists.specs.declared.splitting.Reading.{Reading}
+use Rattle.tt_lists.specs.declared.splitting.Reading.TheVariants.{Item, Wrong}
+use Rattle.tt_lists.specs.declared.items.Split.{Split}
+use Rattle.tt_lists.specs.declared.items.Split.TheVariants.{Items, Bad}
+
+-- what stops a run
+abbrev pub stops : Stop → ℕ → Bool
+stops WhiteSpace b = is_white_space b
+stops Quote b = is_quote b
+
+-- a byte that stands for itself, and does not stop a run
+abbrev pub is_plain : (ℕ → Bool) → ℕ → Bool
+is_plain stops b = not (stops b) && not (b == 92)
+
+-- one byte more, with what it stands for
+abbrev pub prepend : List ℕ → Run → Run
+prepend value run = record { value = value ++ run.value; takes = 1 + run.takes }
+
+-- the run at the front of a text, after so many bytes that belong to a sequence
+abbrev pub run : (ℕ → Bool) → ℕ → List ℕ → Run
+run stops passed [] = record { value = []; takes = 0 }
+run stops (suc passed) (b ∷ text) = prepend [] (run stops passed text)
+run stops zero (b ∷ text) =
+    elim (stops b) [
+      | true ↦ record { value = []; takes = 0 }
+      | false ↦ elim (b == 92) [
+        | true ↦ prepend (backslash text).value (run stops (backslash text).takes text)
+        | false ↦ prepend (b ∷ []) (run stops zero text)
+      ]
+    ]
+
+-- the end of a text or white space follows an item
+abbrev pub is_separated : List ℕ → Bool
+is_separated [] = true
+is_separated (b ∷ after) = is_white_space b
+
+-- an item whose braces or quotes have ended, and what follows
+abbrev pub ended : (List ℕ → ListFault) → List ℕ → ℕ → List ℕ → Reading
+ended fault item takes after =
+    elim (is_separated after) [
+      | true ↦ Item item takes
+      | false ↦ Wrong (fault (take 20 (take_while is_no_white_space after)))
+    ]
+
+abbrev pub in_braces : List ℕ → Option ℕ → Reading
+in_braces text None = Wrong OpenBrace
+in_braces text (Some place) = ended AfterBrace (take place text) (place + 2) (drop (place + 1) text)
+
+abbrev pub in_quotes : List ℕ → Run → Reading
+in_quotes text run =
+    elim (nat_lt run.takes (length text)) [
+      | true ↦ ended AfterQuote run.value (run.takes + 2) (drop (run.takes + 1) text)
+      | false ↦ Wrong OpenQuote
+    ]
+
+abbrev pub in_bare : Run → Reading
+in_bare run = Item run.value run.takes
+
+-- the item at the front of a text that begins with no white space
+abbrev pub item_with : ℕ → List ℕ → Reading
+item_with b text =
+    elim (b == 123) [
+      | true ↦ in_braces text (matching_brace text)
+      | false ↦ elim (b == 34) [
+        | true ↦ in_quotes text (run is_quote 0 text)
+        | false ↦ in_bare (run is_white_space 0 (b ∷ text))
+      ]
+    ]
+
+unfoldable pub item_at : List ℕ → Reading
+item_at [] = Item [] 0
+item_at (b ∷ text) = item_with b text
+
+-- an item before those of the rest
+abbrev pub with_item : List ℕ → Split → Split
+with_item item (Items items) = Items (item ∷ items)
+with_item item (Bad fault) = Bad fault
+
+-- the items of a text, after so many bytes that belong to an item
+unfoldable pub split_after : ℕ → List ℕ → Split
+split_after passed [] = Items []
+split_after (suc passed) (b ∷ text) = split_after passed text
+split_after zero (b ∷ text) =
+    elim (is_white_space b) [
+      | true ↦ split_after zero text
+      | false ↦ elim (item_at (b ∷ text)) [
+        | Item item takes ↦ with_item item (split_after (takes - 1) text)
+        | Wrong fault ↦ Bad fault
+      ]
+    ]
+
+-- a text from its first byte on that is no white space
+abbrev pub without_white_front : List ℕ → List ℕ
+without_white_front [] = []
+without_white_front (b ∷ text) = elim (is_white_space b) [ true ↦ without_white_front text | false ↦ b ∷ text ]
+
+-- what a text is split into
+abbrev pub split_of : List ℕ → Split
+split_of text = split_after 0 text
+
+-- a text and what it is split into, by the grammar
+abbrev pub IsSplit : List ℕ → Split → Type 0
+IsSplit text (Items items) = IsListText text items
+IsSplit text (Bad fault) = IsFaulty text fault
+
+-- the function answers what the grammar says, and nothing else
+abbrev pub SplitLaw : Type 0
+SplitLaw = (text : List ℕ) (split : Split) → (split_of text ≡ split) ↔ IsSplit text split

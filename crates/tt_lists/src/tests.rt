@@ -1,0 +1,110 @@
+mod vectors;
+
+use crate::{Index, ListFault, Split, element, index, join_list, split};
+use std::alloc::Global;
+use std::process::Abort;
+use std::test::Fail;
+use tt_text::{NoMemory, Text};
+use vectors::{FAULTY, LISTED, SPELLED};
+
+// The canonical text of the items, or the message of the fault.
+fn outcome(alloc: Global, text: &[u8]) -> Result<Text, NoMemory> {
+    match split(alloc, text)? {
+        Split::Items(items) => join_list(alloc, items.as_slice()),
+        Split::Bad(fault) => message(alloc, fault),
+    }
+}
+
+fn message(alloc: Global, fault: ListFault) -> Result<Text, NoMemory> {
+    match fault {
+        ListFault::OpenBrace => Text::from_bytes(alloc, b"unmatched open brace in list"),
+        ListFault::OpenQuote => Text::from_bytes(alloc, b"unmatched open quote in list"),
+        ListFault::AfterBrace(told) => told_after(alloc, b"list element in braces", &told),
+        ListFault::AfterQuote(told) => told_after(alloc, b"list element in quotes", &told),
+    }
+}
+
+fn told_after(alloc: Global, what: &[u8], told: &Text) -> Result<Text, NoMemory> {
+    let mut text = Text::from_bytes(alloc, what)?;
+    text.push_bytes(b" followed by \"")?;
+    text.push_bytes(told.as_bytes())?;
+    text.push_bytes(b"\" instead of space")?;
+    Ok(text)
+}
+
+fn fields(row: &[u8]) -> (&[u8], &[u8]) {
+    match row.iter().position(|&b| b == 0x1f) {
+        Some(at) => (&row[..at], &row[at + 1..]),
+        None => (row, &[]),
+    }
+}
+
+fn expect_outcomes(rt: &impl Abort, alloc: Global, table: &[u8]) -> Result<(), NoMemory> {
+    for row in table.split(|&b| b == 0x1e) {
+        let (text, wanted) = fields(row);
+        let told = outcome(alloc, text)?;
+        assert!(rt; told.as_bytes() == wanted);
+    }
+    Ok(())
+}
+
+#[test]
+fn texts_are_split(rt: HostRuntime) -> Result<(), Fail> {
+    expect_outcomes(&rt, rt.alloc(), LISTED)?;
+    expect_outcomes(&rt, rt.alloc(), FAULTY)?;
+    Ok(())
+}
+
+fn after_a(alloc: Global, item: &[u8]) -> Result<Text, NoMemory> {
+    let first = Text::from_bytes(alloc, b"a")?;
+    let second = Text::from_bytes(alloc, item)?;
+    join_list(alloc, &[first, second])
+}
+
+fn expect_spellings(rt: &impl Abort, alloc: Global, table: &[u8]) -> Result<(), NoMemory> {
+    for row in table.split(|&b| b == 0x1e) {
+        let (item, spellings) = fields(row);
+        let (first, later) = fields(spellings);
+        let alone = element(alloc, item)?;
+        assert!(rt; alone.as_bytes() == first);
+        let together = after_a(alloc, item)?;
+        assert!(rt; together.as_bytes() == later);
+    }
+    Ok(())
+}
+
+#[test]
+fn items_are_spelled(rt: HostRuntime) -> Result<(), Fail> {
+    expect_spellings(&rt, rt.alloc(), SPELLED)?;
+    Ok(())
+}
+
+const INDICES: [(&[u8], Option<Index>); 20] = [
+    (b"x", None),
+    (b"", None),
+    (b"0", Some(Index::At(0))),
+    (b"010", Some(Index::At(10))),
+    (b"-1", Some(Index::At(-1))),
+    (b"+1", Some(Index::At(1))),
+    (b"--1", None),
+    (b"1+2", Some(Index::At(3))),
+    (b"1-2", Some(Index::At(-1))),
+    (b"1+-2", None),
+    (b"-1+2", None),
+    (b"end", Some(Index::FromEnd(0))),
+    (b"end+1", Some(Index::FromEnd(1))),
+    (b"end-1", Some(Index::FromEnd(-1))),
+    (b"end1", None),
+    (b"end-", None),
+    (b"en", None),
+    (b"9223372036854775807", Some(Index::At(i64::MAX))),
+    (b"-9223372036854775808", Some(Index::At(i64::MIN))),
+    (b"9223372036854775807+1", None),
+];
+
+#[test]
+fn indices_are_read(rt: HostRuntime) {
+    for (text, wanted) in &INDICES {
+        assert!(rt; index(text) == *wanted);
+    }
+}

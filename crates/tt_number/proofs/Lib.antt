@@ -1,0 +1,5 @@
+pub mod Digits
+pub mod Division
+pub mod Powers
+pub mod Reading
+pub mod Trims

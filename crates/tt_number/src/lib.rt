@@ -1,0 +1,15 @@
+//! The whole numbers of Tcl(n) and expr(n): how a text is read as one, how one is written, and the
+//! operators on them.
+#![tactic(auto)]
+
+mod decimal;
+pub mod laws;
+mod numeral;
+mod operators;
+
+pub use decimal::whole_text;
+pub use numeral::{NumberFault, read_whole};
+pub use operators::{ArithFault, NumOp, OneOp, binary, unary};
+
+#[cfg(test)]
+mod tests;

@@ -1,0 +1,17 @@
+pub mod Bracing
+pub mod Builds
+pub mod CommandSteps
+pub mod Cuts
+pub mod Escapes
+pub mod Exits
+pub mod FirstLaw
+pub mod FirstSteps
+pub mod FromGrammar
+pub mod IntoCuts
+pub mod IntoGrammar
+pub mod Joining
+pub mod Naming
+pub mod PartSteps
+pub mod Readers
+pub mod Runs
+pub mod Scanning

@@ -1,0 +1,66 @@
+use Rattle.std.proofs.Common.{◌≡◌, ◌+◌, ◌-◌, ◌*◌, ◌<◌, ◌≤◌, false, ◌++◌, length, drop}
+use Rattle.tt_script.specs.Building.{left}
+use Rattle.tt_script.specs.Plain.{plain_words}
+use Rattle.tt_script.specs.Reading as reading
+use Rattle.tt_script.proofs.parser.+parser.Given as goal
+
+abbrev pub decreases-words : goal.decreases-words
+decreases-words l = 9 * l.depth + 8
+
+abbrev pub decreases-word : goal.decreases-word
+decreases-word l = 9 * l.depth + 7
+
+abbrev pub decreases-word_parts : goal.decreases-word_parts
+decreases-word_parts l = 9 * l.depth + 6
+
+abbrev pub decreases-quoted : goal.decreases-quoted
+decreases-quoted l = 9 * l.depth + 5
+
+abbrev pub decreases-parts : goal.decreases-parts
+decreases-parts l = 9 * l.depth + 4
+
+abbrev pub decreases-push_part : goal.decreases-push_part
+decreases-push_part l = 9 * l.depth + 3
+
+abbrev pub decreases-variable : goal.decreases-variable
+decreases-variable l = 9 * l.depth + 2
+
+abbrev pub decreases-index : goal.decreases-index
+decreases-index l = 9 * l.depth + 1
+
+abbrev pub decreases-brackets : goal.decreases-brackets
+decreases-brackets l = 9 * l.depth + 1
+
+abbrev pub decreases-commands : goal.decreases-commands
+decreases-commands l = 9 * l.depth + 9
+
+abbrev pub invariant-commands-next_command : goal.invariant-commands-next_command
+invariant-commands-next_command l = record {
+  begun : l.from ≤ l.at;
+  within : l.at ≤ length l.text;
+  read : reading.after l.from (reading.commands (reading.level l.depth) 0 (drop l.from l.text)) ≡ reading.after l.at (reading.commands (reading.level l.depth) 0 (drop l.at l.text));
+}
+
+abbrev pub decreases-commands-next_command : goal.decreases-commands-next_command
+decreases-commands-next_command l = length l.text - l.at
+
+abbrev pub invariant-words-next_word : goal.invariant-words-next_word
+invariant-words-next_word l = record {
+  begun : l.from ≤ l.at;
+  within : l.at < length l.text;
+  word : reading.separates l.place (drop l.at l.text) ≡ false;
+  read : reading.after l.from (reading.words l.place (reading.level l.depth) 0 (drop l.from l.text)) ≡ reading.mapped (λ others. plain_words l.words.items ++ others) (reading.after l.at (reading.words l.place (reading.level l.depth) 0 (drop l.at l.text)));
+}
+
+abbrev pub decreases-words-next_word : goal.decreases-words-next_word
+decreases-words-next_word l = length l.text - l.at
+
+abbrev pub invariant-parts-loop-at : goal.invariant-parts-loop-at
+invariant-parts-loop-at l = record {
+  begun : l.from ≤ l.at;
+  within : l.at ≤ length l.text;
+  read : reading.after l.from (reading.parts (reading.level l.depth) l.ending 0 (drop l.from l.text)) ≡ left (reading.level l.depth) l.ending l.text l.builder l.at;
+}
+
+abbrev pub decreases-parts-loop-at : goal.decreases-parts-loop-at
+decreases-parts-loop-at l = length l.text - l.at

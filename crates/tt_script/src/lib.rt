@@ -1,0 +1,18 @@
+//! The commands of a script, read as Tcl(n) says.
+#![tactic(auto)]
+
+mod braces;
+mod builder;
+mod command;
+pub mod laws;
+mod names;
+mod parser;
+mod scan;
+mod script;
+mod stop;
+
+pub use command::{Command, First, ParseFault, Part, Word};
+pub use script::{DEPTH, first_command};
+
+#[cfg(test)]
+mod tests;

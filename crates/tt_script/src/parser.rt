@@ -1,0 +1,306 @@
+//! What nests: brackets, indices and the words around them (Tcl(n), rules 3 to 8).
+ghost use Rattle.std.specs.Prelude.{◌≡◌, ◌+◌, ◌≤◌, ◌<◌, false, true, length, drop, slice_index, IfOk, OnOk, IfErr};
+ghost use Rattle.tt_script.specs.Words.{none};
+ghost use Rattle.tt_script.specs.Answers.{Answers, Continues, Refuses, ends_within};
+ghost use Rattle.tt_script.specs.Building.{left};
+ghost use Rattle.tt_script.specs.Plain.{plain_part, plain_parts, plain_word, plain_words};
+ghost use Rattle.tt_script.specs.Reading as reading;
+
+use crate::braces::{closing_brace, joined_lines, letters, named};
+use crate::builder::Builder;
+use crate::command::{Ending, ParseFault, Part, Place, Word};
+use crate::names::{brace_end, name_end};
+use crate::scan::{
+    begins, ends_command, ends_parts, expands, gap_end, letters_end, separates, skip_end,
+};
+use crate::stop::Stop;
+use std::alloc::Global;
+use tt_text::{Text, backslash};
+
+/// The variable of `${`, whose name begins here.
+fn braced_variable(alloc: Global, text: &[u8], from: usize) -> Result<(Part, usize), Stop>
+    requires { from ≤ length text.now }
+    ensures read { Answers plain_part result (reading.after from (reading.braced_variable (drop from text.now))) }
+    ensures within { IfOk result (λ r. r.1 ≤ length text.now) }
+{
+    let end = brace_end(text, from);
+    if end == text.len() {
+        return Err(Stop::Fault(ParseFault::VariableBrace));
+    }
+    let part = named(alloc, &text[from..end])?;
+    Ok((part, end + 1))
+}
+
+/// The parts of a word in braces, whose text begins here.
+fn braced(alloc: Global, text: &[u8], from: usize, place: Place) -> Result<(Vec<Part>, usize), Stop>
+    requires { from ≤ length text.now }
+    ensures read { Answers (λ parts. plain_parts parts.items) result (reading.after from (reading.braced place (drop from text.now))) }
+    ensures within { IfOk result (λ r. (from < r.1) × (r.1 ≤ length text.now)) }
+{
+    let Some(end) = closing_brace(text, from) else {
+        return Err(Stop::Fault(ParseFault::CloseBrace));
+    };
+    if !separates(text, end + 1, place) {
+        return Err(Stop::Fault(ParseFault::AfterBrace));
+    }
+    let inside = joined_lines(alloc, &text[from..end])?;
+    let parts = letters(alloc, inside.as_bytes())?;
+    Ok((parts, end + 1))
+}
+
+/// What `$` begins, with the text after it here.
+#[cycle(parser)]
+fn variable(alloc: Global, text: &[u8], from: usize, depth: usize) -> Result<(Part, usize), Stop>
+    requires { from ≤ length text.now }
+    ensures read { Answers plain_part result (reading.after from (reading.dollar (reading.level depth) (drop from text.now))) }
+    ensures within { IfOk result (λ r. (from ≤ r.1) × (r.1 ≤ length text.now)) }
+{
+    if begins(text, from, b'{') {
+        return braced_variable(alloc, text, from + 1);
+    }
+    let end = name_end(text, from);
+    if end == from {
+        return Ok((Part::Letters(Text::from_bytes(alloc, b"$")?), from));
+    }
+    let name = Text::from_bytes(alloc, &text[from..end])?;
+    if !begins(text, end, b'(') {
+        return Ok((Part::Variable(name), end));
+    }
+    let (parts, close) = index(alloc, text, end + 1, depth)?;
+    Ok((Part::Element(name, parts), close + 1))
+}
+
+/// The parts of an index, whose text begins here, and the place of its `)`.
+#[cycle(parser)]
+fn index(alloc: Global, text: &[u8], from: usize, depth: usize) -> Result<(Vec<Part>, usize), Stop>
+    requires { from ≤ length text.now }
+    ensures read { Answers (λ parts. plain_parts parts.items) result (reading.after from ((reading.level depth).index (drop from text.now))) }
+    ensures within { IfOk result (λ r. (from ≤ r.1) × (r.1 < length text.now)) }
+{
+    if depth == 0 {
+        return Err(Stop::Fault(ParseFault::TooDeep));
+    }
+    let (parts, end) = parts(alloc, text, from, Ending::Parenthesis, depth - 1)?;
+    Ok((parts, end))
+}
+
+/// The script in brackets, which begins here, and the place of its `]`.
+#[cycle(parser)]
+fn brackets(alloc: Global, text: &[u8], from: usize, depth: usize) -> Result<(Text, usize), Stop>
+    requires { from ≤ length text.now }
+    ensures read { Answers (λ inside. inside) result (reading.after from ((reading.level depth).brackets (drop from text.now))) }
+    ensures within { IfOk result (λ r. (from ≤ r.1) × (r.1 < length text.now)) }
+{
+    if depth == 0 {
+        return Err(Stop::Fault(ParseFault::TooDeep));
+    }
+    let end = commands(alloc, text, from, depth - 1)?;
+    let inside = Text::from_bytes(alloc, &text[from..end])?;
+    Ok((inside, end))
+}
+
+/// Whole commands up to a `]`, and its place.
+#[cycle(parser)]
+fn commands(alloc: Global, text: &[u8], from: usize, depth: usize) -> Result<usize, Stop>
+    requires { from ≤ length text.now }
+    ensures read { Continues result (λ end. reading.takes tt end) (reading.after from (reading.commands (reading.level depth) 0 (drop from text.now))) }
+    ensures within { IfOk result (λ end. (from ≤ end) × (end < length text.now)) }
+{
+    let mut at = from;
+    'next_command: loop {
+        let start = skip_end(text, at);
+        if begins(text, start, b']') {
+            return Ok(start);
+        }
+        if start == text.len() {
+            return Err(Stop::Fault(ParseFault::CloseBracket));
+        }
+        let (_, end) = words(alloc, text, start, Place::Brackets, depth)?;
+        at = end;
+    }
+}
+
+/// The words of a command that begins here, and the place after the last one.
+#[cycle(parser)]
+pub(crate) fn words(
+    alloc: Global,
+    text: &[u8],
+    from: usize,
+    place: Place,
+    depth: usize,
+) -> Result<(Vec<Word>, usize), Stop>
+    requires here { from < length text.now }
+    requires begins { reading.separates place (drop from text.now) ≡ false }
+    ensures read { Answers (λ words. plain_words words.items) result (reading.after from (reading.words place (reading.level depth) 0 (drop from text.now))) }
+    ensures within { IfOk result (λ r. (from < r.1) × (r.1 ≤ length text.now)) }
+{
+    let mut words = Vec::new(alloc);
+    let mut at = from;
+    'next_word: loop {
+        let (word, end) = word(alloc, text, at, place, depth)?;
+        words.push(word)?;
+        at = gap_end(text, end);
+        if ends_command(text, at, place) {
+            return Ok((words, end));
+        }
+    }
+}
+
+/// The word that begins here, and the place after it.
+#[cycle(parser)]
+fn word(
+    alloc: Global,
+    text: &[u8],
+    from: usize,
+    place: Place,
+    depth: usize,
+) -> Result<(Word, usize), Stop>
+    requires here { from < length text.now }
+    requires begins { reading.separates place (drop from text.now) ≡ false }
+    ensures read { Answers plain_word result (reading.after from (reading.word place (reading.level depth) (drop from text.now))) }
+    ensures within { IfOk result (λ r. (from < r.1) × (r.1 ≤ length text.now)) }
+{
+    if expands(text, from) {
+        let (parts, end) = word_parts(alloc, text, from + 3, place, depth)?;
+        Ok((
+            Word {
+                expand: true,
+                parts,
+            },
+            end,
+        ))
+    } else {
+        let (parts, end) = word_parts(alloc, text, from, place, depth)?;
+        Ok((
+            Word {
+                expand: false,
+                parts,
+            },
+            end,
+        ))
+    }
+}
+
+/// The parts of a word in quotes, in braces or bare.
+#[cycle(parser)]
+fn word_parts(
+    alloc: Global,
+    text: &[u8],
+    from: usize,
+    place: Place,
+    depth: usize,
+) -> Result<(Vec<Part>, usize), Stop>
+    requires { from ≤ length text.now }
+    ensures read { Answers (λ parts. plain_parts parts.items) result (reading.after from (reading.word_parts place (reading.level depth) (drop from text.now))) }
+    ensures within { IfOk result (λ r. (from ≤ r.1) × (r.1 ≤ length text.now)) }
+    ensures later { reading.separates place (drop from text.now) ≡ false → IfOk result (λ r. from < r.1) }
+{
+    if begins(text, from, b'"') {
+        quoted(alloc, text, from + 1, place, depth)
+    } else if begins(text, from, b'{') {
+        braced(alloc, text, from + 1, place)
+    } else {
+        parts(alloc, text, from, Ending::Word(place), depth)
+    }
+}
+
+/// The parts of a word in quotes, whose text begins here.
+#[cycle(parser)]
+fn quoted(
+    alloc: Global,
+    text: &[u8],
+    from: usize,
+    place: Place,
+    depth: usize,
+) -> Result<(Vec<Part>, usize), Stop>
+    requires { from ≤ length text.now }
+    ensures read { Answers (λ parts. plain_parts parts.items) result (reading.after from (reading.quoted place (reading.level depth) (drop from text.now))) }
+    ensures within { IfOk result (λ r. (from < r.1) × (r.1 ≤ length text.now)) }
+{
+    let (parts, end) = parts(alloc, text, from, Ending::Quote, depth)?;
+    if !separates(text, end + 1, place) {
+        return Err(Stop::Fault(ParseFault::AfterQuote));
+    }
+    Ok((parts, end + 1))
+}
+
+/// Parts up to what ends them, and its place.
+#[cycle(parser)]
+fn parts(
+    alloc: Global,
+    text: &[u8],
+    from: usize,
+    ending: Ending,
+    depth: usize,
+) -> Result<(Vec<Part>, usize), Stop>
+    requires { from ≤ length text.now }
+    ensures read { Answers (λ parts. plain_parts parts.items) result (reading.after from (reading.parts (reading.level depth) ending 0 (drop from text.now))) }
+    ensures within { IfOk result (λ r. (from ≤ r.1) × ends_within ending r.1 (length text.now)) }
+    ensures later { reading.ends_parts ending (drop from text.now) ≡ false → IfOk result (λ r. from < r.1) }
+{
+    let mut builder = Builder::new(alloc);
+    let mut at = from;
+    while at < text.len() && !ends_parts(text, at, ending) {
+        at = push_part(alloc, text, at, ending, depth, &mut builder)?;
+    }
+    must_end(text, at, ending)?;
+    let parts = builder.finish(alloc)?;
+    Ok((parts, at))
+}
+
+/// Adds the part that begins here, or a run of letters, and answers the place after it.
+#[cycle(parser)]
+fn push_part(
+    alloc: Global,
+    text: &[u8],
+    at: usize,
+    ending: Ending,
+    depth: usize,
+    builder: &mut Builder,
+) -> Result<usize, Stop>
+    requires here { at < length text.now }
+    requires goes_on { reading.ends_parts ending (drop at text.now) ≡ false }
+    ensures read { Continues result (left (reading.level depth) ending text.now builder.new) (left (reading.level depth) ending text.now builder.old at) }
+    ensures within { IfOk result (λ next. (at < next) × (next ≤ length text.now)) }
+{
+    match text[at] {
+        b'$' => {
+            let (part, next) = variable(alloc, text, at + 1, depth)?;
+            builder.push(alloc, part)?;
+            Ok(next)
+        }
+        b'[' => {
+            let (inside, end) = brackets(alloc, text, at + 1, depth)?;
+            builder.push(alloc, Part::Script(inside))?;
+            Ok(end + 1)
+        }
+        b'\\' => {
+            let sequence = backslash(text, at);
+            builder.push_letters(&sequence.bytes[..usize::from(sequence.len)])?;
+            Ok(sequence.next)
+        }
+        _ => {
+            let next = letters_end(text, at + 1, ending);
+            builder.push_letters(&text[at..next])?;
+            Ok(next)
+        }
+    }
+}
+
+/// Parts end here. Only a bare word may end where the text does.
+fn must_end(text: &[u8], at: usize, ending: Ending) -> Result<(), Stop>
+    requires within { at ≤ length text.now }
+    requires ends { at < length text.now → reading.ends_parts ending (drop at text.now) ≡ true }
+    ensures ok { OnOk result ((level : reading.Level) → reading.after at (reading.parts level ending 0 (drop at text.now)) ≡ reading.takes none at) }
+    ensures closed { OnOk result (ends_within ending at (length text.now)) }
+    ensures fault { IfErr result (λ stop. (level : reading.Level) → Refuses stop (reading.after at (reading.parts level ending 0 (drop at text.now)))) }
+{
+    if at < text.len() {
+        return Ok(());
+    }
+    match ending {
+        Ending::Word(_) => Ok(()),
+        Ending::Quote => Err(Stop::Fault(ParseFault::CloseQuote)),
+        Ending::Parenthesis => Err(Stop::Fault(ParseFault::CloseParen)),
+    }
+}
