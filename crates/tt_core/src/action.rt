@@ -1,44 +1,51 @@
-ghost use Rattle.std.specs.Prelude.{◌≡◌, ◌≢◌, ◌≤◌, ◌++◌, ◌∷◌, ◌↔◌, [], drop, length, IsTrue, IfOk};
-ghost use Rattle.tt_core.specs.PlainScript.{Other, first};
-ghost use Rattle.tt_core.specs.Standing.{DoesNext};
+ghost use Rattle.std.specs.Prelude.{◌≡◌, ◌≤◌, ◌++◌, ◌∷◌, [], length, IfOk, IsErr};
+ghost use Rattle.tt_plain.specs.PlainCode.{command_of};
+ghost use Rattle.tt_core.specs.Steps.{IsActionOf, IsNext, HasCommand};
 
-use crate::plain::{First, first_command};
 use std::alloc::Global;
+use tt_plain::{Command, First, first_command, thread_number};
 use tt_text::{NoMemory, Text};
 
-/// What a thread does next.
+/// What a text has its thread do first.
 #[derive(Drop)]
 pub(crate) enum Action {
-    /// It ends.
-    End,
-    /// It writes a piece, and then goes on at a place of its script.
-    Write(Text, usize),
+    /// Nothing: no command is left.
+    Nothing,
+    /// To write a piece.
+    Write(Text),
+    /// To make a thread.
+    Create,
+    /// To send a script to the thread of this number.
+    Send(u32, Text),
+    /// What no plain script has.
+    Other,
 }
 
-/// What a thread does at a place of its script.
-pub(crate) fn next_action(alloc: Global, script: &[u8], place: usize) -> Result<Action, NoMemory>
-    requires within { place ≤ length script.now }
-    requires plain { first (drop place script.now) ≢ Other }
-    ensures { IfOk result (DoesNext script.now place) }
+/// What a text has its thread do first, and how many bytes are left after that.
+pub(crate) fn next_action(alloc: Global, text: &[u8]) -> Result<(Action, usize), NoMemory>
+    ensures next { IfOk result (λ next. IsNext text.now next.0 next.1) }
+    ensures within { IfOk result (λ next. next.1 ≤ length text.now) }
+    ensures had_one { IsErr result → HasCommand text.now }
 {
-    let (_, text) = script.split_at(place);
     match first_command(text) {
-        First::Nothing => Ok(Action::End),
-        First::Other => unreachable!(),
-        First::Puts { word, rest } => {
-            let piece = line_of(alloc, word)?;
-            Ok(Action::Write(piece, script.len() - rest.len()))
-        }
+        First::Nothing => Ok((Action::Nothing, 0)),
+        First::Other => Ok((Action::Other, 0)),
+        First::Found { command, rest } => Ok((action_of(alloc, command)?, rest.len())),
     }
 }
 
-/// Whether a thread has something to do at a place of its script.
-pub(crate) fn has_next(script: &[u8], place: usize) -> bool
-    requires { place ≤ length script.now }
-    ensures { IsTrue result ↔ (first (drop place script.now) ≢ Other) }
+/// What a command has its thread do.
+fn action_of(alloc: Global, command: Command<'_>) -> Result<Action, NoMemory>
+    ensures { IfOk result (IsActionOf (command_of command.entry)) }
 {
-    let (_, text) = script.split_at(place);
-    !matches!(first_command(text), First::Other)
+    match command {
+        Command::Puts(word) => Ok(Action::Write(line_of(alloc, word)?)),
+        Command::Create => Ok(Action::Create),
+        Command::Send { id, script } => match thread_number(id) {
+            Some(number) => Ok(Action::Send(number, Text::from_bytes(alloc, script)?)),
+            None => Ok(Action::Other),
+        },
+    }
 }
 
 /// The word and a newline.

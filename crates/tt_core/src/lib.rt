@@ -2,13 +2,13 @@
 #![tactic(auto)]
 
 mod action;
+mod crew;
+mod effect;
 mod fault;
-mod plain;
+mod rest;
+mod server;
 mod setup;
 mod standing;
-mod system;
 
 pub use fault::{NewFault, StepFault};
-pub use plain::{plain_form, plain_grammar};
 pub use setup::Setup;
-pub use system::System;

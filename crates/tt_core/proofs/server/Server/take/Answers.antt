@@ -1,0 +1,7 @@
+use Rattle.std.proofs.Common.{refl}
+use Rattle.tt_core.specs.Steps.{takes}
+use Rattle.tt_core.proofs.server.Server.take.Goals as goal
+
+pub returns-in-Some-clause-taken : goal.returns-in-Some-clause-taken
+returns-in-Some-clause-taken c =
+    takes c.requires (rw (← c.self.view_is) (rw c.in-Some.is at c.pop_front.ensures.items)) (rw c.whole.ensures refl)

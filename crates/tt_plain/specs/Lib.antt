@@ -1,0 +1,2 @@
+pub mod PlainScript
+pub mod PlainCode
