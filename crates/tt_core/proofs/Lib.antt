@@ -1,4 +1,1 @@
-pub mod PlainLemmas
-pub mod SuffixLemmas
 pub mod StepLemmas
-pub mod GrammarLemmas

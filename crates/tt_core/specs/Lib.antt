@@ -1,6 +1,3 @@
 pub mod Machine
-pub mod PlainCode
-pub mod PlainGrammar
-pub mod PlainScript
 pub mod Stage
 pub mod Standing

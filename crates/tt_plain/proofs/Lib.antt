@@ -1,0 +1,4 @@
+pub mod Bracing
+pub mod CutLemmas
+pub mod FoundLemmas
+pub mod SuffixLemmas

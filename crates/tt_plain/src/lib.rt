@@ -1,0 +1,9 @@
+//! Plain scripts: lists of commands with no substitution, and how they are read.
+#![tactic(auto)]
+
+mod braces;
+mod command;
+mod form;
+
+pub use command::{Command, First, first_command};
+pub use form::{plain_form, thread_number};
