@@ -215,22 +215,25 @@ id-from text c r e =
       ends = sent.ends;
     }
 
+-- a send's words joined, one after the other
+join-send : (spaces more id last script r : List ℕ) → codes "thread::send" ++ (spaces ++ (codes "-async" ++ (more ++ (id ++ (last ++ (123 ∷ (script ++ (125 ∷ r)))))))) ≡ (codes "thread::send" ++ (spaces ++ (codes "-async" ++ (more ++ (id ++ (last ++ (123 ∷ (script ++ 125 ∷ [])))))))) ++ r
+join-send spaces more id last script r = simp append_assoc
+
+send-cut : (text spaces after more other id last script r : List ℕ) → text ≡ codes "thread::send" ++ (spaces ++ after) → after ≡ codes "-async" ++ (more ++ other) → other ≡ id ++ (last ++ (123 ∷ (script ++ (125 ∷ r)))) → text ≡ (codes "thread::send" ++ (spaces ++ (codes "-async" ++ (more ++ (id ++ (last ++ (123 ∷ (script ++ 125 ∷ [])))))))) ++ r
+send-cut text spaces after more other id last script r e f g = rw (e, f, g) (join-send spaces more id last script r)
+
 send-from : (text : List ℕ) (c : Command) (r : List ℕ) → starts_with nat_eq text (codes "thread::send") ≡ true → spaced option_first (drop 12 text) ≡ Found c r → CommandAt text c r
 send-from text c r starts e =
     let at = spaced-from option_first (drop 12 text) c r e in
     let chose = chosen (starts_with nat_eq at.after (codes "-async")) (spaced id_first (drop 6 at.after)) c r at.read in
     let more = spaced-from id_first (drop 6 at.after) c r chose.1 in
     let sent = id-from more.after c r more.read in
-    let tail : List ℕ = 123 ∷ (sent.script ++ 125 ∷ []) in
-    let written : List ℕ = codes "thread::send" ++ (at.spaces ++ (codes "-async" ++ (more.spaces ++ (sent.id ++ (sent.spaces ++ tail))))) in
-    let closed : 123 ∷ (sent.script ++ (125 ∷ r)) ≡ tail ++ r = ap (λ l. 123 ∷ l) (sym (append_assoc sent.script (125 ∷ []) r)) in
-    let from_id : more.after ≡ (sent.id ++ (sent.spaces ++ tail)) ++ r = sent.cut ∙ simp append_assoc in
-    let from_option : at.after ≡ (codes "-async" ++ (more.spaces ++ (sent.id ++ (sent.spaces ++ tail)))) ++ r =
-        starts-is (codes "-async") at.after chose.0 ∙ ap (λ l. codes "-async" ++ l) (more.cut ∙ ap (λ l. more.spaces ++ l) from_id ∙ sym (append_assoc more.spaces _ r)) in
+    let from_option : at.after ≡ codes "-async" ++ (more.spaces ++ more.after) = starts-is (codes "-async") at.after chose.0 ∙ ap (λ l. codes "-async" ++ l) more.cut in
+    let from_name : text ≡ codes "thread::send" ++ (at.spaces ++ at.after) = starts-is (codes "thread::send") text starts ∙ ap (λ l. codes "thread::send" ++ l) at.cut in
     record {
-      written = written;
-      cut = starts-is (codes "thread::send") text starts ∙ ap (λ l. codes "thread::send" ++ l) (at.cut ∙ ap (λ l. at.spaces ++ l) from_option ∙ sym (append_assoc at.spaces _ r));
-      is_written = subst (IsCommand written) (sym sent.command_is) (send refl at.is_spaces more.is_spaces sent.is_spaces sent.is_id sent.balanced);
+      written = codes "thread::send" ++ (at.spaces ++ (codes "-async" ++ (more.spaces ++ (sent.id ++ (sent.spaces ++ (123 ∷ (sent.script ++ 125 ∷ [])))))));
+      cut = send-cut text at.spaces at.after more.spaces more.after sent.id sent.spaces sent.script r from_name from_option sent.cut;
+      is_written = subst (IsCommand _) (sym sent.command_is) (send refl at.is_spaces more.is_spaces sent.is_spaces sent.is_id sent.balanced);
       ends = sent.ends;
     }
 

@@ -59,8 +59,8 @@ struct Counts {
 impl Counts {
     /// The counts after a command, or `None` where it may not stand here or is one too many.
     fn with(self, command: Command<'_>) -> Option<Counts>
-        ensures found { IfSome result (λ after. AreAfter self.creates self.commands (command_of command) after.creates after.commands) }
-        ensures none { IfNone result ((creates commands : ℕ) → creates ≤ 999 → commands ≤ 5000 → ¬ (AreAfter self.creates self.commands (command_of command) creates commands)) }
+        ensures found { IfSome result (λ after. AreAfter self.creates self.commands (command_of command.entry) after.creates after.commands) }
+        ensures none { IfNone result ((creates commands : ℕ) → creates ≤ 999 → commands ≤ 5000 → ¬ (AreAfter self.creates self.commands (command_of command.entry) creates commands)) }
     {
         if self.commands == MOST_COMMANDS {
             return None;
