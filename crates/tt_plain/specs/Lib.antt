@@ -1,2 +1,5 @@
-pub mod PlainScript
+pub mod Counting
 pub mod PlainCode
+pub mod PlainGrammar
+pub mod PlainScript
+pub mod Scanning

@@ -1,6 +1,9 @@
-//! Plain scripts (stub).
+//! Plain scripts: lists of commands with no substitution, and how they are read.
 #![tactic(auto)]
 
-mod plain;
+mod braces;
+mod command;
+mod form;
 
-pub use plain::{Command, First, first_command, thread_number};
+pub use command::{Command, First, first_command};
+pub use form::{plain_form, thread_number};

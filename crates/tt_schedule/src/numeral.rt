@@ -4,15 +4,16 @@ ghost use Rattle.std.specs.Str.{all_ascii_digits};
 ghost use Rattle.tt_schedule.specs.ScheduleText.{IsInRange};
 ghost use Rattle.tt_schedule.specs.Digits.{BeginsWithNoDigit, IsDigitRun, read_on};
 
-/// The most that a number of a schedule can be.
+/// The greatest number of a thread, and the most steps of a schedule.
 pub(crate) const MOST: u32 = 16_777_216;
 
 /// How many digits that number has.
 const MOST_DIGITS: usize = 8;
 
-/// The number at the front, from 1 to `MOST`, in decimal without leading zeros, and the text after its digits;
-/// `None` exactly where the text begins with no such number.
-pub(crate) fn number_at(text: &[u8]) -> Option<(u32, &[u8])>
+/// The number at the front, as schedules write numbers of threads and of steps: from 1 to 16,777,216, in decimal
+/// without leading zeros. With it comes the text after its digits. `None` exactly where the text begins with no such
+/// number.
+pub fn number_at(text: &[u8]) -> Option<(u32, &[u8])>
     ensures found { IfSome result (λ read. IsInRange read.0 × (text.now ≡ decimal read.0 ++ read.1.now) × BeginsWithNoDigit read.1.now) }
     ensures none { IfNone result ((n : ℕ) (rest : List ℕ) → IsInRange n → BeginsWithNoDigit rest → text.now ≢ decimal n ++ rest) }
 {
