@@ -52,13 +52,14 @@ pub fn plain_form(text: &[u8]) -> bool
 struct Counts {
     creates: u32,
     commands: u32,
-    ghost few_creates: { creates ≤ 999 },
-    ghost few_commands: { commands ≤ 5000 },
 }
 
 impl Counts {
     /// The counts after a command, or `None` where it may not stand here or is one too many.
     fn with(self, command: Command<'_>) -> Option<Counts>
+        requires few_creates { self.creates ≤ 999 }
+        requires few_commands { self.commands ≤ 5000 }
+        ensures few { IfSome result (λ after. (after.creates ≤ 999) × (after.commands ≤ 5000)) }
         ensures found { IfSome result (λ after. AreAfter self.creates self.commands (command_of command.entry) after.creates after.commands) }
         ensures none { IfNone result ((creates commands : ℕ) → creates ≤ 999 → commands ≤ 5000 → ¬ (AreAfter self.creates self.commands (command_of command.entry) creates commands)) }
     {

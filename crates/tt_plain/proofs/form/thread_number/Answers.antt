@@ -7,6 +7,7 @@ use Rattle.tt_schedule.specs.Digits.{BeginsWithNoDigit}
 use Rattle.tt_schedule.specs.ScheduleText.{IsInRange}
 use Rattle.tt_schedule.proofs.DigitLemmas.{own, same-run}
 use Rattle.tt_plain.specs.PlainScript.{thread_id}
+use Rattle.tt_plain.proofs.NameLemmas.{after-tid}
 use Rattle.tt_plain.proofs.form.thread_number.Goals as goal
 
 -- no text follows the digits of a name
@@ -15,10 +16,6 @@ nothing-after digits rest number n range cut stops other is =
     let one : number < 2 ^ 64 = omega (arith, range.1) in
     let two : n < 2 ^ 64 = omega (arith, other.1) in
     (same-run (decimal number) (decimal n) rest [] (digits_decimal own number one) (digits_decimal own n two) stops tt (sym cut ∙ is ∙ sym (append-nil (decimal n)))).1
-
--- the digits of a name come after its first three bytes
-after-tid : (id : List ℕ) (n : ℕ) → id ≡ thread_id n → drop 3 id ≡ decimal n
-after-tid id n e = rw e
 
 pub returns-in_err-number-clause-none : goal.returns-in_err-number-clause-none
 returns-in_err-number-clause-none c = rw c.from_residual.ensures (λ n range named.
