@@ -1,1 +1,6 @@
 pub mod CrewLemmas
+pub mod PlainLemmas
+pub mod ServingLemmas
+pub mod StepLemmas
+pub mod RunLemmas
+pub mod StandLemmas

@@ -1,2 +1,4 @@
 pub mod Machine
+pub mod Stage
+pub mod Standing
 pub mod Steps

@@ -152,10 +152,14 @@ linked_from number (thread ∷ threads) id =
 abbrev pub linked : List Thread → List ℕ → Option ℕ
 linked threads id = linked_from 1 threads id
 
+abbrev pub is_some_event : List Event → Bool
+is_some_event [] = false
+is_some_event (event ∷ events) = true
+
 -- whether a thread's queue has an event
 abbrev pub has_event : Option Thread → Bool
 has_event None = false
-has_event (Some thread) = elim thread.queue [ [] ↦ false | event ∷ events ↦ true ]
+has_event (Some thread) = is_some_event thread.queue
 
 -- Whether a request can be answered now: a take waits for an event. An asynchronous send waits only at a thread with an
 -- event mark, which no plain script sets.
@@ -195,6 +199,11 @@ sends shared sender target script (Some thread) =
       reply = Some (Posted post);
     }
 
+-- a send to a thread that doesn't live is refused
+abbrev pub sends_to : Shared → (sender : ℕ) → (id script : List ℕ) → Option ℕ → Answered
+sends_to shared sender id script None = refuses shared (codes "thread \"" ++ (id ++ codes "\" does not exist"))
+sends_to shared sender id script (Some target) = sends shared sender target script (of_thread shared.threads target)
+
 -- the first event leaves the queue, and is the answer
 abbrev pub takes : Shared → (number : ℕ) → Thread → List Event → Answered
 takes shared number thread [] = record { shared = shared; reply = None }
@@ -212,19 +221,17 @@ abbrev pub over_after : Option ℕ → ℕ → ℕ → Option ℕ
 over_after over thread code = if thread == 1 then Some (code % 256) else over
 
 -- an ended thread has its code, and an empty queue
+abbrev pub with_ended : List Thread → ℕ → ℕ → Option Thread → List Thread
+with_ended threads number code None = threads
+with_ended threads number code (Some thread) = with_thread threads number (record { start = thread.start; life = Ended code; queue = [] })
+
 abbrev pub ended : List Thread → ℕ → ℕ → List Thread
-ended threads number code = elim (of_thread threads number) [
-  | None ↦ threads
-  | Some thread ↦ with_thread threads number (record { start = thread.start; life = Ended code; queue = [] })
-]
+ended threads number code = with_ended threads number code (of_thread threads number)
 
 abbrev pub act : Shared → ℕ → Request → Answered
 act shared thread (WriteOut text) = record { shared = record shared { out = shared.out ++ text }; reply = Some Go }
 act shared thread Create = if nat_lt (living shared.threads) most_living then creates shared else refuses shared (codes "too many threads")
-act shared thread (Send id script) = elim (linked shared.threads id) [
-  | None ↦ refuses shared (codes "thread \"" ++ (id ++ codes "\" does not exist"))
-  | Some target ↦ sends shared thread target script (of_thread shared.threads target)
-]
+act shared thread (Send id script) = sends_to shared thread id script (linked shared.threads id)
 act shared thread Take = takes_of shared thread (of_thread shared.threads thread)
 act shared thread (End code) = record {
   shared = record shared { over = over_after shared.over thread code; threads = ended shared.threads thread code };
@@ -256,13 +263,14 @@ asked_by (Some thread) (Some replies) = elim thread.life [ Live ↦ next_request
 abbrev pub asked : Machine → ℕ → Option Request
 asked machine thread = asked_by (of_thread machine.shared.threads thread) (of_thread machine.replies thread)
 
+abbrev pub with_reply : List (List Reply) → ℕ → Reply → Option (List Reply) → List (List Reply)
+with_reply replies thread reply None = replies
+with_reply replies thread reply (Some before) = with_thread replies thread (before ++ reply ∷ [])
+
 -- a reply is added to those of its thread
 abbrev pub replied : List (List Reply) → ℕ → Option Reply → List (List Reply)
 replied replies thread None = replies
-replied replies thread (Some reply) = elim (of_thread replies thread) [
-  | None ↦ replies
-  | Some before ↦ with_thread replies thread (before ++ reply ∷ [])
-]
+replied replies thread (Some reply) = with_reply replies thread reply (of_thread replies thread)
 
 -- a list of replies for each thread, which is empty for one that has none yet
 abbrev pub for_each : List Thread → List (List Reply) → List (List Reply)

@@ -2,8 +2,7 @@ ghost use Rattle.std.specs.Prelude.{◌≡◌, ◌⊎◌, ◌↔◌, suc, [], Is
 ghost use Rattle.tt_core.specs.Steps.{Acts, Creates, Sends, WantsMemory, HasNoServer, HasNoTarget, ServerHasMore, MainSteps, MainCannot, HasCommand, ServerAtSteps, ServerAtCannot, CanServe, CrewSteps, CrewCannot, HasMore, CanTry};
 
 use crate::action::{Action, next_action};
-use crate::effect::Effect;
-use crate::fault::StepFault;
+use crate::effect::{Effect, Refusal};
 use crate::rest::Rest;
 use crate::server::Server;
 use std::alloc::Global;
@@ -63,46 +62,43 @@ impl Crew {
     }
 
     /// Takes a step of a thread.
-    pub(crate) fn step(&mut self, alloc: Global, thread: u32) -> Result<Effect, StepFault>
+    pub(crate) fn step(&mut self, alloc: Global, thread: u32) -> Result<Effect, Refusal>
         ensures stepped { IfOk result (λ effect. CrewSteps self.old thread effect self.new) }
-        ensures not_enabled { IsErrOf result StepFault.NotEnabled → CrewCannot self.old thread }
-        ensures unchanged { IsErrOf result StepFault.NotEnabled → self.new ≡ self.old }
-        ensures no_memory { IsErrOf result StepFault.NoMemory → HasMore self.old thread }
-        ensures fault { IfErr result (λ fault. (fault ≡ StepFault.NotEnabled) ⊎ (fault ≡ StepFault.NoMemory)) }
+        ensures not_enabled { IsErrOf result Refusal.NotEnabled → CrewCannot self.old thread }
+        ensures unchanged { IsErrOf result Refusal.NotEnabled → self.new ≡ self.old }
+        ensures no_memory { IsErrOf result Refusal.NoMemory → HasMore self.old thread }
     {
         if thread >= FIRST_SERVER {
             return self.step_server(alloc, (thread - FIRST_SERVER) as usize);
         }
         if thread != MAIN {
-            return Err(StepFault::NotEnabled);
+            return Err(Refusal::NotEnabled);
         }
         self.step_main(alloc)
     }
 
     /// Takes a step of the thread at this place.
-    fn step_server(&mut self, alloc: Global, place: usize) -> Result<Effect, StepFault>
+    fn step_server(&mut self, alloc: Global, place: usize) -> Result<Effect, Refusal>
         ensures stepped { IfOk result (λ effect. ServerAtSteps self.old place effect self.new) }
-        ensures not_enabled { IsErrOf result StepFault.NotEnabled → ServerAtCannot self.old place }
-        ensures unchanged { IsErrOf result StepFault.NotEnabled → self.new ≡ self.old }
-        ensures no_memory { IsErrOf result StepFault.NoMemory → ServerHasMore self.old place }
-        ensures fault { IfErr result (λ fault. (fault ≡ StepFault.NotEnabled) ⊎ (fault ≡ StepFault.NoMemory)) }
+        ensures not_enabled { IsErrOf result Refusal.NotEnabled → ServerAtCannot self.old place }
+        ensures unchanged { IsErrOf result Refusal.NotEnabled → self.new ≡ self.old }
+        ensures no_memory { IsErrOf result Refusal.NoMemory → ServerHasMore self.old place }
     {
         match self.servers.get_mut(place) {
             Some(server) => server.step(alloc),
-            None => Err(StepFault::NotEnabled),
+            None => Err(Refusal::NotEnabled),
         }
     }
 
     /// Takes a step of main.
-    fn step_main(&mut self, alloc: Global) -> Result<Effect, StepFault>
+    fn step_main(&mut self, alloc: Global) -> Result<Effect, Refusal>
         ensures stepped { IfOk result (λ effect. MainSteps self.old effect self.new) }
-        ensures not_enabled { IsErrOf result StepFault.NotEnabled → MainCannot self.old }
-        ensures unchanged { IsErrOf result StepFault.NotEnabled → self.new ≡ self.old }
-        ensures no_memory { IsErrOf result StepFault.NoMemory → HasCommand self.old.main }
-        ensures fault { IfErr result (λ fault. (fault ≡ StepFault.NotEnabled) ⊎ (fault ≡ StepFault.NoMemory)) }
+        ensures not_enabled { IsErrOf result Refusal.NotEnabled → MainCannot self.old }
+        ensures unchanged { IsErrOf result Refusal.NotEnabled → self.new ≡ self.old }
+        ensures no_memory { IsErrOf result Refusal.NoMemory → HasCommand self.old.main }
     {
         let Ok((action, left)) = next_action(alloc, self.main.as_bytes()) else {
-            return Err(StepFault::NoMemory);
+            return Err(Refusal::NoMemory);
         };
         let effect = self.act(alloc, action)?;
         self.main.leave(left);
@@ -110,49 +106,47 @@ impl Crew {
     }
 
     /// Does an action of main.
-    fn act(&mut self, alloc: Global, action: Action) -> Result<Effect, StepFault>
+    fn act(&mut self, alloc: Global, action: Action) -> Result<Effect, Refusal>
         ensures acted { IfOk result (λ effect. Acts action self.old effect self.new) }
-        ensures not_enabled { IsErrOf result StepFault.NotEnabled → HasNoTarget action self.old }
-        ensures unchanged { IsErrOf result StepFault.NotEnabled → self.new ≡ self.old }
+        ensures not_enabled { IsErrOf result Refusal.NotEnabled → HasNoTarget action self.old }
+        ensures unchanged { IsErrOf result Refusal.NotEnabled → self.new ≡ self.old }
         ensures main { self.new.main ≡ self.old.main }
-        ensures no_memory { IsErrOf result StepFault.NoMemory → WantsMemory action }
-        ensures fault { IfErr result (λ fault. (fault ≡ StepFault.NotEnabled) ⊎ (fault ≡ StepFault.NoMemory)) }
+        ensures no_memory { IsErrOf result Refusal.NoMemory → WantsMemory action }
     {
         match action {
             Action::Nothing => Ok(Effect::End),
             Action::Write(piece) => Ok(Effect::Write(piece)),
             Action::Create => self.create(alloc),
             Action::Send(number, script) => self.send(number, script),
-            Action::Other => Err(StepFault::NotEnabled),
+            Action::Other => Err(Refusal::NotEnabled),
         }
     }
 
     /// Makes a thread.
-    fn create(&mut self, alloc: Global) -> Result<Effect, StepFault>
+    fn create(&mut self, alloc: Global) -> Result<Effect, Refusal>
         ensures made { IfOk result (λ effect. Creates self.old effect self.new) }
-        ensures fault { IfErr result (λ fault. fault ≡ StepFault.NoMemory) }
+        ensures fault { IfErr result (λ fault. fault ≡ Refusal.NoMemory) }
         ensures main { self.new.main ≡ self.old.main }
     {
         match self.servers.push(Server::new(alloc)) {
             Ok(()) => Ok(Effect::Nothing),
-            Err(_) => Err(StepFault::NoMemory),
+            Err(_) => Err(Refusal::NoMemory),
         }
     }
 
     /// Sends a script to the thread of this number.
-    fn send(&mut self, number: u32, script: Text) -> Result<Effect, StepFault>
+    fn send(&mut self, number: u32, script: Text) -> Result<Effect, Refusal>
         ensures sent { IfOk result (λ effect. Sends number script self.old effect self.new) }
-        ensures not_enabled { IsErrOf result StepFault.NotEnabled → HasNoServer number self.old }
-        ensures unchanged { IsErrOf result StepFault.NotEnabled → self.new ≡ self.old }
+        ensures not_enabled { IsErrOf result Refusal.NotEnabled → HasNoServer number self.old }
+        ensures unchanged { IsErrOf result Refusal.NotEnabled → self.new ≡ self.old }
         ensures main { self.new.main ≡ self.old.main }
-        ensures fault { IfErr result (λ fault. (fault ≡ StepFault.NotEnabled) ⊎ (fault ≡ StepFault.NoMemory)) }
     {
         if number < FIRST_SERVER {
-            return Err(StepFault::NotEnabled);
+            return Err(Refusal::NotEnabled);
         }
         match self.servers.get_mut((number - FIRST_SERVER) as usize) {
             Some(server) => server.send(script),
-            None => Err(StepFault::NotEnabled),
+            None => Err(Refusal::NotEnabled),
         }
     }
 }

@@ -10,3 +10,12 @@ pub(crate) enum Effect {
     /// It ends the run.
     End,
 }
+
+/// Why a step of a thread was not taken.
+#[derive(Clone, Copy, Debug)]
+pub(crate) enum Refusal {
+    /// There is no such thread, or it has nothing that it can do.
+    NotEnabled,
+    /// Memory was refused.
+    NoMemory,
+}

@@ -9,6 +9,9 @@ mod rest;
 mod server;
 mod setup;
 mod standing;
+mod system;
 
 pub use fault::{NewFault, StepFault};
 pub use setup::Setup;
+pub use system::System;
+pub use tt_plain::plain_form;

@@ -3,8 +3,7 @@ ghost use Rattle.tt_plain.specs.PlainScript.{Nothing, first};
 ghost use Rattle.tt_core.specs.Steps.{HasCommand, ServerSteps, IsBusy};
 
 use crate::action::{Action, next_action};
-use crate::effect::Effect;
-use crate::fault::StepFault;
+use crate::effect::{Effect, Refusal};
 use crate::rest::Rest;
 use std::alloc::Global;
 use std::collections::VecDeque;
@@ -39,13 +38,13 @@ impl Server {
     }
 
     /// Puts a script at the tail of the queue.
-    pub(crate) fn send(&mut self, script: Text) -> Result<Effect, StepFault>
+    pub(crate) fn send(&mut self, script: Text) -> Result<Effect, Refusal>
         ensures sent { IfOk result (λ effect. (effect ≡ Effect.Nothing) × (self.new ≡ record { left = self.old.left; queue = self.old.queue ++ script ∷ [] })) }
-        ensures fault { IfErr result (λ fault. fault ≡ StepFault.NoMemory) }
+        ensures fault { IfErr result (λ fault. fault ≡ Refusal.NoMemory) }
     {
         match self.queue.push_back(script) {
             Ok(()) => Ok(Effect::Nothing),
-            Err(_) => Err(StepFault::NoMemory),
+            Err(_) => Err(Refusal::NoMemory),
         }
     }
 
@@ -64,15 +63,14 @@ impl Server {
     }
 
     /// Takes a step: evaluates the next command, or takes the first event where none is left.
-    pub(crate) fn step(&mut self, alloc: Global) -> Result<Effect, StepFault>
+    pub(crate) fn step(&mut self, alloc: Global) -> Result<Effect, Refusal>
         ensures stepped { IfOk result (λ effect. ServerSteps self.old effect self.new) }
-        ensures not_enabled { IsErrOf result StepFault.NotEnabled → ¬ (IsBusy self.old) }
-        ensures unchanged { IsErrOf result StepFault.NotEnabled → self.new ≡ self.old }
-        ensures no_memory { IsErrOf result StepFault.NoMemory → HasCommand self.old.left }
-        ensures fault { IfErr result (λ fault. (fault ≡ StepFault.NotEnabled) ⊎ (fault ≡ StepFault.NoMemory)) }
+        ensures not_enabled { IsErrOf result Refusal.NotEnabled → ¬ (IsBusy self.old) }
+        ensures unchanged { IsErrOf result Refusal.NotEnabled → self.new ≡ self.old }
+        ensures no_memory { IsErrOf result Refusal.NoMemory → HasCommand self.old.left }
     {
         let Ok((action, left)) = next_action(alloc, self.rest.as_bytes()) else {
-            return Err(StepFault::NoMemory);
+            return Err(Refusal::NoMemory);
         };
         match action {
             Action::Nothing => self.take(),
@@ -80,15 +78,15 @@ impl Server {
                 self.rest.leave(left);
                 Ok(Effect::Write(piece))
             }
-            _ => Err(StepFault::NotEnabled),
+            _ => Err(Refusal::NotEnabled),
         }
     }
 
     /// Takes the first event.
-    fn take(&mut self) -> Result<Effect, StepFault>
+    fn take(&mut self) -> Result<Effect, Refusal>
         requires { first self.old.left ≡ Nothing }
         ensures taken { IfOk result (λ effect. ServerSteps self.old effect self.new) }
-        ensures none { IfErr result (λ fault. (fault ≡ StepFault.NotEnabled) × (self.old.queue ≡ [])) }
+        ensures none { IfErr result (λ fault. (fault ≡ Refusal.NotEnabled) × (self.old.queue ≡ [])) }
         ensures unchanged { OnErr result (self.new ≡ self.old) }
     {
         match self.queue.pop_front() {
@@ -96,7 +94,7 @@ impl Server {
                 self.rest = Rest::whole(script);
                 Ok(Effect::Nothing)
             }
-            None => Err(StepFault::NotEnabled),
+            None => Err(Refusal::NotEnabled),
         }
     }
 }
