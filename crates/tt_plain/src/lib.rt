@@ -4,6 +4,8 @@
 mod braces;
 mod command;
 mod form;
+mod grammar;
 
 pub use command::{Command, First, first_command};
 pub use form::{plain_form, thread_number};
+pub use grammar::plain_grammar;
