@@ -1,4 +1,3 @@
-pub mod Bracing
 pub mod CutLemmas
 pub mod FormLemmas
 pub mod FoundLemmas

@@ -4,7 +4,7 @@ ghost use Rattle.tt_plain.specs.PlainScript.{is_space, is_blank, is_word_byte, i
 ghost use Rattle.tt_plain.specs.PlainScript as plain;
 ghost use Rattle.tt_plain.specs.PlainCode.{command_of, meaning, IsRestOf};
 
-use crate::braces::matching_brace;
+use tt_text::matching_brace;
 
 /// A command of a plain script.
 #[derive(Clone, Copy)]

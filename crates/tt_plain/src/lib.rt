@@ -1,7 +1,6 @@
 //! Plain scripts: lists of commands with no substitution, and how they are read.
 #![tactic(auto)]
 
-mod braces;
 mod command;
 mod form;
 mod grammar;
