@@ -86,7 +86,7 @@ id-is id spaces script rest is_id is balanced e =
     rw (some_pass is_word_byte id (spaces ++ last) is_id.all is_id.some, keep is_word_byte id (spaces ++ last) is_id.all stops, skip is_word_byte id (spaces ++ last) is_id.all stops)
     (spaced-is (sent_first id) spaces last is refl ∙ sent-is id script rest balanced e)
 
-send-is : (spaces more last id script rest : List ℕ) → IsSpaces spaces → IsSpaces more → IsSpaces last → IsBare id → IsBalanced script → EndsCommand rest → command_first (codes "thread::send" ++ (spaces ++ (codes "-async" ++ (more ++ (id ++ (last ++ (123 ∷ (script ++ (125 ∷ rest)))))))))  ≡ Found (Send id script) rest
+send-is : (spaces more last id script rest : List ℕ) → IsSpaces spaces → IsSpaces more → IsSpaces last → IsBare id → IsBalanced script → EndsCommand rest → command_first (codes "thread::send" ++ (spaces ++ (codes "-async" ++ (more ++ (id ++ (last ++ (123 ∷ (script ++ (125 ∷ rest))))))))) ≡ Found (Send id script) rest
 send-is spaces more last id script rest one two three is_id balanced e =
     let tail : List ℕ = id ++ (last ++ (123 ∷ (script ++ (125 ∷ rest)))) in
     spaced-is option_first spaces (codes "-async" ++ (more ++ tail)) one refl

@@ -23,7 +23,10 @@ pub enum First<'a> {
     /// Nothing but spaces and newlines, or nothing at all.
     Nothing,
     /// A command, and the text after its last word.
-    Found { command: Command<'a>, rest: &'a [u8] },
+    Found {
+        command: Command<'a>,
+        rest: &'a [u8],
+    },
     /// What no plain script has.
     Other,
 }

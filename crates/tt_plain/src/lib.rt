@@ -8,3 +8,6 @@ mod grammar;
 pub use command::{Command, First, first_command};
 pub use form::{plain_form, thread_number};
 pub use grammar::plain_grammar;
+
+#[cfg(test)]
+mod tests;

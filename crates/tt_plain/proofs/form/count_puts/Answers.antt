@@ -11,5 +11,5 @@ returns-in-Nothing-clause-found c =
 pub loop-count-preserved : goal.loop-count-preserved
 loop-count-preserved c =
     let here : first c.loop-count.rest.now ≡ Found (Puts c.in-Found-Puts-default.command-0.now) c.in-Found-Puts-default.after.now =
-        sym c.in-Found-Puts-default.ensures.first ∙ ap (λ x. Found (command_of x) c.in-Found-Puts-default.after.now) c.in-Found-Puts-default.command-is in
+    sym c.in-Found-Puts-default.ensures.first ∙ ap (λ x. Found (command_of x) c.in-Found-Puts-default.after.now) c.in-Found-Puts-default.command-is in
     front_more c.args.text.now c.loop-count.count c.loop-count.rest.now _ _ c.loop-count.invariant here
