@@ -1,8 +1,7 @@
 -- Plain scripts, read command by command.
-use Rattle.std.proofs.Common.{◌≡◌, ◌≢◌, ◌≤◌, ◌+◌, ◌<◌, ◌^◌, ℕ, zero, suc, List, codes, ◌++◌, refl, sym, ap, ◌∙◌, subst, arith}
-use Rattle.std.specs.Fmt.{decimal}
-use Rattle.tt_plain.specs.PlainScript.{Command, Puts, Create, Send, First, Nothing, Found, Other, first, IsPutsList, IsScript, ends, puts, create, send, IsPlain, most_creates, most_commands}
-use Rattle.tt_plain.specs.Counting.{IsSendable, Takes, AreAfter}
+use Rattle.std.proofs.Common.{◌≡◌, ◌≤◌, ◌+◌, ℕ, suc, List, refl, sym, ◌∙◌, subst, arith}
+use Rattle.tt_plain.specs.PlainScript.{Command, Puts, Create, Send, Nothing, Found, Other, first, IsScript, ends, puts, create, send, IsPlain, most_creates, most_commands}
+use Rattle.tt_plain.specs.Counting.{Takes, AreAfter}
 use Rattle.tt_plain.proofs.PutsLemmas.{same_count}
 
 -- what a script has after its first command

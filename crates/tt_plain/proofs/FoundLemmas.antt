@@ -1,12 +1,12 @@
 -- From the first command of a text to the grammar.
-use Rattle.std.proofs.Common.{◌≡◌, ◌≢◌, ℕ, suc, List, [], ◌∷◌, ◌++◌, length, take, drop, Bool, true, false, not, subst, ◌&&◌, ◌==◌, nat_eq, codes, refl, sym, ap, ◌∙◌, arith, inl, inr, if◌then◌else◌, append_assoc, ◌⊎◌, Option, Some, None}
+use Rattle.std.proofs.Common.{◌≡◌, ℕ, suc, List, [], ◌∷◌, ◌++◌, length, take, drop, Bool, true, false, not, subst, ◌&&◌, ◌==◌, nat_eq, codes, refl, sym, ap, ◌∙◌, inl, inr, if◌then◌else◌, append_assoc, ◌⊎◌, Option, Some, None}
 use Rattle.std.specs.List.{prefix_len, starts_with}
 use Rattle.std.proofs.lemmas.List.{take-append-drop}
 use Rattle.std.proofs.lemmas.Bool.{eqb-true}
-use Rattle.std.proofs.Math.Seq.{drop-append_seam, take-append_seam}
+use Rattle.std.proofs.Math.Seq.{take-append_seam}
 use Rattle.tt_text.specs.Braces.{matching_brace, IsBalanced}
 use Rattle.tt_text.proofs.BraceLemmas.{matching_brace_law}
-use Rattle.tt_plain.specs.PlainScript.{Command, Puts, Create, Send, First, Nothing, Found, Other, first, is_space, is_blank, is_word_byte, is_braced_byte, ends_command, after_spaces, ended, spaced, braced, word_first, sent_until, sent_first, id_first, option_first, command_first}
+use Rattle.tt_plain.specs.PlainScript.{Command, Puts, Create, Send, First, Found, Other, first, is_space, is_blank, is_word_byte, is_braced_byte, ends_command, after_spaces, ended, spaced, braced, word_first, sent_until, sent_first, id_first, option_first, command_first}
 use Rattle.tt_plain.specs.PlainGrammar.{AreAll, IsSpaces, IsBare, NotDashed, IsWritten, bare, braces, IsCommand, puts, create, send, EndsCommand, BeginsWith}
 use Rattle.tt_plain.proofs.CutLemmas.{never, run-all, run-some, both, starts-is}
 

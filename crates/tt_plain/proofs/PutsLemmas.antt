@@ -1,6 +1,6 @@
 -- Lists of `puts` commands, read from the front.
-use Rattle.std.proofs.Common.{◌≡◌, ◌≢◌, ◌≤◌, ◌+◌, ℕ, zero, suc, List, refl, sym, ap, ◌∙◌, subst, arith}
-use Rattle.tt_plain.specs.PlainScript.{Command, Puts, Create, Send, First, Nothing, Found, Other, first, IsPutsList, puts_end, puts_more}
+use Rattle.std.proofs.Common.{◌≡◌, ◌≢◌, ◌≤◌, ◌+◌, ℕ, suc, List, refl, sym, ◌∙◌, subst, arith}
+use Rattle.tt_plain.specs.PlainScript.{Puts, First, Nothing, Found, first, IsPutsList, puts_end, puts_more}
 
 -- so many `puts` commands were read up to the rest
 pub record IsPutsFront (text : List ℕ) (count : ℕ) (rest : List ℕ) : Type 0 where

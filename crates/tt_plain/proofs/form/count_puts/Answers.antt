@@ -1,7 +1,7 @@
-use Rattle.std.proofs.Common.{◌≡◌, ◌≢◌, ◌≤◌, ℕ, List, sym, ap, ◌∙◌, arith}
-use Rattle.tt_plain.specs.PlainScript.{first, Found, Puts, Nothing}
+use Rattle.std.proofs.Common.{◌≡◌, sym, ap, ◌∙◌, arith}
+use Rattle.tt_plain.specs.PlainScript.{first, Found, Puts}
 use Rattle.tt_plain.specs.PlainCode.{command_of}
-use Rattle.tt_plain.proofs.PutsLemmas.{front_more, front_ends, front_wrong, front_long}
+use Rattle.tt_plain.proofs.PutsLemmas.{front_more, front_ends}
 use Rattle.tt_plain.proofs.form.count_puts.Goals as goal
 
 pub returns-in-Nothing-clause-found : goal.returns-in-Nothing-clause-found
