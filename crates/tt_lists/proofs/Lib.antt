@@ -1,4 +1,3 @@
-pub mod Bracing
 pub mod IndexLaw
 pub mod Joining
 pub mod Places

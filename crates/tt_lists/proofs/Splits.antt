@@ -5,9 +5,9 @@ use Rattle.std.proofs.lemmas.Bool.{cases_Bool, cases_eq, cases_lt, eq-eqb, ne_eq
 use Rattle.std.proofs.lemmas.List.{take-take, take_all}
 use Rattle.std.proofs.lemmas.List.Sums.{prefix_len-le-length}
 use Rattle.tt_text.specs.Braces.{matching_brace}
-use Rattle.tt_text.specs.Characters.{is_white_space}
+use Rattle.tt_text.specs.Characters.{is_white_space, without_white_front}
 use Rattle.tt_lists.specs.ListText.{is_no_white_space, is_quote}
-use Rattle.tt_lists.specs.Reading.{run, split_of, split_after, with_item, item_at, item_with, in_braces, in_quotes, in_bare, ended, is_separated, without_white_front}
+use Rattle.tt_lists.specs.Reading.{run, split_of, split_after, with_item, item_at, item_with, in_braces, in_quotes, in_bare, ended, is_separated}
 use Rattle.tt_lists.specs.declared.items.Split.{Split}
 use Rattle.tt_lists.specs.declared.items.Split.TheVariants.{Items, Bad}
 use Rattle.tt_lists.specs.declared.items.ListFault.{ListFault}

@@ -100,11 +100,6 @@ split_after zero (b ∷ text) =
       ]
     ]
 
--- a text from its first byte on that is no white space
-abbrev pub without_white_front : List ℕ → List ℕ
-without_white_front [] = []
-without_white_front (b ∷ text) = elim (is_white_space b) [ true ↦ without_white_front text | false ↦ b ∷ text ]
-
 -- what a text is split into
 abbrev pub split_of : List ℕ → Split
 split_of text = split_after 0 text

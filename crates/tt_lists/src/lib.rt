@@ -2,7 +2,6 @@
 //! indices are read.
 #![tactic(auto)]
 
-mod braces;
 mod indices;
 mod items;
 pub mod laws;

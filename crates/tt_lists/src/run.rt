@@ -1,10 +1,9 @@
 ghost use Rattle.std.specs.Prelude.{◌≡◌, ◌<◌, ◌≤◌, length, IfOk};
 ghost use Rattle.std.specs.List.{prefix_len};
-ghost use Rattle.tt_text.specs.Characters.{is_white_space};
 ghost use Rattle.tt_lists.specs.Reading.{is_plain, run, stops};
 
 use std::alloc::Global;
-use tt_text::{NoMemory, Text, backslash};
+use tt_text::{NoMemory, Text, backslash, is_white_space};
 
 /// What ends a run of bytes.
 #[derive(Clone, Copy)]
@@ -20,12 +19,6 @@ pub(crate) struct Run {
     pub(crate) value: Text,
     /// How many they are.
     pub(crate) takes: usize,
-}
-
-pub(crate) fn is_white_space(b: u8) -> bool
-    ensures { result ≡ is_white_space b }
-{
-    matches!(b, 9..=13 | 32)
 }
 
 fn stops(stop: Stop, b: u8) -> bool

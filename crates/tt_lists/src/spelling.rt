@@ -5,11 +5,9 @@ ghost use Rattle.tt_lists.specs.ListText.{IsListText};
 ghost use Rattle.tt_lists.specs.Reading.{split_of};
 ghost use Rattle.tt_lists.specs.Spelling.{is_comment_sign, joins_lines, is_substituted, wants_braces, wants_braces_first, fits_braces, style_of, escape, escape_first, escape_bare, escaped, styled, spelling, later_item, list_of};
 
-use crate::braces::is_balanced;
 use crate::items::Split;
-use crate::run::is_white_space;
 use std::alloc::Global;
-use tt_text::{NoMemory, Text};
+use tt_text::{NoMemory, Text, is_balanced, is_white_space};
 
 /// Where an item stands in its list.
 #[derive(Clone, Copy)]

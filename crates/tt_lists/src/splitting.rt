@@ -1,13 +1,13 @@
 ghost use Rattle.std.specs.Prelude.{◌≡◌, ◌<◌, ◌≤◌, length, IfOk, drop, take, take_while};
 ghost use Rattle.tt_text.specs.Braces.{matching_brace};
+ghost use Rattle.tt_text.specs.Characters.{without_white_front};
 ghost use Rattle.tt_lists.specs.ListText.{is_no_white_space, is_quote};
-ghost use Rattle.tt_lists.specs.Reading.{IsSplit, split_of, without_white_front, item_at, in_braces, in_quotes, is_separated, run};
+ghost use Rattle.tt_lists.specs.Reading.{IsSplit, split_of, item_at, in_braces, in_quotes, is_separated, run};
 
-use crate::braces::matching_brace;
 use crate::items::{ListFault, Split};
-use crate::run::{Stop, is_white_space, read_run};
+use crate::run::{Stop, read_run};
 use std::alloc::Global;
-use tt_text::{NoMemory, Text, Texts};
+use tt_text::{NoMemory, Text, Texts, is_white_space, matching_brace, without_white_front};
 
 /// One item and how many bytes write it, or what is wrong there.
 #[derive(Drop)]
@@ -47,18 +47,6 @@ fn after_item(text: &[u8], takes: usize) -> &[u8]
     ensures { result.now ≡ without_white_front (drop takes text.now) }
 {
     without_white_front(&text[takes..])
-}
-
-fn without_white_front(mut text: &[u8]) -> &[u8]
-    ensures { result.now ≡ without_white_front text.now }
-{
-    while let [first, rest @ ..] = text {
-        if !is_white_space(*first) {
-            break;
-        }
-        text = rest;
-    }
-    text
 }
 
 #[tactic(auto, unfolding(crate::specs::Reading::item_at))]

@@ -4,7 +4,7 @@ use Rattle.std.specs.Char.{digit_value, is_digit}
 use Rattle.std.specs.Fmt.{signed_decimal}
 use Rattle.std.specs.Int.{w64}
 use Rattle.std.specs.List.{list_all}
-use Rattle.tt_text.specs.Characters.{is_white_space}
+use Rattle.tt_text.specs.Characters.{is_white_space, without_white_front}
 use Rattle.tt_number.specs.Operators.{fits}
 use Rattle.tt_number.specs.declared.numeral.NumberFault.{NumberFault}
 use Rattle.tt_number.specs.declared.numeral.NumberFault.TheVariants.{NotWhole, TooLarge, Float}
@@ -105,10 +105,6 @@ IsReading text (Err Float) = SpellsFloat text
 IsReading text (Err NotWhole) = ((number : ℤ) → ¬ Spells text number) × (¬ SpellsFloat text)
 
 -- ---- the function
-
-abbrev pub without_white_front : List ℕ → List ℕ
-without_white_front [] = []
-without_white_front (b ∷ text) = if is_white_space b then without_white_front text else b ∷ text
 
 abbrev pub without_white_back : List ℕ → List ℕ
 without_white_back [] = []

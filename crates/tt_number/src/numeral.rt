@@ -1,7 +1,8 @@
 ghost use Rattle.std.specs.Prelude.{◌≡◌, ◌≤◌, ◌<◌, ◌^◌, ◌-◌, min, length, position, IfSome};
 ghost use Rattle.std.specs.Option.{option_map};
-ghost use Rattle.tt_text.specs.Characters.{is_white_space};
-ghost use Rattle.tt_number.specs.Numerals.{trimmed, without_white_front, without_white_back, whole_of, is_minus_first, unsigned_part, number_of, base_and_digits, is_float, is_scaled, is_pointed, is_exponent_mark, is_point, is_numeral, all_digits, cut};
+ghost use Rattle.tt_number.specs.Numerals.{trimmed, without_white_back, whole_of, is_minus_first, unsigned_part, number_of, base_and_digits, is_float, is_scaled, is_pointed, is_exponent_mark, is_point, is_numeral, all_digits, cut};
+
+use tt_text::{is_white_space, without_white_front};
 
 /// Why a text is read as no whole number.
 #[derive(Clone, Copy, Debug, PartialEq, Eq)]
@@ -34,24 +35,6 @@ pub fn read_whole(text: &[u8]) -> Result<i64, NumberFault>
         None if is_float(unsigned) => Err(NumberFault::Float),
         None => Err(NumberFault::NotWhole),
     }
-}
-
-fn is_white_space(b: u8) -> bool
-    ensures { result ≡ is_white_space b }
-{
-    matches!(b, 9..=13 | 32)
-}
-
-fn without_white_front(mut text: &[u8]) -> &[u8]
-    ensures { result.now ≡ without_white_front text.now }
-{
-    while let [first, rest @ ..] = text {
-        if !is_white_space(*first) {
-            break;
-        }
-        text = rest;
-    }
-    text
 }
 
 #[tactic(auto, using(crate::proofs::Trims::white_end, crate::proofs::Trims::kept_end))]

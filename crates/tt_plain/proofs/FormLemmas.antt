@@ -1,8 +1,7 @@
 -- Plain scripts, read command by command.
-use Rattle.std.proofs.Common.{◌≡◌, ◌≢◌, ◌≤◌, ◌+◌, ◌<◌, ◌^◌, ℕ, zero, suc, List, codes, ◌++◌, refl, sym, ap, ◌∙◌, subst, arith}
-use Rattle.std.specs.Fmt.{decimal}
-use Rattle.tt_plain.specs.PlainScript.{Command, Puts, Create, Send, First, Nothing, Found, Other, first, IsPutsList, IsScript, ends, puts, create, send, IsPlain, most_creates, most_commands}
-use Rattle.tt_plain.specs.Counting.{IsSendable, Takes, AreAfter}
+use Rattle.std.proofs.Common.{◌≡◌, ◌≤◌, ◌+◌, ℕ, suc, List, refl, sym, ◌∙◌, subst, arith}
+use Rattle.tt_plain.specs.PlainScript.{Command, Puts, Create, Send, Nothing, Found, Other, first, IsScript, ends, puts, create, send, IsPlain, most_creates, most_commands}
+use Rattle.tt_plain.specs.Counting.{Takes, AreAfter}
 use Rattle.tt_plain.proofs.PutsLemmas.{same_count}
 
 -- what a script has after its first command
@@ -20,37 +19,49 @@ moved : (made made' creates commands : ℕ) (text : List ℕ) → made ≡ made'
 moved made made' creates commands text e is = subst (λ (m : ℕ). IsScript m creates commands text) e is
 
 -- a script by its first command
-left_of : (made creates commands : ℕ) (text : List ℕ) (command : Command) (rest : List ℕ) → IsScript made creates commands text → first text ≡ Found command rest → IsLeft made command rest creates commands
+pub left_of : (made creates commands : ℕ) (text : List ℕ) (command : Command) (rest : List ℕ) → IsScript made creates commands text → first text ≡ Found command rest → IsLeft made command rest creates commands
 left_of made creates commands text command rest (ends e) f = absurd (let no : Nothing ≡ Found command rest = sym e ∙ f in cc)
 left_of made creates commands text command rest (puts {creates = more} {n = n} {word = word} {rest = after} e is) f =
     let same : Found (Puts word) after ≡ Found command rest = sym e ∙ f in
     let command_is : Puts word ≡ command = cc in
     let rest_is : after ≡ rest = cc in
     subst (λ (c : Command). IsLeft made c rest creates commands) command_is (subst (λ (r : List ℕ). IsLeft made (Puts word) r creates commands) rest_is (record {
-      one_creates = 0; one_commands = 1; more_creates = more; more_commands = n;
+      one_creates = 0;
+      one_commands = 1;
+      more_creates = more;
+      more_commands = n;
       takes = (refl, refl);
       is = moved made (made + 0) more n after (omega arith) is;
-      sum_creates = omega arith; sum_commands = omega arith;
+      sum_creates = omega arith;
+      sum_commands = omega arith;
     }))
 left_of made creates commands text command rest (create {creates = more} {n = n} {rest = after} e is) f =
     let same : Found Create after ≡ Found command rest = sym e ∙ f in
     let command_is : Create ≡ command = cc in
     let rest_is : after ≡ rest = cc in
     subst (λ (c : Command). IsLeft made c rest creates commands) command_is (subst (λ (r : List ℕ). IsLeft made Create r creates commands) rest_is (record {
-      one_creates = 1; one_commands = 1; more_creates = more; more_commands = n;
+      one_creates = 1;
+      one_commands = 1;
+      more_creates = more;
+      more_commands = n;
       takes = (refl, refl);
       is = moved (suc made) (made + 1) more n after (omega arith) is;
-      sum_creates = omega arith; sum_commands = omega arith;
+      sum_creates = omega arith;
+      sum_commands = omega arith;
     }))
 left_of made creates commands text command rest (send {creates = more} {sent = sent} {n = n} {whole = whole} {k = k} {id = id} {script = script} {rest = after} e named low high listed is sum) f =
     let same : Found (Send id script) after ≡ Found command rest = sym e ∙ f in
     let command_is : Send id script ≡ command = cc in
     let rest_is : after ≡ rest = cc in
     subst (λ (c : Command). IsLeft made c rest creates commands) command_is (subst (λ (r : List ℕ). IsLeft made (Send id script) r creates commands) rest_is (record {
-      one_creates = 0; one_commands = suc sent; more_creates = more; more_commands = n;
+      one_creates = 0;
+      one_commands = suc sent;
+      more_creates = more;
+      more_commands = n;
       takes = (refl, record { number = k; named = named; low = low; high = high }, (sent, listed, refl));
       is = moved made (made + 0) more n after (omega arith) is;
-      sum_creates = omega arith; sum_commands = omega arith;
+      sum_creates = omega arith;
+      sum_commands = omega arith;
     }))
 
 -- a command before a script
@@ -93,25 +104,28 @@ pub record IsReadTo (text : List ℕ) (made had : ℕ) (rest : List ℕ) : Type 
 pub read_none : (text : List ℕ) → IsReadTo text 0 0 text
 read_none text = record {
   joins = λ creates commands all_creates all is e f.
-    let one : creates ≡ all_creates = omega arith in
-    let two : commands ≡ all = omega arith in
-    subst (λ (m : ℕ). IsScript 0 all_creates m text) two (subst (λ (m : ℕ). IsScript 0 m commands text) one is);
+      let one : creates ≡ all_creates = omega arith in
+      let two : commands ≡ all = omega arith in
+      subst (λ (m : ℕ). IsScript 0 all_creates m text) two (subst (λ (m : ℕ). IsScript 0 m commands text) one is);
   parts = λ all_creates all is. (all_creates, all, is, omega arith, omega arith);
 }
 
 pub read_more : (text : List ℕ) (made had : ℕ) (rest : List ℕ) (command : Command) (after : List ℕ) (creates commands : ℕ) → IsReadTo text made had rest → first rest ≡ Found command after → AreAfter made had command creates commands → IsReadTo text creates commands after
 read_more text made had rest command after creates commands read f more = record {
   joins = λ c n all_creates all is e g.
-    read.joins (more.more_creates + c) (more.more_commands + n) all_creates all
-    (joined made more.more_creates more.more_commands c n command rest after f more.takes (moved creates (made + more.more_creates) c n after more.sum_creates is) _ _ refl refl)
-    (omega (arith, more.sum_creates)) (omega (arith, more.sum_commands));
+      read.joins (more.more_creates + c) (more.more_commands + n) all_creates all
+      (joined made more.more_creates more.more_commands c n command rest after f more.takes (moved creates (made + more.more_creates) c n after more.sum_creates is) _ _ refl refl)
+      (omega (arith, more.sum_creates)) (omega (arith, more.sum_commands));
   parts = λ all_creates all is.
-    let before = read.parts all_creates all is in
-    let left = left_of made before.0 before.1 rest command after before.2 f in
-    let same = same_takes made command left.one_creates left.one_commands more.more_creates more.more_commands left.takes more.takes in
-    (left.more_creates, left.more_commands,
-      moved (made + left.one_creates) creates left.more_creates left.more_commands after (omega (arith, same.0, more.sum_creates)) left.is,
-      omega (arith, before.3, left.sum_creates, same.0, more.sum_creates), omega (arith, before.4, left.sum_commands, same.1, more.sum_commands));
+      let before = read.parts all_creates all is in
+      let left = left_of made before.0 before.1 rest command after before.2 f in
+      let same = same_takes made command left.one_creates left.one_commands more.more_creates more.more_commands left.takes more.takes in (
+        left.more_creates,
+        left.more_commands,
+        moved (made + left.one_creates) creates left.more_creates left.more_commands after (omega (arith, same.0, more.sum_creates)) left.is,
+        omega (arith, before.3, left.sum_creates, same.0, more.sum_creates),
+        omega (arith, before.4, left.sum_commands, same.1, more.sum_commands),
+      );
 }
 
 pub plain_here : (text : List ℕ) (made had : ℕ) (rest : List ℕ) → IsReadTo text made had rest → first rest ≡ Nothing → made ≤ 999 → had ≤ 5000 → IsPlain text
@@ -145,4 +159,9 @@ not_after text made had rest command after read f refused plain =
     let before = read.parts plain.creates plain.commands plain.is in
     let left = left_of made before.0 before.1 rest command after before.2 f in
     refused (made + left.one_creates) (had + left.one_commands) (omega (arith, before.3, left.sum_creates)) (omega (arith, before.4, left.sum_commands)) (record {
-      more_creates = left.one_creates; more_commands = left.one_commands; takes = left.takes; sum_creates = refl; sum_commands = refl })
+      more_creates = left.one_creates;
+      more_commands = left.one_commands;
+      takes = left.takes;
+      sum_creates = refl;
+      sum_commands = refl;
+    })

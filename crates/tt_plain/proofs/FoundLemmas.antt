@@ -1,12 +1,12 @@
 -- From the first command of a text to the grammar.
-use Rattle.std.proofs.Common.{◌≡◌, ◌≢◌, ℕ, suc, List, [], ◌∷◌, ◌++◌, length, take, drop, Bool, true, false, not, subst, ◌&&◌, ◌==◌, nat_eq, codes, refl, sym, ap, ◌∙◌, arith, inl, inr, if◌then◌else◌, append_assoc, ◌⊎◌, Option, Some, None}
+use Rattle.std.proofs.Common.{◌≡◌, ℕ, suc, List, [], ◌∷◌, ◌++◌, length, take, drop, Bool, true, false, not, subst, ◌&&◌, ◌==◌, nat_eq, codes, refl, sym, ap, ◌∙◌, inl, inr, if◌then◌else◌, append_assoc, ◌⊎◌, Option, Some, None}
 use Rattle.std.specs.List.{prefix_len, starts_with}
 use Rattle.std.proofs.lemmas.List.{take-append-drop}
 use Rattle.std.proofs.lemmas.Bool.{eqb-true}
-use Rattle.std.proofs.Math.Seq.{drop-append_seam, take-append_seam}
+use Rattle.std.proofs.Math.Seq.{take-append_seam}
 use Rattle.tt_text.specs.Braces.{matching_brace, IsBalanced}
 use Rattle.tt_text.proofs.BraceLemmas.{matching_brace_law}
-use Rattle.tt_plain.specs.PlainScript.{Command, Puts, Create, Send, First, Nothing, Found, Other, first, is_space, is_blank, is_word_byte, is_braced_byte, ends_command, after_spaces, ended, spaced, braced, word_first, sent_until, sent_first, id_first, option_first, command_first}
+use Rattle.tt_plain.specs.PlainScript.{Command, Puts, Create, Send, First, Found, Other, first, is_space, is_blank, is_word_byte, is_braced_byte, ends_command, after_spaces, ended, spaced, braced, word_first, sent_until, sent_first, id_first, option_first, command_first}
 use Rattle.tt_plain.specs.PlainGrammar.{AreAll, IsSpaces, IsBare, NotDashed, IsWritten, bare, braces, IsCommand, puts, create, send, EndsCommand, BeginsWith}
 use Rattle.tt_plain.proofs.CutLemmas.{never, run-all, run-some, both, starts-is}
 
@@ -125,6 +125,17 @@ pub record SentAt (id text : List ℕ) (c : Command) (r : List ℕ) : Type 0 whe
   pub balanced : IsBalanced script
   pub ends : EndsCommand r
 
+taken : (text inner rest : List ℕ) (count : ℕ) → length inner ≡ count → text ≡ inner ++ (125 ∷ rest) → take count text ≡ inner
+taken text inner rest count long cut = rw (← long, cut) (take-append_seam inner (125 ∷ rest))
+
+one_more : (inner rest : List ℕ) → drop (suc (length inner)) (inner ++ (125 ∷ rest)) ≡ rest
+one_more [] rest = refl
+one_more (byte ∷ inner) rest = one_more inner rest
+
+-- the text after the brace that closes
+pub rest_after : (text inner rest : List ℕ) (count : ℕ) → length inner ≡ count → text ≡ inner ++ (125 ∷ rest) → drop (suc count) text ≡ rest
+rest_after text inner rest count long cut = rw (← long, cut) (one_more inner rest)
+
 until-from : (id text : List ℕ) (found : Option ℕ) (c : Command) (r : List ℕ) → matching_brace text ≡ found → sent_until id text found ≡ Found c r → SentAt id (123 ∷ text) c r
 until-from id text None c r is e = absurd (cc e)
 until-from id text (Some count) c r is e =
@@ -140,15 +151,6 @@ until-from id text (Some count) c r is e =
       balanced = closed.balanced;
       ends = at.ends;
     }
-  where
-    taken : (text inner rest : List ℕ) (count : ℕ) → length inner ≡ count → text ≡ inner ++ (125 ∷ rest) → take count text ≡ inner
-    taken text inner rest count long cut = rw (← long, cut) (take-append_seam inner (125 ∷ rest))
-    rest_after : (text inner rest : List ℕ) (count : ℕ) → length inner ≡ count → text ≡ inner ++ (125 ∷ rest) → drop (suc count) text ≡ rest
-    rest_after text inner rest count long cut = rw (← long, cut) (one_more inner rest)
-      where
-        one_more : (inner rest : List ℕ) → drop (suc (length inner)) (inner ++ (125 ∷ rest)) ≡ rest
-        one_more [] rest = refl
-        one_more (byte ∷ inner) rest = one_more inner rest
 
 sent-from : (id text : List ℕ) (c : Command) (r : List ℕ) → sent_first id text ≡ Found c r → SentAt id text c r
 sent-from id [] c r e = absurd (cc e)
@@ -216,7 +218,7 @@ id-from text c r e =
     }
 
 -- a send's words joined, one after the other
-join-send : (spaces more id last script r : List ℕ) → codes "thread::send" ++ (spaces ++ (codes "-async" ++ (more ++ (id ++ (last ++ (123 ∷ (script ++ (125 ∷ r)))))))) ≡ (codes "thread::send" ++ (spaces ++ (codes "-async" ++ (more ++ (id ++ (last ++ (123 ∷ (script ++ 125 ∷ [])))))))) ++ r
+pub join-send : (spaces more id last script r : List ℕ) → codes "thread::send" ++ (spaces ++ (codes "-async" ++ (more ++ (id ++ (last ++ (123 ∷ (script ++ (125 ∷ r)))))))) ≡ (codes "thread::send" ++ (spaces ++ (codes "-async" ++ (more ++ (id ++ (last ++ (123 ∷ (script ++ 125 ∷ [])))))))) ++ r
 join-send spaces more id last script r = simp append_assoc
 
 send-cut : (text spaces after more other id last script r : List ℕ) → text ≡ codes "thread::send" ++ (spaces ++ after) → after ≡ codes "-async" ++ (more ++ other) → other ≡ id ++ (last ++ (123 ∷ (script ++ (125 ∷ r)))) → text ≡ (codes "thread::send" ++ (spaces ++ (codes "-async" ++ (more ++ (id ++ (last ++ (123 ∷ (script ++ 125 ∷ [])))))))) ++ r

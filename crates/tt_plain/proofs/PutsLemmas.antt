@@ -1,6 +1,6 @@
 -- Lists of `puts` commands, read from the front.
-use Rattle.std.proofs.Common.{◌≡◌, ◌≢◌, ◌≤◌, ◌+◌, ℕ, zero, suc, List, refl, sym, ap, ◌∙◌, subst, arith}
-use Rattle.tt_plain.specs.PlainScript.{Command, Puts, Create, Send, First, Nothing, Found, Other, first, IsPutsList, puts_end, puts_more}
+use Rattle.std.proofs.Common.{◌≡◌, ◌≢◌, ◌≤◌, ◌+◌, ℕ, suc, List, refl, sym, ◌∙◌, subst, arith}
+use Rattle.tt_plain.specs.PlainScript.{Puts, First, Nothing, Found, first, IsPutsList, puts_end, puts_more}
 
 -- so many `puts` commands were read up to the rest
 pub record IsPutsFront (text : List ℕ) (count : ℕ) (rest : List ℕ) : Type 0 where
@@ -25,9 +25,9 @@ pub front_more : (text : List ℕ) (count : ℕ) (rest word after : List ℕ) �
 front_more text count rest word after front f = record {
   joins = λ n all h e. front.joins (suc n) all (puts_more f h) (omega arith);
   parts = λ all h.
-    let before = front.parts all h in
-    let more = puts_first before.0 rest word after before.2 f in
-    (more.0, omega (arith, before.1, more.1), more.2);
+      let before = front.parts all h in
+      let more = puts_first before.0 rest word after before.2 f in
+      (more.0, omega (arith, before.1, more.1), more.2);
 }
 
 pub front_ends : (text : List ℕ) (count : ℕ) (rest : List ℕ) → IsPutsFront text count rest → first rest ≡ Nothing → IsPutsList count text

@@ -1,5 +1,5 @@
 -- The text after a command is the end of the text.
-use Rattle.std.proofs.Common.{◌≡◌, ◌-◌, ℕ, List, ◌++◌, length, drop, sym, ap, ◌∙◌, arith, length-append, append_assoc}
+use Rattle.std.proofs.Common.{◌≡◌, ◌-◌, ℕ, List, ◌++◌, length, sym, ap, ◌∙◌, arith, length-append, append_assoc}
 use Rattle.std.proofs.Math.Seq.{drop-append_seam}
 use Rattle.tt_plain.specs.PlainScript.{Command, first, Found, IsSuffix}
 use Rattle.tt_plain.specs.PlainCode.{meaning, IsRestOf}

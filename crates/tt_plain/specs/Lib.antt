@@ -2,4 +2,3 @@ pub mod Counting
 pub mod PlainCode
 pub mod PlainGrammar
 pub mod PlainScript
-pub mod Scanning

@@ -1,5 +1,5 @@
 -- What the code's answers stand for.
-use Rattle.std.specs.Prelude.{◌≡◌, ℕ, suc, ◌+◌, ◌≤◌, List}
+use Rattle.std.specs.Prelude.{ℕ, List}
 use Rattle.tt_plain.specs.PlainScript as plain
 use Rattle.tt_plain.specs.PlainScript.{IsSuffix, IsPutsList, thread_id}
 use Rattle.tt_plain.specs.declared.command.Command.{Command}

@@ -4,7 +4,7 @@ ghost use Rattle.tt_plain.specs.PlainScript.{is_space, is_blank, is_word_byte, i
 ghost use Rattle.tt_plain.specs.PlainScript as plain;
 ghost use Rattle.tt_plain.specs.PlainCode.{command_of, meaning, IsRestOf};
 
-use crate::braces::matching_brace;
+use tt_text::matching_brace;
 
 /// A command of a plain script.
 #[derive(Clone, Copy)]
@@ -23,7 +23,10 @@ pub enum First<'a> {
     /// Nothing but spaces and newlines, or nothing at all.
     Nothing,
     /// A command, and the text after its last word.
-    Found { command: Command<'a>, rest: &'a [u8] },
+    Found {
+        command: Command<'a>,
+        rest: &'a [u8],
+    },
     /// What no plain script has.
     Other,
 }

@@ -35,7 +35,10 @@ pub fn plain_form(text: &[u8]) -> bool
         match first_command(rest) {
             First::Nothing => return true,
             First::Other => return false,
-            First::Found { command, rest: after } => {
+            First::Found {
+                command,
+                rest: after,
+            } => {
                 let Some(more) = counts.with(command) else {
                     return false;
                 };
@@ -68,16 +71,25 @@ impl Counts {
         }
         let commands = self.commands + 1;
         match command {
-            Command::Puts(_) => Some(Counts { creates: self.creates, commands }),
+            Command::Puts(_) => Some(Counts {
+                creates: self.creates,
+                commands,
+            }),
             Command::Create => {
                 if self.creates == MOST_CREATES {
                     return None;
                 }
-                Some(Counts { creates: self.creates + 1, commands })
+                Some(Counts {
+                    creates: self.creates + 1,
+                    commands,
+                })
             }
             Command::Send { id, script } => {
                 let sent = count_sent(self.creates, id, script, MOST_COMMANDS - commands)?;
-                Some(Counts { creates: self.creates, commands: commands + sent })
+                Some(Counts {
+                    creates: self.creates,
+                    commands: commands + sent,
+                })
             }
         }
     }
@@ -123,7 +135,10 @@ fn count_puts(text: &[u8], most: u32) -> Option<u32>
     for count in 0..=most {
         match first_command(rest) {
             First::Nothing => return Some(count),
-            First::Found { command: Command::Puts(_), rest: after } => rest = after,
+            First::Found {
+                command: Command::Puts(_),
+                rest: after,
+            } => rest = after,
             First::Found { .. } | First::Other => return None,
         }
     }

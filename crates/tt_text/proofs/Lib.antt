@@ -1,5 +1,6 @@
 pub mod BackslashLemmas
 pub mod BraceLemmas
+pub mod BraceSearch
 pub mod CharacterLemmas
 mod DefinitionExamples
 pub mod GlobLemmas

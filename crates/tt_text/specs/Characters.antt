@@ -9,6 +9,11 @@ use Rattle.std.specs.Char.{is_digit}
 abbrev pub is_white_space : ℕ → Bool
 is_white_space b = is_in_range 9 13 b || b == 32
 
+-- a text from its first byte on that is no white space (Tcl(n))
+abbrev pub without_white_front : List ℕ → List ℕ
+without_white_front [] = []
+without_white_front (b ∷ text) = elim (is_white_space b) [ true ↦ without_white_front text | false ↦ b ∷ text ]
+
 -- the end of a line (Tcl(n), rule 1)
 abbrev pub is_newline : ℕ → Bool
 is_newline b = b == 10

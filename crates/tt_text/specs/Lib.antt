@@ -1,5 +1,6 @@
 pub mod Backslash
 pub mod Braces
+pub mod BraceScan
 pub mod Characters
 pub mod Glob
 pub mod GlobScan

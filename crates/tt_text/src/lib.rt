@@ -2,6 +2,7 @@
 #![tactic(auto)]
 
 mod backslashes;
+mod braces;
 mod characters;
 mod glob_set;
 pub mod laws;
@@ -10,14 +11,17 @@ mod patterns;
 mod sequence;
 mod text;
 mod texts;
+mod white_space;
 
 pub use backslashes::backslash;
+pub use braces::{is_balanced, matching_brace};
 pub use characters::char_count;
 pub use no_memory::NoMemory;
 pub use patterns::glob;
 pub use sequence::Backslash;
 pub use text::Text;
 pub use texts::Texts;
+pub use white_space::{is_white_space, without_white_front};
 
 #[cfg(test)]
 mod tests;

@@ -1,4 +1,4 @@
-use crate::Text;
+use crate::{Text, is_balanced, is_white_space, matching_brace, without_white_front};
 use std::test::Fail;
 
 #[test]
@@ -26,4 +26,21 @@ fn texts_are_kept_in_order(rt: HostRuntime) -> Result<(), Fail> {
     assert_eq!(rt; texts.as_slice().len(), 2);
     assert_eq!(rt; texts.as_slice()[1].as_bytes(), b"b".as_slice());
     Ok(())
+}
+
+#[test]
+fn matching_braces_are_found(rt: HostRuntime) {
+    assert_eq!(rt; matching_brace(b"a{b}c}d"), Some(5));
+    assert_eq!(rt; matching_brace(b"a\\}b}"), Some(4));
+    assert_eq!(rt; matching_brace(b"a{}"), None);
+    assert!(rt; is_balanced(b"{a}\\{b"));
+    assert!(rt; !is_balanced(b"}{"));
+    assert!(rt; !is_balanced(b"a\\"));
+}
+
+#[test]
+fn white_space_in_front_is_left_out(rt: HostRuntime) {
+    assert!(rt; is_white_space(b'\x0b'));
+    assert!(rt; !is_white_space(b'\x1c'));
+    assert_eq!(rt; without_white_front(b" \t\r\na b "), b"a b ".as_slice());
 }

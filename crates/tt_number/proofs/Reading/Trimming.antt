@@ -4,8 +4,8 @@ use Rattle.std.specs.Char.{is_digit}
 use Rattle.std.specs.List.{list_all}
 use Rattle.std.proofs.lemmas.Bool.{and_parts, and_from, cases_Bool}
 use Rattle.std.proofs.lemmas.Bool.Decides.{nat_tests}
-use Rattle.tt_text.specs.Characters.{is_white_space}
-use Rattle.tt_number.specs.Numerals.{trimmed, without_white_front, without_white_back, all_digits}
+use Rattle.tt_text.specs.Characters.{is_white_space, without_white_front}
+use Rattle.tt_number.specs.Numerals.{trimmed, without_white_back, all_digits}
 
 pub all_parts : (p : ℕ → Bool) (x : ℕ) (xs : List ℕ) → list_all p (x ∷ xs) ≡ true → (p x ≡ true) × (list_all p xs ≡ true)
 all_parts p x xs h = and_parts (p x) (list_all p xs) h
@@ -25,7 +25,7 @@ nonempty x xs e = cc
 
 front_skipped : (before rest : List ℕ) → list_all is_white_space before ≡ true → without_white_front (before ++ rest) ≡ without_white_front rest
 front_skipped [] rest h = refl
-front_skipped (b ∷ before) rest h = let p = all_parts is_white_space b before h in rw p.0 (front_skipped before rest p.1)
+front_skipped (b ∷ before) rest h = let p = all_parts is_white_space b before h in rw (p.0, without_white_front) (front_skipped before rest p.1)
 
 back_gone : (after : List ℕ) → list_all is_white_space after ≡ true → without_white_back after ≡ []
 back_gone [] h = refl
@@ -43,7 +43,7 @@ pub trimmed_plain : (before : List ℕ) (b : ℕ) (mid after : List ℕ) → lis
 unfolding trimmed
 trimmed_plain before b mid after front plain back =
     let p = all_parts not_white b mid plain in
-    let front : without_white_front (before ++ ((b ∷ mid) ++ after)) ≡ (b ∷ mid) ++ after = front_skipped before ((b ∷ mid) ++ after) front ∙ rw (turned (is_white_space b) p.0) in
+    let front : without_white_front (before ++ ((b ∷ mid) ++ after)) ≡ (b ∷ mid) ++ after = front_skipped before ((b ∷ mid) ++ after) front ∙ rw (turned (is_white_space b) p.0, without_white_front) in
     ap without_white_back front ∙ back_kept (b ∷ mid) after plain back
 
 -- a text is what is left of it with white space on that side
@@ -51,8 +51,8 @@ front_left : (text : List ℕ) → (before : List ℕ) × (text ≡ before ++ wi
 front_left [] = ([], refl, refl)
 front_left (b ∷ text) =
     elim (cases_Bool (is_white_space b)) [
-      | inl h ↦ (let r = front_left text in rw h (b ∷ r.0, ap (λ t. b ∷ t) r.1, all_from is_white_space b r.0 h r.2))
-      | inr h ↦ rw h ([], refl, refl)
+      | inl h ↦ (let r = front_left text in rw (h, without_white_front) (b ∷ r.0, ap (λ t. b ∷ t) r.1, all_from is_white_space b r.0 h r.2))
+      | inr h ↦ rw (h, without_white_front) ([], refl, refl)
     ]
 
 back_left : (text : List ℕ) → (after : List ℕ) × (text ≡ without_white_back text ++ after) × (list_all is_white_space after ≡ true)

@@ -1,6 +1,7 @@
 use Rattle.std.proofs.Common.{◌≡◌, ◌∙◌, ◌<◌, length, drop, arith, sym, ap}
 use Rattle.std.proofs.lemmas.Bool.Decides.{nat_tests}
-use Rattle.tt_lists.specs.Reading.{split_of, without_white_front}
+use Rattle.tt_text.specs.Characters.{without_white_front}
+use Rattle.tt_lists.specs.Reading.{split_of}
 use Rattle.tt_lists.proofs.Splits.{front_again, front_less, none_before, split-front, reads_item, reads_fault, reads_end}
 use Rattle.tt_lists.specs.declared.items.Split.TheVariants.{Items, Bad}
 use Rattle.tt_lists.proofs.SplitLaw.{split_by}

@@ -1,5 +1,6 @@
 use Rattle.std.proofs.Common.{◌≡◌, length}
-use Rattle.tt_lists.specs.Reading.{split_of, without_white_front}
+use Rattle.tt_text.specs.Characters.{without_white_front}
+use Rattle.tt_lists.specs.Reading.{split_of}
 use Rattle.tt_lists.proofs.Splits.{after_items}
 use Rattle.tt_lists.proofs.splitting.split.Given as goal
 

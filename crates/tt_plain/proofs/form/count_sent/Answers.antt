@@ -1,5 +1,5 @@
-use Rattle.std.proofs.Common.{◌≡◌, ◌≤◌, arith}
-use Rattle.tt_plain.proofs.NameLemmas.{sendable-range, sendable-number}
+use Rattle.std.proofs.Common.{arith}
+use Rattle.tt_plain.proofs.NameLemmas.{sendable-number}
 use Rattle.tt_plain.proofs.form.count_sent.Goals as goal
 
 pub returns-then-number-lt2-clause-none : goal.returns-then-number-lt2-clause-none

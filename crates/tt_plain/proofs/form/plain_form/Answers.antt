@@ -1,6 +1,6 @@
-use Rattle.std.proofs.Common.{◌≡◌, ◌≤◌, refl, sym, arith}
+use Rattle.std.proofs.Common.{refl, sym, arith}
 use Rattle.tt_plain.specs.PlainCode.{command_of}
-use Rattle.tt_plain.proofs.FormLemmas.{plain_here, not_plain, not_after, read_more, after_some}
+use Rattle.tt_plain.proofs.FormLemmas.{plain_here, not_after, read_more, after_some}
 use Rattle.tt_plain.proofs.form.plain_form.Goals as goal
 
 pub returns-in-Nothing : goal.returns-in-Nothing

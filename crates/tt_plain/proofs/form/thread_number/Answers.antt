@@ -1,12 +1,10 @@
-use Rattle.std.proofs.Common.{◌≡◌, ◌≢◌, ◌<◌, ◌^◌, ℕ, List, [], ◌∷◌, ◌++◌, codes, true, false, nat_eq, drop, length, sym, ap, ◌∙◌, arith, append-nil, ◌==◌}
+use Rattle.std.proofs.Common.{◌≡◌, ◌<◌, ◌^◌, ℕ, List, [], ◌++◌, false, length, sym, ap, ◌∙◌, arith, append-nil, ◌==◌}
 use Rattle.std.specs.Fmt.{decimal}
-use Rattle.std.specs.List.{starts_with}
 use Rattle.std.proofs.lemmas.Fmt.{digits_decimal}
 use Rattle.std.proofs.lemmas.Bool.Decides.{nat_tests}
 use Rattle.tt_schedule.specs.Digits.{BeginsWithNoDigit}
 use Rattle.tt_schedule.specs.ScheduleText.{IsInRange}
 use Rattle.tt_schedule.proofs.DigitLemmas.{own, same-run}
-use Rattle.tt_plain.specs.PlainScript.{thread_id}
 use Rattle.tt_plain.proofs.NameLemmas.{after-tid}
 use Rattle.tt_plain.proofs.form.thread_number.Goals as goal
 

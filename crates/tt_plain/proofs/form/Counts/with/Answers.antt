@@ -1,4 +1,4 @@
-use Rattle.std.proofs.Common.{◌≡◌, ◌≤◌, suc, refl, arith}
+use Rattle.std.proofs.Common.{suc, refl, arith}
 use Rattle.tt_plain.proofs.form.Counts.with.Goals as goal
 
 pub returns-in_ok-sent-in-Send-clause-found : goal.returns-in_ok-sent-in-Send-clause-found

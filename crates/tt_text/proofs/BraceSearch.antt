@@ -3,8 +3,8 @@ use Rattle.std.proofs.Common.{◌≡◌, ◌≢◌, ℕ, zero, suc, ◌+◌, ◌
 use Rattle.std.proofs.lemmas.Bool.{cases_eq, ne_eqb}
 use Rattle.std.proofs.lemmas.List.{drop_more, drop_all}
 use Rattle.std.proofs.Math.Seq.{drop-append_seam}
-use Rattle.tt_plain.specs.Scanning.{IsScan}
-use Rattle.tt_plain.specs.declared.braces.Scan.TheVariants.{Closes, Ends}
+use Rattle.tt_text.specs.BraceScan.{IsScan}
+use Rattle.tt_text.specs.declared.braces.Scan.TheVariants.{Closes, Ends}
 use Rattle.tt_text.specs.Braces.{is_balanced, closing_brace, matching_brace, further, mark_of, Letter}
 
 further_twice : (m n : ℕ) (o : Option ℕ) → further m (further n o) ≡ further (m + n) o

@@ -1,6 +1,6 @@
 use Rattle.std.proofs.Common.{◌≡◌, ◌+◌, ◌-◌, ◌≤◌, List, ◌++◌, ℕ, length, drop, false}
 use Rattle.tt_text.specs.Braces.{closing_brace, further, matching_brace}
-use Rattle.tt_lists.proofs.braces.search.Given as goal
+use Rattle.tt_text.proofs.braces.search.Given as goal
 
 abbrev pub invariant-loop-at : goal.invariant-loop-at
 invariant-loop-at l = record {

@@ -1,8 +1,8 @@
 use Rattle.std.proofs.Common.{◌≡◌, ◌<◌, ◌++◌, ◌∙◌, length, get_or, length-append, List, ℕ, sym, arith}
 use Rattle.std.proofs.Math.ListN.{get_or-append}
-use Rattle.tt_lists.proofs.Bracing.{opens, closes_inner, escapes, letter, moved}
-use Rattle.tt_lists.proofs.braces.search.Goals as goal
-use Rattle.tt_lists.proofs.braces.search.Goals.{then-byte-eq92, else-byte-eq92+then-byte-eq123, else-byte-eq92+else-byte-eq123+then-byte-eq125+else-depth-eq0, else-byte-eq92+else-byte-eq123+else-byte-eq125}
+use Rattle.tt_text.proofs.BraceSearch.{opens, closes_inner, escapes, letter, moved}
+use Rattle.tt_text.proofs.braces.search.Goals as goal
+use Rattle.tt_text.proofs.braces.search.Goals.{then-byte-eq92, else-byte-eq92+then-byte-eq123, else-byte-eq92+else-byte-eq123+then-byte-eq125+else-depth-eq0, else-byte-eq92+else-byte-eq123+else-byte-eq125}
 
 pub loop-at-preserved : goal.loop-at-preserved
 loop-at-preserved c =

@@ -1,6 +1,6 @@
 use Rattle.std.proofs.Common.{sym}
-use Rattle.tt_plain.proofs.Bracing.{closes_alone, ends_alone}
-use Rattle.tt_plain.proofs.braces.matching_brace.Goals as goal
+use Rattle.tt_text.proofs.BraceSearch.{closes_alone, ends_alone}
+use Rattle.tt_text.proofs.braces.matching_brace.Goals as goal
 
 pub returns-in-Closes-clause-place : goal.returns-in-Closes-clause-place
 returns-in-Closes-clause-place c = sym (closes_alone c.args.text.now c.in-Closes.place c.in-Closes.ensures)

@@ -1,6 +1,6 @@
 use Rattle.std.proofs.Common.{◌≡◌, length}
-use Rattle.tt_number.specs.Numerals.{without_white_front}
-use Rattle.tt_number.proofs.numeral.without_white_front.Given as goal
+use Rattle.tt_text.specs.Characters.{without_white_front}
+use Rattle.tt_text.proofs.white_space.without_white_front.Given as goal
 
 abbrev pub invariant-loop-text : goal.invariant-loop-text
 invariant-loop-text l = without_white_front l.text ≡ without_white_front l.fn.text

@@ -1,6 +1,6 @@
 ghost use Rattle.std.specs.Prelude.{◌≡◌, ◌<◌, length, IfSome};
-ghost use Rattle.tt_text.specs.Braces.{matching_brace};
-ghost use Rattle.tt_plain.specs.Scanning.{IsScan};
+ghost use Rattle.tt_text.specs.Braces.{is_balanced, matching_brace};
+ghost use Rattle.tt_text.specs.BraceScan.{IsScan};
 
 /// How the search for a closing brace ends in a text.
 #[derive(Clone, Copy)]
@@ -12,15 +12,32 @@ enum Scan {
     Ends(usize, usize),
 }
 
-/// The place of the brace that closes the one before this text. A byte after a backslash is none.
-#[tactic(auto, using(crate::proofs::Bracing::closes_alone, crate::proofs::Bracing::ends_alone))]
-pub(crate) fn matching_brace(text: &[u8]) -> Option<usize>
+/// How many bytes of a text that follows an open brace stand before the brace that closes it (Tcl(n),
+/// rule 6).
+///
+/// A byte after a backslash is never a brace. `None` where no brace closes the open one.
+#[tactic(auto, using(crate::proofs::BraceSearch::closes_alone, crate::proofs::BraceSearch::ends_alone))]
+pub fn matching_brace(text: &[u8]) -> Option<usize>
     ensures place { result ≡ matching_brace text.now }
     ensures within { IfSome result (λ place. place < length text.now) }
 {
     match search(text) {
         Scan::Closes(place) => Some(place),
         Scan::Ends(..) => None,
+    }
+}
+
+/// Whether the text may stand in braces as it is (Tcl(n), rule 6): its braces match, and no backslash
+/// is left alone at its end.
+///
+/// A byte after a backslash is never a brace.
+#[tactic(auto, using(crate::proofs::BraceSearch::closes_within, crate::proofs::BraceSearch::ends_balanced))]
+pub fn is_balanced(text: &[u8]) -> bool
+    ensures { result ≡ is_balanced text.now }
+{
+    match search(text) {
+        Scan::Closes(_) => false,
+        Scan::Ends(depth, at) => depth == 0 && at == text.len(),
     }
 }
 
