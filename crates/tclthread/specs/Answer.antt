@@ -3,7 +3,7 @@ use Rattle.std.specs.Prelude.{◌≡◌, ℕ, ◌-◌, ◌≤◌, List, [], leng
 use Rattle.tt_devices.specs.Names.{Names}
 use Rattle.tt_schedule.specs.ScheduleText.{IsScheduleText}
 use Rattle.tt_core.specs.Machine.{Beginning, Machine, run, step}
-use Rattle.tt_core.specs.PlainScript.{IsPlain}
+use Rattle.tt_plain.specs.PlainScript.{IsPlain}
 use Rattle.tt_core.specs.declared.fault.StepFault.{StepFault}
 use Rattle.tt_core.specs.declared.fault.StepFault.TheVariants as fault
 use Rattle.tt_core.specs.declared.setup.Setup.{Setup}

@@ -3,7 +3,7 @@ use Rattle.std.specs.Prelude.{◌≡◌, ℕ, List, Option, Some, None, ◌⊎�
 use Rattle.tt_devices.specs.Names.{Names, Tells}
 use Rattle.tt_schedule.specs.ScheduleText.{IsScheduleText}
 use Rattle.tt_core.specs.Machine.{Beginning}
-use Rattle.tt_core.specs.PlainScript.{IsPlain}
+use Rattle.tt_plain.specs.PlainScript.{IsPlain}
 use Rattle.tclthread.specs.Answer.{beginning_of}
 use Rattle.tclthread.specs.CommandLine.{Replay}
 use Rattle.tclthread.specs.declared.status.Place.TheVariants.{Byte, Entry}

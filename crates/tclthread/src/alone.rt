@@ -1,6 +1,6 @@
 ghost use Rattle.std.specs.Prelude.{◌≡◌, ◌≢◌, ◌≤◌, ◌↔◌, [], ℕ, List, Option, Some, None, map, string_bytes, length};
 ghost use Rattle.tt_devices.specs.Faults.{Rises, greatest_count};
-ghost use Rattle.tt_core.specs.PlainScript.{IsPlain};
+ghost use Rattle.tt_plain.specs.PlainScript.{IsPlain};
 ghost use Rattle.tt_core.specs.Stage.{IsFaithful, SameBeginning};
 ghost use Rattle.tclthread.specs.Answer.{AnswersTo, HasScript, EndsAs, NotStarted, beginning_of, kept_by, begun_by};
 ghost use Rattle.tclthread.specs.CommandLine.{reads, Replay};

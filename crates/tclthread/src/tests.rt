@@ -127,6 +127,170 @@ fn scripts_are_replayed_as_far_as_their_schedules_go(rt: HostRuntime) -> Result<
     Ok(())
 }
 
+/// A script of a thread that is sent two scripts.
+const TWO_SENDS: &[u8] =
+    b"thread::create\nthread::send -async tid2 {puts a}\nthread::send -async tid2 {puts {b c}}\n";
+
+/// A script of two threads that are sent scripts in turn.
+const TWO_THREADS: &[u8] = b"thread::create\nthread::create\n\
+    thread::send -async tid2 {puts a\n puts b}\nthread::send -async tid3 {puts c}\n\
+    thread::send -async tid2 {puts d}\n";
+
+#[test]
+fn threads_take_what_they_are_sent_when_their_schedule_says(
+    rt: HostRuntime,
+) -> Result<(), Fail> {
+    let rows: [(&[u8], &[u8], &str, u64, &[u8]); 14] = [
+        (
+            TWO_SENDS,
+            b"schedule 1\n1 3\n2 4\n1 1\n",
+            "done 0",
+            8,
+            b"a\nb c\n",
+        ),
+        (TWO_SENDS, b"schedule 1\n1 4\n", "done 0", 4, b""),
+        (
+            TWO_SENDS,
+            b"schedule 1\n1 3\n2 3\n1 1\n",
+            "done 0",
+            7,
+            b"a\n",
+        ),
+        (
+            TWO_SENDS,
+            b"schedule 1\n1 2\n2 3\n1 1\n",
+            "bad entry 5",
+            4,
+            b"a\n",
+        ),
+        (
+            b"thread::create",
+            b"schedule 1\n1 1\n2 1\n",
+            "bad entry 2",
+            1,
+            b"",
+        ),
+        (
+            b"thread::create\nputs x",
+            b"schedule 1\n1 3\n",
+            "done 0",
+            3,
+            b"x\n",
+        ),
+        (
+            b"thread::create",
+            b"schedule 1\n1 1\n3 1\n",
+            "bad entry 2",
+            1,
+            b"",
+        ),
+        (
+            b"thread::create",
+            b"schedule 1\n1 2\n2 1\n",
+            "bad entry 3",
+            2,
+            b"",
+        ),
+        (
+            TWO_THREADS,
+            b"schedule 1\n1 5\n3 1\n2 2\n3 1\n2 3\n1 1\n",
+            "done 0",
+            13,
+            b"a\nc\nb\nd\n",
+        ),
+        (
+            TWO_THREADS,
+            b"schedule 1\n1 4\n3 2\n2 3\n1 1\n2 2\n1 1\n",
+            "done 0",
+            13,
+            b"c\na\nb\nd\n",
+        ),
+        (
+            TWO_THREADS,
+            b"schedule 1\n1 5\n2 1\n",
+            "schedule ended",
+            6,
+            b"",
+        ),
+        (
+            b"thread::send -async tid2 {puts a}",
+            b"schedule 1\n1 1\n",
+            "bad script",
+            0,
+            b"",
+        ),
+        (
+            b"thread::create\nthread::send -async tid1 {puts a}",
+            b"schedule 1\n1 1\n",
+            "bad script",
+            0,
+            b"",
+        ),
+        (
+            b"thread::create\nthread::send -async tid2 {thread::create}",
+            b"schedule 1\n1 1\n",
+            "bad script",
+            0,
+            b"",
+        ),
+    ];
+    for (script, schedule, status, steps, output) in rows {
+        let left = call(&rt, &WORDS, script, schedule, &[], &[])?;
+        assert_eq!(rt; left.status.as_str(), status);
+        assert_eq!(rt; left.steps, steps);
+        assert_eq!(rt; left.output.as_slice(), output);
+    }
+    Ok(())
+}
+
+/// A script that makes so many threads.
+fn creates(alloc: Global, count: usize) -> Result<Vec<u8>, Fail> {
+    let mut script = Vec::new(alloc);
+    for _ in 0..count {
+        script.extend_from_slice(b"thread::create\n")?;
+    }
+    Ok(script)
+}
+
+#[test]
+fn a_script_makes_999_threads_and_no_more(rt: HostRuntime) -> Result<(), Fail> {
+    let most = creates(rt.alloc(), 999)?;
+    let left = call(&rt, &WORDS, &most, b"schedule 1\n1 1000\n", &[], &[])?;
+    assert_eq!(rt; left.status.as_str(), "done 0");
+    assert_eq!(rt; left.steps, 1000);
+    assert_eq!(rt; left.output.len(), 0);
+    let more = creates(rt.alloc(), 1000)?;
+    let left = call(&rt, &WORDS, &more, b"schedule 1\n1 1001\n", &[], &[])?;
+    assert_eq!(rt; left.status.as_str(), "bad script");
+    Ok(())
+}
+
+#[test]
+fn a_thousand_threads_are_stepped_in_reverse_order(rt: HostRuntime) -> Result<(), Fail> {
+    let alloc = rt.alloc();
+    let mut script = creates(alloc, 999)?;
+    let mut schedule = Vec::from_slice(alloc, b"schedule 1\n1 1998\n")?;
+    let mut output = Vec::new(alloc);
+    for number in 2..1001 {
+        let sent =
+            format!(in alloc; "thread::send -async tid{number} {{puts {{for {number}}}}}\n")?;
+        script.extend_from_slice(sent.as_bytes())?;
+    }
+    for step in 0..999 {
+        let number = 1000 - step;
+        let steps = format!(in alloc; "{number} 2\n")?;
+        schedule.extend_from_slice(steps.as_bytes())?;
+        let line = format!(in alloc; "for {number}\n")?;
+        output.extend_from_slice(line.as_bytes())?;
+    }
+    schedule.extend_from_slice(b"1 1\n")?;
+    let left = call(&rt, &WORDS, &script, &schedule, &[], &[])?;
+    assert_eq!(rt; left.status.as_str(), "done 0");
+    assert_eq!(rt; left.steps, 3997);
+    assert_eq!(rt; left.output.as_slice(), output.as_slice());
+    Ok(())
+}
+
 #[test]
 fn wrong_words_and_missing_files_have_their_answers(rt: HostRuntime) -> Result<(), Fail> {
     let rows: [(&[&str], &str, u8); 8] = [
