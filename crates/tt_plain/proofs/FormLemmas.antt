@@ -1,6 +1,6 @@
 -- Plain scripts, read command by command.
 use Rattle.std.proofs.Common.{◌≡◌, ◌≤◌, ◌+◌, ℕ, suc, List, refl, sym, ◌∙◌, subst, arith}
-use Rattle.tt_plain.specs.PlainScript.{Command, Puts, Create, Send, Nothing, Found, Other, first, IsScript, ends, puts, create, send, IsPlain, most_creates, most_commands}
+use Rattle.tt_plain.specs.PlainScript.{Command, Puts, Create, Send, Nothing, Found, first, IsScript, ends, puts, create, send, IsPlain, most_creates, most_commands}
 use Rattle.tt_plain.specs.Counting.{Takes, AreAfter}
 use Rattle.tt_plain.proofs.PutsLemmas.{same_count}
 
@@ -137,18 +137,6 @@ plain_here text made had rest read f few_creates few = record {
   few_threads = few_creates;
   few_commands = few;
 }
-
--- a script begins with what is in the form
-not_other : (made creates commands : ℕ) (text : List ℕ) → IsScript made creates commands text → first text ≡ Other → ⊥
-not_other made creates commands text (ends e) f = let no : Nothing ≡ Other = sym e ∙ f in cc
-not_other made creates commands text (puts {word = word} {rest = rest} e is) f = let no : Found (Puts word) rest ≡ Other = sym e ∙ f in cc
-not_other made creates commands text (create {rest = rest} e is) f = let no : Found Create rest ≡ Other = sym e ∙ f in cc
-not_other made creates commands text (send {id = id} {script = script} {rest = rest} e named low high listed is sum) f = let no : Found (Send id script) rest ≡ Other = sym e ∙ f in cc
-
-pub not_plain : (text : List ℕ) (made had : ℕ) (rest : List ℕ) → IsReadTo text made had rest → first rest ≡ Other → IsPlain text → ⊥
-not_plain text made had rest read f plain =
-    let left = read.parts plain.creates plain.commands plain.is in
-    not_other made left.0 left.1 rest left.2 f
 
 -- a plain script has no command that may not stand at its place, and none too many
 pub not_after : (text : List ℕ) (made had : ℕ) (rest : List ℕ) (command : Command) (after : List ℕ) → IsReadTo text made had rest → first rest ≡ Found command after → ((creates commands : ℕ) → creates ≤ 999 → commands ≤ 5000 → AreAfter made had command creates commands → ⊥) → IsPlain text → ⊥

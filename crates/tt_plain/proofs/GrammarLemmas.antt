@@ -99,7 +99,7 @@ written-is : (written : List ℕ) (command : Command) (rest : List ℕ) → IsCo
 written-is written command rest (puts {spaces = spaces} {written = word_written} {word = word} same is is_written) e =
     rw (same, append_assoc spaces word_written rest) (puts-is spaces word word_written rest is is_written e)
 written-is written command rest (create same) e = rw same (ended-is Create rest e)
-written-is written command rest (send {spaces = spaces} {more = more} {last = last} {id = id} {script = script} same one two three is_id balanced) e =
+written-is written command rest (send {after_name = spaces} {after_option = more} {id = id} {after_id = last} {script = script} same one two three is_id balanced) e =
     rw (same, ← join-send spaces more id last script rest) (send-is spaces more last id script rest one two three is_id balanced e)
 
 -- a command begins with no blank

@@ -1,6 +1,6 @@
 -- Lists of `puts` commands, read from the front.
-use Rattle.std.proofs.Common.{◌≡◌, ◌≢◌, ◌≤◌, ◌+◌, ℕ, suc, List, refl, sym, ◌∙◌, subst, arith}
-use Rattle.tt_plain.specs.PlainScript.{Puts, First, Nothing, Found, first, IsPutsList, puts_end, puts_more}
+use Rattle.std.proofs.Common.{◌≡◌, ◌+◌, ℕ, suc, List, refl, sym, ◌∙◌, subst, arith}
+use Rattle.tt_plain.specs.PlainScript.{Puts, Nothing, Found, first, IsPutsList, puts_end, puts_more}
 
 -- so many `puts` commands were read up to the rest
 pub record IsPutsFront (text : List ℕ) (count : ℕ) (rest : List ℕ) : Type 0 where
@@ -32,19 +32,6 @@ front_more text count rest word after front f = record {
 
 pub front_ends : (text : List ℕ) (count : ℕ) (rest : List ℕ) → IsPutsFront text count rest → first rest ≡ Nothing → IsPutsList count text
 front_ends text count rest front f = front.joins 0 count (puts_end f) (omega arith)
-
--- a list of `puts` commands begins with nothing else
-not_puts : (n : ℕ) (text : List ℕ) (read : First) → IsPutsList n text → first text ≡ read → read ≢ Nothing → ((word rest : List ℕ) → read ≢ Found (Puts word) rest) → ⊥
-not_puts n text read (puts_end e) f none no_puts = none (sym f ∙ e)
-not_puts n text read (puts_more {word = word} {rest = rest} e is) f none no_puts = no_puts word rest (sym f ∙ e)
-
-pub front_wrong : (text : List ℕ) (count : ℕ) (rest : List ℕ) (read : First) → IsPutsFront text count rest → first rest ≡ read → read ≢ Nothing → ((word after : List ℕ) → read ≢ Found (Puts word) after) → (all : ℕ) → IsPutsList all text → ⊥
-front_wrong text count rest read front f none no_puts all h =
-    let left = front.parts all h in
-    not_puts left.0 rest read left.2 f none no_puts
-
-pub front_long : (text : List ℕ) (count : ℕ) (rest : List ℕ) → IsPutsFront text count rest → (all : ℕ) → IsPutsList all text → count ≤ all
-front_long text count rest front all h = let left = front.parts all h in omega (arith, left.1)
 
 -- a text is a list of one number of commands
 pub same_count : (m n : ℕ) (text : List ℕ) → IsPutsList m text → IsPutsList n text → m ≡ n

@@ -28,11 +28,12 @@ pub data IsWritten : List ℕ → List ℕ → Type 0 where
   bare : {word written : List ℕ} → written ≡ word → IsBare word → IsWritten written word
   braces : {word written : List ℕ} → written ≡ 123 ∷ (word ++ 125 ∷ []) → AreAll is_braced_byte word → NotDashed word → IsWritten written word
 
--- how a command is written: its words, with one space or more between two of them, the script of a send in braces
+-- how a command is written: its words, with one space or more between two of them; the thread of a send is a bare word,
+-- and its script stands in braces, with braces that match in it
 pub data IsCommand : List ℕ → Command → Type 0 where
   puts : {text spaces written word : List ℕ} → text ≡ codes "puts" ++ (spaces ++ written) → IsSpaces spaces → IsWritten written word → IsCommand text (Puts word)
   create : {text : List ℕ} → text ≡ codes "thread::create" → IsCommand text Create
-  send : {text spaces more last id script : List ℕ} → text ≡ codes "thread::send" ++ (spaces ++ (codes "-async" ++ (more ++ (id ++ (last ++ (123 ∷ (script ++ 125 ∷ []))))))) → IsSpaces spaces → IsSpaces more → IsSpaces last → IsBare id → IsBalanced script → IsCommand text (Send id script)
+  send : {text after_name after_option id after_id script : List ℕ} → text ≡ codes "thread::send" ++ (after_name ++ (codes "-async" ++ (after_option ++ (id ++ (after_id ++ (123 ∷ (script ++ 125 ∷ []))))))) → IsSpaces after_name → IsSpaces after_option → IsSpaces after_id → IsBare id → IsBalanced script → IsCommand text (Send id script)
 
 -- a command ends, after spaces, with the text or a newline
 pub record EndsCommand (rest : List ℕ) : Type 0 where

@@ -102,14 +102,14 @@ first text = command_first (drop (prefix_len is_blank text) text)
 abbrev pub thread_id : ℕ → List ℕ
 thread_id k = codes "tid" ++ decimal k
 
--- the text is a list of so many `puts` commands
+-- the text is a list of so many `puts` commands, as a script is that a plain script sends
 pub data IsPutsList : (commands : ℕ) → List ℕ → Type 0 where
   puts_end : {text : List ℕ} → first text ≡ Nothing → IsPutsList 0 text
   puts_more : {n : ℕ} {text word rest : List ℕ} → first text ≡ Found (Puts word) rest → IsPutsList n rest → IsPutsList (suc n) text
 
--- the text is a list of commands, before which so many threads were created: how many it creates, and how many commands
--- it has, those of sent scripts counted; it sends lists of `puts` commands, to threads that were created and not to the
--- first
+-- The text is a list of commands: `made` threads are created before it, it creates so many more, and it has so many
+-- commands, those of sent scripts counted. It sends lists of `puts` commands alone, each to a thread that was created
+-- before, which the first thread was not: its number is from 2 to 1 more than the threads created (thread(n)).
 pub data IsScript : (made creates commands : ℕ) → List ℕ → Type 0 where
   ends : {made : ℕ} {text : List ℕ} → first text ≡ Nothing → IsScript made 0 0 text
   puts : {made creates n : ℕ} {text word rest : List ℕ} → first text ≡ Found (Puts word) rest → IsScript made creates n rest → IsScript made creates (suc n) text
