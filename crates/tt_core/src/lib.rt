@@ -14,4 +14,4 @@ mod system;
 pub use fault::{NewFault, StepFault};
 pub use setup::Setup;
 pub use system::System;
-pub use tt_plain::plain_form;
+pub use tt_plain::{plain_form, plain_grammar};
