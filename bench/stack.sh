@@ -9,7 +9,7 @@ for what in brackets indices; do
     high=8192
     while [ $((high - low)) -gt 8 ]; do
         middle=$(((low + high) / 2))
-        if (ulimit -s "$middle" && out/bench_words "$what") >/dev/null 2>&1; then
+        if (ulimit -s "$middle" && out/bench_words "$what" || exit 1) >/dev/null 2>&1; then
             high=$middle
         else
             low=$middle
