@@ -29,19 +29,12 @@ use Rattle.tt_exprs.specs.declared.applying.refusal.Refusal.TheVariants.{NotNume
 
 -- ---- operands
 
--- all operands of the operator are evaluated before it is applied
-abbrev pub is_eager : Op → Bool
-is_eager And = false
-is_eager Or = false
-is_eager Choose = false
-is_eager op = true
-
--- an operator that gives its answer without a copy of a text
-abbrev pub wants_no_memory : Op → Bool
-wants_no_memory Not = false
-wants_no_memory Member = false
-wants_no_memory NotMember = false
-wants_no_memory op = is_eager op
+-- an operator that evaluates only those of its operands that it needs
+abbrev pub is_lazy : Op → Bool
+is_lazy And = true
+is_lazy Or = true
+is_lazy Choose = true
+is_lazy op = false
 
 -- the operator has so many operands
 abbrev pub takes : Op → ℕ → Bool

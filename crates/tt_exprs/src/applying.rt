@@ -1,19 +1,18 @@
-ghost use Rattle.std.specs.Prelude.{◌≡◌, ◌<◌, length, IfOk, IsTrue};
+ghost use Rattle.std.specs.Prelude.{◌≡◌, length, IfOk, IsFalse, IsTrue};
 ghost use Rattle.std.specs.Prelude.{Ok, Err};
-ghost use Rattle.tt_exprs.specs.Apply.{answer_of, applied, is_eager, outcome_of, takes, wants_no_memory};
+ghost use Rattle.tt_exprs.specs.Apply.{answer_of, applied, is_lazy, outcome_of, takes};
 
 mod comparison;
 mod numbers;
 mod refusal;
 mod truth;
 
-pub use truth::boolean;
-
 use crate::op::Op;
 use comparison::{is_member, is_same_text, order};
 use numbers::{extreme, on_one, on_two};
 use refusal::{Refusal, message};
 use std::alloc::Global;
+pub use truth::boolean;
 use truth::negation;
 use tt_calls::{Code, Outcome};
 use tt_number::{NumOp, OneOp, whole_text};
@@ -34,7 +33,7 @@ use tt_text::{NoMemory, Text};
 ///
 /// `NoMemory` where the memory for the outcome or for the items of a list is refused.
 pub fn apply(alloc: Global, op: Op, operands: &[Text]) -> Result<Outcome, NoMemory>
-    requires eager { IsTrue (is_eager op) }
+    requires eager { IsFalse (is_lazy op) }
     requires count { IsTrue (takes op (length operands.now)) }
     ensures answer { IfOk result (λ outcome. outcome ≡ applied op operands.now) }
 {
@@ -70,50 +69,42 @@ fn failed(alloc: Global, refusal: &Refusal) -> Result<Outcome, NoMemory>
 }
 
 fn answer(alloc: Global, op: Op, operands: &[Text]) -> Result<Result<i64, Refusal>, NoMemory>
-    requires eager { IsTrue (is_eager op) }
+    requires eager { IsFalse (is_lazy op) }
     requires count { IsTrue (takes op (length operands.now)) }
     ensures { IfOk result (λ answer. answer ≡ answer_of op operands.now) }
 {
     match op {
+        Op::Neg => Ok(on_one(op, OneOp::Neg, operands)),
+        Op::Plus => Ok(on_one(op, OneOp::Plus, operands)),
+        Op::BitNot => Ok(on_one(op, OneOp::BitNot, operands)),
         Op::Not => negation(alloc, operands),
+        Op::Pow => Ok(on_two(op, NumOp::Pow, operands)),
+        Op::Mul => Ok(on_two(op, NumOp::Mul, operands)),
+        Op::Div => Ok(on_two(op, NumOp::Div, operands)),
+        Op::Mod => Ok(on_two(op, NumOp::Mod, operands)),
+        Op::Add => Ok(on_two(op, NumOp::Add, operands)),
+        Op::Sub => Ok(on_two(op, NumOp::Sub, operands)),
+        Op::Shl => Ok(on_two(op, NumOp::Shl, operands)),
+        Op::Shr => Ok(on_two(op, NumOp::Shr, operands)),
+        Op::Less => Ok(order(operands).map(|order| i64::from(order.is_lt()))),
+        Op::Greater => Ok(order(operands).map(|order| i64::from(order.is_gt()))),
+        Op::LessEqual => Ok(order(operands).map(|order| i64::from(order.is_le()))),
+        Op::GreaterEqual => Ok(order(operands).map(|order| i64::from(order.is_ge()))),
+        Op::Equal => Ok(order(operands).map(|order| i64::from(order.is_eq()))),
+        Op::NotEqual => Ok(order(operands).map(|order| i64::from(order.is_ne()))),
+        Op::TextEqual => Ok(Ok(i64::from(is_same_text(operands)))),
+        Op::TextNotEqual => Ok(Ok(i64::from(!is_same_text(operands)))),
         Op::Member => Ok(is_member(alloc, operands)?.map(i64::from)),
         Op::NotMember => Ok(is_member(alloc, operands)?.map(|member| i64::from(!member))),
-        _ => Ok(answer_alone(op, operands)),
+        Op::BitAnd => Ok(on_two(op, NumOp::BitAnd, operands)),
+        Op::BitXor => Ok(on_two(op, NumOp::BitXor, operands)),
+        Op::BitOr => Ok(on_two(op, NumOp::BitOr, operands)),
+        Op::Abs => Ok(on_one(op, OneOp::Abs, operands)),
+        Op::Int => Ok(on_one(op, OneOp::Plus, operands)),
+        Op::Max | Op::Min => Ok(extreme(op, operands)),
+        Op::And | Op::Or | Op::Choose => unreachable!(),
     }
 }
 
-// The answers of operators that want no memory.
-fn answer_alone(op: Op, operands: &[Text]) -> Result<i64, Refusal>
-    requires alone { IsTrue (wants_no_memory op) }
-    requires count { IsTrue (takes op (length operands.now)) }
-    ensures { result ≡ answer_of op operands.now }
-{
-    match op {
-        Op::Neg => on_one(op, OneOp::Neg, operands),
-        Op::Plus => on_one(op, OneOp::Plus, operands),
-        Op::BitNot => on_one(op, OneOp::BitNot, operands),
-        Op::Pow => on_two(op, NumOp::Pow, operands),
-        Op::Mul => on_two(op, NumOp::Mul, operands),
-        Op::Div => on_two(op, NumOp::Div, operands),
-        Op::Mod => on_two(op, NumOp::Mod, operands),
-        Op::Add => on_two(op, NumOp::Add, operands),
-        Op::Sub => on_two(op, NumOp::Sub, operands),
-        Op::Shl => on_two(op, NumOp::Shl, operands),
-        Op::Shr => on_two(op, NumOp::Shr, operands),
-        Op::Less => Ok(i64::from(order(operands)?.is_lt())),
-        Op::Greater => Ok(i64::from(order(operands)?.is_gt())),
-        Op::LessEqual => Ok(i64::from(order(operands)?.is_le())),
-        Op::GreaterEqual => Ok(i64::from(order(operands)?.is_ge())),
-        Op::Equal => Ok(i64::from(order(operands)?.is_eq())),
-        Op::NotEqual => Ok(i64::from(order(operands)?.is_ne())),
-        Op::TextEqual => Ok(i64::from(is_same_text(operands))),
-        Op::TextNotEqual => Ok(i64::from(!is_same_text(operands))),
-        Op::BitAnd => on_two(op, NumOp::BitAnd, operands),
-        Op::BitXor => on_two(op, NumOp::BitXor, operands),
-        Op::BitOr => on_two(op, NumOp::BitOr, operands),
-        Op::Abs => on_one(op, OneOp::Abs, operands),
-        Op::Int => on_one(op, OneOp::Plus, operands),
-        Op::Max | Op::Min => extreme(op, operands),
-        Op::Not | Op::Member | Op::NotMember | Op::And | Op::Or | Op::Choose => unreachable!(),
-    }
-}
+#[cfg(test)]
+mod tests;

@@ -68,3 +68,27 @@ pub enum Op {
     /// `min(x, y, ..)`
     Min,
 }
+
+impl Op {
+    ghost use Rattle.std.specs.Prelude.{◌≡◌};
+    ghost use Rattle.tt_exprs.specs.Apply.{is_lazy, takes};
+
+    /// Whether it evaluates only those of its operands that it needs: `&&`, `||` and `? :`.
+    pub fn is_lazy(self) -> bool
+        ensures { result ≡ is_lazy self }
+    {
+        matches!(self, Op::And | Op::Or | Op::Choose)
+    }
+
+    /// Whether it has this number of operands.
+    pub fn takes(self, count: usize) -> bool
+        ensures { result ≡ takes self count }
+    {
+        match self {
+            Op::Neg | Op::Plus | Op::BitNot | Op::Not | Op::Abs | Op::Int => count == 1,
+            Op::Choose => count == 3,
+            Op::Max | Op::Min => count > 0,
+            _ => count == 2,
+        }
+    }
+}

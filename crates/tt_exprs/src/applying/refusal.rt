@@ -9,7 +9,7 @@ use tt_number::ArithFault;
 use tt_text::{NoMemory, Text};
 
 /// Why an operator gives nothing.
-#[derive(Debug, Drop)]
+#[derive(Drop)]
 pub(crate) enum Refusal {
     /// An operand of this operator is no number.
     NotNumeric(Op),

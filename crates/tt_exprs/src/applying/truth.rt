@@ -44,9 +44,7 @@ pub(super) fn negation(alloc: Global, operands: &[Text]) -> Result<Result<i64, R
     requires { length operands.now ≡ 1 }
     ensures { IfOk result (λ answer. answer ≡ negation_of operands.now) }
 {
-    let [operand] = operands else {
-        unreachable!()
-    };
+    let [operand] = operands else { unreachable!() };
     match boolean(operand.as_bytes()) {
         Some(truth) => Ok(Ok(i64::from(!truth))),
         None => Ok(Err(Refusal::NotBoolean(operand.copy()?))),
