@@ -5,7 +5,7 @@ use crate::Op;
 
 pub(super) type Answer = Result<&'static [u8], &'static [u8]>;
 
-pub(super) const ONE: [(Op, &[u8], Answer); 29] = [
+pub(super) static ONE: [(Op, &[u8], Answer); 29] = [
     (Op::Neg, b"5", Ok(b"-5")),
     (Op::Neg, b" 0x10 ", Ok(b"-16")),
     (Op::Neg, b"-9223372036854775808", Err(b"integer overflow")),
@@ -73,7 +73,7 @@ pub(super) const ONE: [(Op, &[u8], Answer); 29] = [
     ),
 ];
 
-pub(super) const TWO: [(Op, &[u8], &[u8], Answer); 91] = [
+pub(super) static TWO: [(Op, &[u8], &[u8], Answer); 91] = [
     (Op::Pow, b"2", b"10", Ok(b"1024")),
     (Op::Pow, b"2", b"-1", Ok(b"0")),
     (Op::Pow, b"-1", b"-3", Ok(b"-1")),
@@ -307,7 +307,7 @@ pub(super) const TWO: [(Op, &[u8], &[u8], Answer); 91] = [
     (Op::Less, b"z", b"\xc3\xa9", Ok(b"1")),
 ];
 
-pub(super) const MANY: [(Op, &[&[u8]], Answer); 9] = [
+pub(super) static MANY: [(Op, &[&[u8]], Answer); 9] = [
     (Op::Max, &[b"1", b"3", b"2"], Ok(b"3")),
     (Op::Max, &[b"-5"], Ok(b"-5")),
     (
