@@ -1,0 +1,242 @@
+-- What operators and functions give on the texts of their operands (expr(n), Operators; mathfunc(n)).
+use Rattle.std.specs.Prelude.{ℕ, nat_lt, Bool, true, false, not, ◌||◌, if◌then◌else◌, ◌==◌, ℤ, pos, List, [], ◌∷◌, fold, length, bytes_eq, codes, Option, Some, None, Result, Ok, Err}
+use Rattle.std.specs.Cmp.Lexicographic.{slice_cmp}
+use Rattle.std.specs.Fmt.{signed_decimal}
+use Rattle.std.specs.Int.RustNames.{unsigned_abs}
+use Rattle.std.specs.List.{list_any}
+use Rattle.std.specs.Ordering.{int_cmp, nat_cmp, is_eq, is_ne, is_lt, is_gt, is_le, is_ge, ord_max, ord_min}
+use Rattle.std.specs.Str.{str_eq_ignore_ascii_case}
+use Rattle.std.specs.declared.cmp.Ordering.{Ordering}
+use Rattle.tt_calls.specs.declared.Code.TheVariants.{Fine, Failed}
+use Rattle.tt_calls.specs.declared.outcome.Outcome.{Outcome}
+use Rattle.tt_lists.specs.Reading.{split_of}
+use Rattle.tt_lists.specs.declared.items.Split.{Split}
+use Rattle.tt_lists.specs.declared.items.Split.TheVariants.{Items, Bad}
+use Rattle.tt_number.specs.Numerals.{whole_of}
+use Rattle.tt_number.specs.Operators.{binary_of, unary_of}
+use Rattle.tt_number.specs.declared.numeral.NumberFault.{NumberFault}
+use Rattle.tt_number.specs.declared.numeral.NumberFault.TheVariants as number
+use Rattle.tt_number.specs.declared.operators.ArithFault.{ArithFault}
+use Rattle.tt_number.specs.declared.operators.NumOp.{NumOp}
+use Rattle.tt_number.specs.declared.operators.NumOp.TheVariants as two
+use Rattle.tt_number.specs.declared.operators.OneOp.{OneOp}
+use Rattle.tt_number.specs.declared.operators.OneOp.TheVariants as one
+use Rattle.tt_exprs.specs.ApplyMessages.{message_of}
+use Rattle.tt_exprs.specs.declared.op.Op.{Op}
+use Rattle.tt_exprs.specs.declared.op.Op.TheVariants.{Neg, Plus, BitNot, Not, Pow, Mul, Div, Mod, Add, Sub, Shl, Shr, Less, Greater, LessEqual, GreaterEqual, Equal, NotEqual, TextEqual, TextNotEqual, Member, NotMember, BitAnd, BitXor, BitOr, And, Or, Choose, Abs, Int, Max, Min}
+use Rattle.tt_exprs.specs.declared.applying.refusal.Refusal.{Refusal}
+use Rattle.tt_exprs.specs.declared.applying.refusal.Refusal.TheVariants.{NotNumeric, TooLarge, Float, Arith, NotBoolean, NotList}
+
+-- ---- operands
+
+-- an operator that evaluates only those of its operands that it needs
+abbrev pub is_lazy : Op → Bool
+is_lazy And = true
+is_lazy Or = true
+is_lazy Choose = true
+is_lazy op = false
+
+-- the operator has so many operands
+abbrev pub takes : Op → ℕ → Bool
+takes Neg count = count == 1
+takes Plus count = count == 1
+takes BitNot count = count == 1
+takes Not count = count == 1
+takes Choose count = count == 3
+takes Abs count = count == 1
+takes Int count = count == 1
+takes Max count = nat_lt 0 count
+takes Min count = nat_lt 0 count
+takes op count = count == 2
+
+abbrev pub first : List (List ℕ) → List ℕ
+first [] = []
+first (a ∷ operands) = a
+
+abbrev pub second : List (List ℕ) → List ℕ
+second [] = []
+second (a ∷ []) = []
+second (a ∷ b ∷ operands) = b
+
+-- ---- arithmetic
+
+-- an operand that has to be a whole number
+abbrev pub needed : Op → Result ℤ NumberFault → Result ℤ Refusal
+needed op (Ok n) = Ok n
+needed op (Err number.NotWhole) = Err (NotNumeric op)
+needed op (Err number.TooLarge) = Err TooLarge
+needed op (Err number.Float) = Err Float
+
+unfoldable pub whole_operand : Op → List ℕ → Result ℤ Refusal
+whole_operand op text = needed op (whole_of text)
+
+abbrev pub arithmetic : Result ℤ ArithFault → Result ℤ Refusal
+arithmetic (Ok n) = Ok n
+arithmetic (Err fault) = Err (Arith fault)
+
+abbrev pub with_one : OneOp → Result ℤ Refusal → Result ℤ Refusal
+with_one operator (Ok a) = arithmetic (unary_of operator a)
+with_one operator (Err refusal) = Err refusal
+
+-- the left operand is tested first
+abbrev pub with_two : NumOp → Result ℤ Refusal → Result ℤ Refusal → Result ℤ Refusal
+with_two operator (Err refusal) b = Err refusal
+with_two operator (Ok a) (Err refusal) = Err refusal
+with_two operator (Ok a) (Ok b) = arithmetic (binary_of operator a b)
+
+abbrev pub on_one_of : Op → OneOp → List (List ℕ) → Result ℤ Refusal
+on_one_of op operator operands = with_one operator (whole_operand op (first operands))
+
+abbrev pub on_two_of : Op → NumOp → List (List ℕ) → Result ℤ Refusal
+on_two_of op operator operands = with_two operator (whole_operand op (first operands)) (whole_operand op (second operands))
+
+-- ---- max and min
+
+abbrev pub with_whole : Result ℤ Refusal → Result (List ℤ) Refusal → Result (List ℤ) Refusal
+with_whole (Err refusal) numbers = Err refusal
+with_whole (Ok n) (Err refusal) = Err refusal
+with_whole (Ok n) (Ok numbers) = Ok (n ∷ numbers)
+
+-- the operands' numbers, or what is wrong with the first that is not whole
+abbrev pub wholes : Op → List (List ℕ) → Result (List ℤ) Refusal
+wholes op [] = Ok []
+wholes op (a ∷ operands) = with_whole (whole_operand op a) (wholes op operands)
+
+abbrev pub picked : Op → ℤ → ℤ → ℤ
+picked Min a b = ord_min int_cmp a b
+picked op a b = ord_max int_cmp a b
+
+-- the least of the numbers for `min`, and the greatest for `max`; there is one at least
+abbrev pub extreme_of : Op → Result (List ℤ) Refusal → Result ℤ Refusal
+extreme_of op (Err refusal) = Err refusal
+extreme_of op (Ok []) = Ok (pos 0)
+extreme_of op (Ok (n ∷ numbers)) = Ok (fold (picked op) n numbers)
+
+-- ---- tests
+
+-- what a test gives
+abbrev pub told : Bool → ℤ
+told true = pos 1
+told false = pos 0
+
+abbrev pub told_if : Result Bool Refusal → Result ℤ Refusal
+told_if (Ok truth) = Ok (told truth)
+told_if (Err refusal) = Err refusal
+
+abbrev pub told_unless : Result Bool Refusal → Result ℤ Refusal
+told_unless (Ok truth) = Ok (told (not truth))
+told_unless (Err refusal) = Err refusal
+
+-- what an operand of a comparison is: a whole number, or a text alone
+abbrev pub compared : Result ℤ NumberFault → Result (Option ℤ) Refusal
+compared (Ok n) = Ok (Some n)
+compared (Err number.NotWhole) = Ok None
+compared (Err number.TooLarge) = Err TooLarge
+compared (Err number.Float) = Err Float
+
+unfoldable pub comparand : List ℕ → Result (Option ℤ) Refusal
+comparand text = compared (whole_of text)
+
+-- as numbers where both are whole, else as texts
+abbrev pub order_by : Option ℤ → Option ℤ → Ordering → Ordering
+order_by (Some a) (Some b) texts = int_cmp a b
+order_by (Some a) None texts = texts
+order_by None b texts = texts
+
+abbrev pub order_with : Result (Option ℤ) Refusal → Result (Option ℤ) Refusal → Ordering → Result Ordering Refusal
+order_with (Err refusal) b texts = Err refusal
+order_with (Ok a) (Err refusal) texts = Err refusal
+order_with (Ok a) (Ok b) texts = Ok (order_by a b texts)
+
+-- how two operands compare
+abbrev pub order_of : List (List ℕ) → Result Ordering Refusal
+order_of operands = order_with (comparand (first operands)) (comparand (second operands)) (slice_cmp nat_cmp (first operands) (second operands))
+
+abbrev pub test_order : (Ordering → Bool) → Result Ordering Refusal → Result ℤ Refusal
+test_order test (Ok order) = Ok (told (test order))
+test_order test (Err refusal) = Err refusal
+
+abbrev pub is_same_text : List (List ℕ) → Bool
+is_same_text operands = bytes_eq (first operands) (second operands)
+
+abbrev pub is_item : List ℕ → List (List ℕ) → Bool
+is_item text items = list_any (λ item. bytes_eq item text) items
+
+abbrev pub is_member_by : List ℕ → Split → Result Bool Refusal
+is_member_by text (Items items) = Ok (is_item text items)
+is_member_by text (Bad fault) = Err (NotList fault)
+
+-- the first operand is an item of the second, a list
+abbrev pub is_member_of : List (List ℕ) → Result Bool Refusal
+is_member_of operands = is_member_by (first operands) (split_of (second operands))
+
+-- ---- boolean values
+
+abbrev pub is_word : List ℕ → List ℕ → Bool
+is_word text word = str_eq_ignore_ascii_case text word
+
+-- a boolean word, in any ASCII case
+abbrev pub boolean_word : List ℕ → Option Bool
+boolean_word text =
+    if is_word text (codes "true") || is_word text (codes "yes") || is_word text (codes "on") then Some true else
+    if is_word text (codes "false") || is_word text (codes "no") || is_word text (codes "off") then Some false else None
+
+abbrev pub boolean_by : List ℕ → Result ℤ NumberFault → Option Bool
+boolean_by text (Ok n) = Some (not (unsigned_abs n == 0))
+boolean_by text (Err fault) = boolean_word text
+
+-- a boolean value: a whole number, of which 0 is false, or a boolean word
+unfoldable pub boolean_of : List ℕ → Option Bool
+boolean_of text = boolean_by text (whole_of text)
+
+abbrev pub negated : List ℕ → Option Bool → Result ℤ Refusal
+negated text (Some truth) = Ok (told (not truth))
+negated text None = Err (NotBoolean text)
+
+abbrev pub negation_of : List (List ℕ) → Result ℤ Refusal
+negation_of operands = negated (first operands) (boolean_of (first operands))
+
+-- ---- operators
+
+-- what an operator gives: a whole number, or why there is none
+abbrev pub answer_of : Op → List (List ℕ) → Result ℤ Refusal
+answer_of Neg t = on_one_of Neg one.Neg t
+answer_of Plus t = on_one_of Plus one.Plus t
+answer_of BitNot t = on_one_of BitNot one.BitNot t
+answer_of Not t = negation_of t
+answer_of Pow t = on_two_of Pow two.Pow t
+answer_of Mul t = on_two_of Mul two.Mul t
+answer_of Div t = on_two_of Div two.Div t
+answer_of Mod t = on_two_of Mod two.Mod t
+answer_of Add t = on_two_of Add two.Add t
+answer_of Sub t = on_two_of Sub two.Sub t
+answer_of Shl t = on_two_of Shl two.Shl t
+answer_of Shr t = on_two_of Shr two.Shr t
+answer_of Less t = test_order is_lt (order_of t)
+answer_of Greater t = test_order is_gt (order_of t)
+answer_of LessEqual t = test_order is_le (order_of t)
+answer_of GreaterEqual t = test_order is_ge (order_of t)
+answer_of Equal t = test_order is_eq (order_of t)
+answer_of NotEqual t = test_order is_ne (order_of t)
+answer_of TextEqual t = Ok (told (is_same_text t))
+answer_of TextNotEqual t = Ok (told (not (is_same_text t)))
+answer_of Member t = told_if (is_member_of t)
+answer_of NotMember t = told_unless (is_member_of t)
+answer_of BitAnd t = on_two_of BitAnd two.BitAnd t
+answer_of BitXor t = on_two_of BitXor two.BitXor t
+answer_of BitOr t = on_two_of BitOr two.BitOr t
+answer_of Abs t = on_one_of Abs one.Abs t
+answer_of Int t = on_one_of Int one.Plus t
+answer_of Max t = extreme_of Max (wholes Max t)
+answer_of Min t = extreme_of Min (wholes Min t)
+-- the lazy operators are not applied
+answer_of op t = Ok (pos 0)
+
+-- a number in decimal, or the message of the error, which begins its trace
+abbrev pub outcome_of : Result ℤ Refusal → Outcome
+outcome_of (Ok n) = record { code = Fine; value = signed_decimal n; trace = []; kept = Fine }
+outcome_of (Err refusal) = record { code = Failed; value = message_of refusal; trace = message_of refusal; kept = Fine }
+
+-- what an operator comes to
+abbrev pub applied : Op → List (List ℕ) → Outcome
+applied op operands = outcome_of (answer_of op operands)
