@@ -137,9 +137,7 @@ const TWO_THREADS: &[u8] = b"thread::create\nthread::create\n\
     thread::send -async tid2 {puts d}\n";
 
 #[test]
-fn threads_take_what_they_are_sent_when_their_schedule_says(
-    rt: HostRuntime,
-) -> Result<(), Fail> {
+fn threads_take_what_they_are_sent_when_their_schedule_says(rt: HostRuntime) -> Result<(), Fail> {
     let rows: [(&[u8], &[u8], &str, u64, &[u8]); 14] = [
         (
             TWO_SENDS,
@@ -272,8 +270,9 @@ fn a_thousand_threads_are_stepped_in_reverse_order(rt: HostRuntime) -> Result<()
     let mut schedule = Vec::from_slice(alloc, b"schedule 1\n1 1998\n")?;
     let mut output = Vec::new(alloc);
     for number in 2..1001 {
-        let sent =
-            format!(in alloc; "thread::send -async tid{number} {{puts {{for {number}}}}}\n")?;
+        let sent = format!(in alloc;
+            "thread::send -async tid{number} {{puts {{for {number}}}}}\n"
+        )?;
         script.extend_from_slice(sent.as_bytes())?;
     }
     for step in 0..999 {

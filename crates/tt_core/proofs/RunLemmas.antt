@@ -92,9 +92,9 @@ server-can machine script crew place server at there busy = go (first server.lef
   where
     go : (read : First) → first server.left ≡ read → IsBusyWith read server.queue → IsSome (step machine (suc (suc place)))
     go Nothing e some =
-      let one = serving-at at.rows at.others crew.servers place server at.serving there in
-      let there_row : of_thread machine.shared.threads (suc (suc place)) ≡ Some one.thread = rw at.threads one.thread_there in
-      is-some _ (step-asked machine (suc (suc place)) Take at.over (asked-server machine script crew place server at there ∙ ap (request_or Take) e) (ap has_event there_row ∙ some-event one.thread.queue server.queue one.is.queue some))
+        let one = serving-at at.rows at.others crew.servers place server at.serving there in
+        let there_row : of_thread machine.shared.threads (suc (suc place)) ≡ Some one.thread = rw at.threads one.thread_there in
+        is-some _ (step-asked machine (suc (suc place)) Take at.over (asked-server machine script crew place server at there ∙ ap (request_or Take) e) (ap has_event there_row ∙ some-event one.thread.queue server.queue one.is.queue some))
     go (Found command rest) e some = command-can machine script crew place server command rest at there e
     go Other e some = absurd some
 
@@ -141,17 +141,18 @@ server-cannot machine script crew place at cannot = go (slice_get crew.servers p
   where
     read-cannot : (server : Serving) (read : First) → slice_get crew.servers place ≡ Some server → first server.left ≡ read → ¬ (IsBusyWith read server.queue) → step machine (suc (suc place)) ≡ None
     read-cannot server Nothing there e idle =
-      let one = serving-at at.rows at.others crew.servers place server at.serving there in
-      let there_row : of_thread machine.shared.threads (suc (suc place)) ≡ Some one.thread = rw at.threads one.thread_there in
-      let none : server.queue ≡ [] = empty server.queue idle in
-      step-disabled machine (suc (suc place)) Take (asked-server machine script crew place server at there ∙ ap (request_or Take) e) (ap has_event there_row ∙ no-event one.thread.queue (one.is.queue ∙ none)) at.over
+        let one = serving-at at.rows at.others crew.servers place server at.serving there in
+        let there_row : of_thread machine.shared.threads (suc (suc place)) ≡ Some one.thread = rw at.threads one.thread_there in
+        let none : server.queue ≡ [] = empty server.queue idle in
+        step-disabled machine (suc (suc place)) Take (asked-server machine script crew place server at there ∙ ap (request_or Take) e) (ap has_event there_row ∙ no-event one.thread.queue (one.is.queue ∙ none)) at.over
     read-cannot server (Found command rest) there e idle =
-      let one = serving-at at.rows at.others crew.servers place server at.serving there in
-      let next = puts-next one.is.commands server.left command rest one.is.plain e in
-      absurd (subst (λ (command : Command). ¬ (IsBusyWith (Found command rest) server.queue)) next.is idle tt)
+        let one = serving-at at.rows at.others crew.servers place server at.serving there in
+        let next = puts-next one.is.commands server.left command rest one.is.plain e in
+        absurd (subst (λ (command : Command). ¬ (IsBusyWith (Found command rest) server.queue)) next.is idle tt)
     read-cannot server Other there e idle =
-      let one = serving-at at.rows at.others crew.servers place server at.serving there in
-      absurd (puts-other one.is.commands server.left one.is.plain e)
+        let one = serving-at at.rows at.others crew.servers place server at.serving there in
+        absurd (puts-other one.is.commands server.left one.is.plain e)
+
     go : (found : Option Serving) → slice_get crew.servers place ≡ found → step machine (suc (suc place)) ≡ None
     go None there = step-unasked machine (suc (suc place)) at.over (asked-past machine script crew place at there)
     go (Some server) there = read-cannot server (first server.left) there refl (cannot server there)

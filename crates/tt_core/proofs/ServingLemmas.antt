@@ -71,7 +71,6 @@ set-same [] place item there = refl
 set-same (one ∷ items) zero item there = ap (λ x. x ∷ items) (cc there)
 set-same (one ∷ items) (suc place) item there = ap (λ xs. one ∷ xs) (set-same items place item there)
 
-
 -- ---- one more thread ----
 
 pub serving-add : (threads : List Thread) (others : List (List Reply)) (servers : List Serving) (thread : Thread) (server : Serving) → AreServing threads others servers → IsServing thread [] server → AreServing (threads ++ thread ∷ []) (others ++ [] ∷ []) (servers ++ server ∷ [])

@@ -193,7 +193,7 @@ main-sends machine script crew id sent rest place server at e id_is there =
     let after : Serving = record { left = server.left; queue = server.queue ++ sent ∷ [] } in
     let acts = act-sends machine.shared 1 number id sent one.thread (linked-is machine script crew place id one.thread at one.thread_there id_is within) (rw at.threads one.thread_there) in
     let serving : AreServing (slice_set at.rows place row) at.others (slice_set crew.servers place after) =
-      subst (λ (others : List (List Reply)). AreServing (slice_set at.rows place row) others (slice_set crew.servers place after)) (set-same at.others place one.replies one.replies_there) (serving-set at.rows at.others crew.servers place row one.replies after at.serving (queued-more one.thread one.replies server post left.sent sent one.is left.puts)) in
+    subst (λ (others : List (List Reply)). AreServing (slice_set at.rows place row) others (slice_set crew.servers place after)) (set-same at.others place one.replies one.replies_there) (serving-set at.rows at.others crew.servers place row one.replies after at.serving (queued-more one.thread one.replies server post left.sent sent one.is left.puts)) in
     record {
       next = after_answer machine 1 (sends machine.shared 1 number sent (Some one.thread));
       is = step-asked machine 1 (Send id sent) at.over (asked-main machine script crew at ∙ ap (request_or (End 0)) e) refl ∙ ap (λ answered. Some (after_answer machine 1 answered)) acts;
@@ -246,15 +246,15 @@ server-takes machine script crew place server taken queue at there none waits =
     let there_row : of_thread machine.shared.threads number ≡ Some one.thread = rw at.threads one.thread_there in
     let acts = act-takes machine.shared number event.post taken one.thread event.events there_row event.is in
     let serving : AreServing (slice_set at.rows place row) (slice_set at.others place replies) (slice_set crew.servers place after) =
-      serving-set at.rows at.others crew.servers place row replies after at.serving (record {
-        start = one.is.start;
-        life = one.is.life;
-        queue = event.others;
-        doing = doing-more (Serves []) (Serves server.left) (Serves taken) one.replies reply one.is.doing (rw none refl);
-        commands = lists.0.0;
-        plain = lists.0.1;
-        queued = lists.1;
-      }) in
+    serving-set at.rows at.others crew.servers place row replies after at.serving (record {
+      start = one.is.start;
+      life = one.is.life;
+      queue = event.others;
+      doing = doing-more (Serves []) (Serves server.left) (Serves taken) one.replies reply one.is.doing (rw none refl);
+      commands = lists.0.0;
+      plain = lists.0.1;
+      queued = lists.1;
+    }) in
     record {
       next = after_answer machine number (takes machine.shared number one.thread (Sent event.post taken ∷ event.events));
       is = step-asked machine number Take at.over (asked-server machine script crew place server at there ∙ ap (request_or Take) none) (rw (there_row, event.is) refl) ∙ ap (λ answered. Some (after_answer machine number answered)) acts;
@@ -284,15 +284,15 @@ server-writes machine script crew place server word rest at there e =
     let after : Serving = record { left = rest; queue = server.queue } in
     let replies : List Reply = one.replies ++ Go ∷ [] in
     let serving : AreServing at.rows (slice_set at.others place replies) (slice_set crew.servers place after) =
-      subst (λ (rows : List Thread). AreServing rows (slice_set at.others place replies) (slice_set crew.servers place after)) (set-same at.rows place one.thread one.thread_there) (serving-set at.rows at.others crew.servers place one.thread replies after at.serving (record {
-        start = one.is.start;
-        life = one.is.life;
-        queue = one.is.queue;
-        doing = doing-more (Serves []) (Serves server.left) (Serves rest) one.replies Go one.is.doing (rw e refl);
-        commands = left.commands;
-        plain = left.plain;
-        queued = one.is.queued;
-      })) in
+    subst (λ (rows : List Thread). AreServing rows (slice_set at.others place replies) (slice_set crew.servers place after)) (set-same at.rows place one.thread one.thread_there) (serving-set at.rows at.others crew.servers place one.thread replies after at.serving (record {
+      start = one.is.start;
+      life = one.is.life;
+      queue = one.is.queue;
+      doing = doing-more (Serves []) (Serves server.left) (Serves rest) one.replies Go one.is.doing (rw e refl);
+      commands = left.commands;
+      plain = left.plain;
+      queued = one.is.queued;
+    })) in
     record {
       next = after_answer machine number (act machine.shared number (WriteOut (word ++ 10 ∷ [])));
       is = step-asked machine number (WriteOut (word ++ 10 ∷ [])) at.over (asked-server machine script crew place server at there ∙ ap (request_or Take) e) refl;
