@@ -38,19 +38,19 @@ ReadsSome {A} r value text rest = (done : ReadAs r value text rest) × (0 < done
 
 -- ---- cuts ----
 
-cut_one : (n c : ℕ) (text rest : List ℕ) → Cut n text (c ∷ rest) → Cut (n + 1) text rest
+pub cut_one : (n c : ℕ) (text rest : List ℕ) → Cut n text (c ∷ rest) → Cut (n + 1) text rest
 cut_one n c text rest cut = record {
   place = sym (drop-drop 1 n text) ∙ ap (drop 1) cut.place;
   size = omega (arith, cut.size);
 }
 
 -- the front of a text is what the rest leaves
-front : (n : ℕ) (text xs rest : List ℕ) → text ≡ xs ++ rest → Cut n text rest → take n text ≡ xs
+pub front : (n : ℕ) (text xs rest : List ℕ) → text ≡ xs ++ rest → Cut n text rest → take n text ≡ xs
 front n text xs rest e cut =
     let size : length xs ≡ n = omega (arith, cut.size, ap length e, length-append xs rest) in
     ap (take n) e ∙ take_at xs rest n size
 
-cut_at : (text xs rest : List ℕ) → text ≡ xs ++ rest → Cut (length xs) text rest
+pub cut_at : (text xs rest : List ℕ) → text ≡ xs ++ rest → Cut (length xs) text rest
 cut_at text xs rest e = record {
   place = ap (drop (length xs)) e ∙ drop_at xs rest (length xs) refl;
   size = omega (arith, ap length e, length-append xs rest);
@@ -131,10 +131,10 @@ module _ (level : Level) (b : ℕ) (text name rest : List ℕ) (e : b ≡ 36) (h
   longer : 0 < name_length 0 text
   longer = omega (arith, h.longest, named_length name h.some)
 
-  name_cut : Cut (length name) text rest
+  pub name_cut : Cut (length name) text rest
   name_cut = cut_at text name rest h.cut
 
-  named_on : part level b text ≡ named_variable level (length name) text
+  pub named_on : part level b text ≡ named_variable level (length name) text
   named_on = part-dollar level b text (eq-eqb b 36 e) ∙ dollar-named level text (name_first text longer) (lt-ltb 0 (name_length 0 text) longer) ∙ ap (λ n. named_variable level n text) h.longest
 
   name_front : take (length name) text ≡ name
@@ -202,7 +202,7 @@ pub begins-length : (c : ℕ) (text : List ℕ) → begins c text ≡ true → 0
 begins-length c [] e = cc
 begins-length c (b ∷ text) e = omega arith
 
-expands_length : (text : List ℕ) → expands text ≡ true → 3 ≤ length text
+pub expands_length : (text : List ℕ) → expands text ≡ true → 3 ≤ length text
 expands_length text e =
     let last = (and_both (begins 125 (drop 2 text)) _ (and_both (begins 123 text && begins 42 (drop 1 text)) _ e).1).0 in
     omega (arith, begins-length 125 (drop 2 text) last, length-drop 2 text)
@@ -263,7 +263,7 @@ commands_more depth text start next rest ws s e shorter r cs =
 
 -- ---- a word has a byte ----
 
-separates-some : (place : Place) (text : List ℕ) → separates place text ≡ false → 0 < length text
+pub separates-some : (place : Place) (text : List ℕ) → separates place text ≡ false → 0 < length text
 separates-some place [] e = cc
 separates-some place (b ∷ text) e = omega arith
 
