@@ -17,6 +17,7 @@ use Rattle.tt_script.specs.declared.command.Ending.{Ending}
 use Rattle.tt_script.specs.declared.command.Ending.TheVariants as endings
 use Rattle.tt_script.proofs.Cuts.{Cut, cut_none, cut_more, cut_same, cut_cut, gap_cut, skipped_cut}
 use Rattle.tt_script.proofs.Escapes.{backslash_within}
+use Rattle.tt_script.proofs.NameCuts.{none-named, name_size}
 use Rattle.tt_script.proofs.Readers.{braced-closed}
 use Rattle.tt_script.proofs.PartSteps.{index-deeper, dollar-braced, dollar-named, dollar-itself, named-element, named-variable, part-dollar, part-brackets, part-escape, part-letter, parts-end, parts-part, parts-fault, parts_passes}
 use Rattle.tt_script.proofs.CommandSteps.{brackets-deeper, quoted-on, separated-yes, parts-quoted, parts-braced, parts-bare, made, word-expands, word-plain, words-one, words-more, words_passes, closed-on, more-on, after-takes}
@@ -128,14 +129,17 @@ script_read depth b c text inside rest e g r = record {
 }
 
 module _ (level : Level) (b : ℕ) (text name rest : List ℕ) (e : b ≡ 36) (h : IsNamed text name rest) where
+  size : name_length 0 text ≡ length name
+  size = name_size h
+
   longer : 0 < name_length 0 text
-  longer = omega (arith, h.longest, named_length name h.some)
+  longer = omega (arith, size, named_length name h.some)
 
   pub name_cut : Cut (length name) text rest
   name_cut = cut_at text name rest h.cut
 
   pub named_on : part level b text ≡ named_variable level (length name) text
-  named_on = part-dollar level b text (eq-eqb b 36 e) ∙ dollar-named level text (name_first text longer) (lt-ltb 0 (name_length 0 text) longer) ∙ ap (λ n. named_variable level n text) h.longest
+  named_on = part-dollar level b text (eq-eqb b 36 e) ∙ dollar-named level text (name_first text longer) (lt-ltb 0 (name_length 0 text) longer) ∙ ap (λ n. named_variable level n text) size
 
   name_front : take (length name) text ≡ name
   name_front = front (length name) text name rest h.cut name_cut
@@ -310,7 +314,7 @@ mutual
   part_read (braced_part {depth} {b} {c} {d} {text} {rest} {part = p} name e f g h k m) = brace_read depth b c d text name rest p e f g h k m
   part_read (dollar_part {depth} {b} {text} e f g) = record {
     n = 0;
-    read = part-dollar (level depth) b text (eq-eqb b 36 e) ∙ dollar-itself (level depth) text f (ap (nat_lt 0) g);
+    read = part-dollar (level depth) b text (eq-eqb b 36 e) ∙ dollar-itself (level depth) text f (ap (nat_lt 0) (none-named text g));
     cut = cut_none text;
   }
 

@@ -18,6 +18,7 @@ use Rattle.tt_script.specs.declared.command.Place.TheVariants as places
 use Rattle.tt_script.specs.declared.command.Ending.{Ending}
 use Rattle.tt_script.specs.declared.command.Ending.TheVariants as endings
 use Rattle.tt_script.proofs.IntoCuts.{gap_is, gap_end-none, skipped_is, skipped_end-none, drop_none, or_both}
+use Rattle.tt_script.proofs.NameCuts.{name_is, named-none}
 use Rattle.tt_script.proofs.Naming.{name-letter, name-colons, name-none}
 use Rattle.tt_script.proofs.Readers.{braced-closed, braced-after, braced-open}
 use Rattle.tt_script.proofs.PartSteps.{index-too_deep, brackets-too_deep, index-deeper, dollar-braced, dollar-named, dollar-itself, named-element, named-variable, part-dollar, part-brackets, part-escape, part-letter, parts-end, parts-part, parts-fault}
@@ -76,7 +77,7 @@ named_is text e =
     let size : length (take n text) ≡ n = omega (arith, length-take n text, name_within 0 text (omega arith)) in
     record {
       cut = joined n text;
-      longest = sym size;
+      longest = name_is 0 text;
       some = λ none_left. no_length (take n text) none_left (omega (arith, size, ltb-true 0 n e));
     }
   where
@@ -235,7 +236,7 @@ module _ (depth : ℕ) (sound : Sound depth) where
       go false false w f g h =
           let same = sym (dollar-itself (level depth) text f g) ∙ r in
           let none_named : k ≡ 0 = omega (arith, ltb-false 0 k g) in
-          subst (λ j. IsPart depth (b ∷ text) p (drop j text)) (takes-count same) (subst (λ q. IsPart depth (b ∷ text) q text) (takes-value same) (dollar_part e f none_named))
+          subst (λ j. IsPart depth (b ∷ text) p (drop j text)) (takes-count same) (subst (λ q. IsPart depth (b ∷ text) q text) (takes-value same) (dollar_part e f (named-none text none_named)))
       go false true false f g h =
           let same = sym (dollar-named (level depth) text f g ∙ named-variable (level depth) text k h) ∙ r in
           subst (λ j. IsPart depth (b ∷ text) p (drop j text)) (takes-count same) (subst (λ q. IsPart depth (b ∷ text) q (drop k text)) (takes-value same) (variable_part e (named_is text g) h))
