@@ -1,5 +1,5 @@
 -- The fault that is answered is the first from the left.
-use Rattle.std.proofs.Common.{◌≡◌, ℕ, ◌+◌, ◌<◌, List, [], ◌∷◌, length, drop, refl, ap, sym, ◌∙◌, subst, arith}
+use Rattle.std.proofs.Common.{◌≡◌, ℕ, ◌<◌, List, [], ◌∷◌, length, drop, refl, ap, sym, ◌∙◌, subst, arith}
 use Rattle.tt_script.specs.Words.{PlainWord, PlainCommand, nothing, bad, command}
 use Rattle.tt_script.specs.Reading.{most_open, Read, takes, fails, level, words, skipped, command_at, first}
 use Rattle.tt_script.specs.Grammar.{IsSkipped}

@@ -1,17 +1,16 @@
 -- The fault that a text has, the readers meet.
-use Rattle.std.proofs.Common.{◌≡◌, ℕ, zero, suc, pred, ◌+◌, ◌<◌, ◌≤◌, Bool, true, false, ◌==◌, List, [], ◌∷◌, ◌++◌, length, drop, take, refl, ap, sym, ◌∙◌, arith, Option, Some, None}
-use Rattle.std.proofs.lemmas.List.{drop-drop}
+use Rattle.std.proofs.Common.{◌≡◌, ℕ, suc, pred, ◌+◌, ◌<◌, true, false, ◌==◌, List, [], ◌∷◌, ◌++◌, length, drop, take, refl, ap, ◌∙◌, arith, Option, Some, None}
 use Rattle.std.proofs.lemmas.Bool.{eq-eqb, le-ltb}
 use Rattle.std.specs.Prelude.{nat_lt, if◌then◌else◌}
 use Rattle.std.specs.List.{position_or_len}
 use Rattle.tt_text.specs.Braces.{IsBalanced, IsClosedAt, matching_brace}
 use Rattle.tt_text.proofs.BraceLemmas.{matching_brace_law}
 use Rattle.tt_script.specs.Words.{PlainPart, element, script, PlainParts, with_part, PlainWord}
-use Rattle.tt_script.specs.Reading.{Read, takes, fails, after, mapped, and_then, begins, separates, separated, ends_command, ends_parts, expands, named, Level, level, part, parts, braced_variable, word_parts, word, words, gap, skipped, commands}
+use Rattle.tt_script.specs.Reading.{takes, fails, after, mapped, and_then, begins, separates, separated, ends_command, ends_parts, named, Level, level, part, parts, braced_variable, word_parts, word, words, gap, skipped, commands}
 use Rattle.tt_script.specs.Grammar.{IsGap, IsSkipped, IsNamed}
 use Rattle.tt_script.specs.FaultGrammar.{IsUnclosed, IsPartFault, bracket_too_deep, bracket_fault, index_too_deep, index_fault, name_unclosed, IsPartsFault, quote_unclosed, index_unclosed, this_part, later_part, IsWordPartsFault, quotes_fault, after_quotes, braces_unclosed, after_braces, bare_fault, IsWordFault, expanded_fault, whole_fault, IsWordsFault, this_word, later_word, IsCommandsFault, bracket_unclosed, this_command, later_command}
 use Rattle.tt_script.specs.declared.command.ParseFault.{ParseFault}
-use Rattle.tt_script.specs.declared.command.ParseFault.TheVariants.{AfterBrace, AfterQuote, CloseBrace, CloseBracket, VariableBrace}
+use Rattle.tt_script.specs.declared.command.ParseFault.TheVariants.{AfterBrace, AfterQuote, CloseBracket, VariableBrace}
 use Rattle.tt_script.specs.declared.command.Place.{Place}
 use Rattle.tt_script.specs.declared.command.Place.TheVariants as places
 use Rattle.tt_script.specs.declared.command.Ending.{Ending}
@@ -21,7 +20,7 @@ use Rattle.tt_script.proofs.Readers.{braced-after, braced-open}
 use Rattle.tt_script.proofs.PartSteps.{index-too_deep, brackets-too_deep, index-deeper, dollar-braced, named-element, part-dollar, part-brackets, parts-part, parts-fault, parts_passes}
 use Rattle.tt_script.proofs.CommandSteps.{brackets-deeper, quoted-on, separated-none, parts-quoted, parts-braced, parts-bare, made, word-expands, word-plain, words-more, words-fault, words_passes, ended-on, fault-on, more-on}
 use Rattle.tt_script.proofs.IntoGrammar.{parts-none}
-use Rattle.tt_script.proofs.FromGrammar.{ReadAs, PartRead, ReadsSome, cut_one, cut_at, name_cut, named_on, expands_length, separates-some, part_read, parts_read, word_read, words_read}
+use Rattle.tt_script.proofs.FromGrammar.{ReadAs, PartRead, cut_one, cut_at, name_cut, named_on, expands_length, separates-some, part_read, parts_read, word_read, words_read}
 
 -- a part fails so, behind its first byte
 abbrev pub PartFails : ℕ → List ℕ → ParseFault → Type 0

@@ -1,17 +1,17 @@
 -- The fault that the readers meet, the text has.
-use Rattle.std.proofs.Common.{◌≡◌, ℕ, zero, suc, pred, ◌+◌, ◌<◌, ◌≤◌, Bool, true, false, ◌==◌, ◌&&◌, List, [], ◌∷◌, ◌++◌, length, drop, take, refl, ap, sym, ◌∙◌, subst, arith, Option, Some, None}
+use Rattle.std.proofs.Common.{◌≡◌, ℕ, zero, suc, pred, ◌+◌, ◌<◌, ◌≤◌, Bool, true, false, ◌==◌, List, [], ◌∷◌, ◌++◌, length, drop, take, refl, ap, sym, ◌∙◌, subst, arith, Option, Some, None}
 use Rattle.std.proofs.lemmas.List.{drop-drop, length-drop, drop_all, drop_at}
 use Rattle.std.proofs.lemmas.Bool.{ltb-true, ltb-false, eqb-true}
 use Rattle.std.specs.Prelude.{nat_lt, if◌then◌else◌}
 use Rattle.std.specs.List.{position_or_len}
-use Rattle.tt_text.specs.Braces.{IsBalanced, matching_brace}
+use Rattle.tt_text.specs.Braces.{matching_brace}
 use Rattle.tt_text.proofs.BraceLemmas.{matching_brace_law}
 use Rattle.tt_script.specs.Words.{PlainPart, element, script, PlainParts, with_part, PlainWord}
 use Rattle.tt_script.specs.Reading.{Read, takes, fails, after, mapped, and_then, begins, separates, separated, ends_command, ends_parts, expands, name_length, named, level, part, parts, parts_at_end, dollar, braced_variable, word_parts, quoted, braced, word, words, gap, skipped, commands}
 use Rattle.tt_script.specs.Grammar.{IsGap, IsSkipped, skip_ends, IsNamed, IsParts, IsWord, IsWords}
 use Rattle.tt_script.specs.FaultGrammar.{IsUnclosed, IsPartFault, bracket_too_deep, bracket_fault, index_too_deep, index_fault, name_unclosed, IsPartsFault, quote_unclosed, index_unclosed, this_part, later_part, IsWordPartsFault, quotes_fault, after_quotes, braces_unclosed, after_braces, bare_fault, IsWordFault, expanded_fault, whole_fault, IsWordsFault, this_word, later_word, IsCommandsFault, bracket_unclosed, this_command, later_command}
 use Rattle.tt_script.specs.declared.command.ParseFault.{ParseFault}
-use Rattle.tt_script.specs.declared.command.ParseFault.TheVariants.{AfterQuote, AfterBrace, CloseBrace, CloseBracket, CloseQuote, CloseParen, VariableBrace, TooDeep}
+use Rattle.tt_script.specs.declared.command.ParseFault.TheVariants.{AfterQuote, VariableBrace, TooDeep}
 use Rattle.tt_script.specs.declared.command.Place.{Place}
 use Rattle.tt_script.specs.declared.command.Place.TheVariants as places
 use Rattle.tt_script.specs.declared.command.Ending.{Ending}
@@ -20,7 +20,7 @@ use Rattle.tt_script.proofs.IntoCuts.{gap_is, gap_end-none, skipped_is, skipped_
 use Rattle.tt_script.proofs.Readers.{braced-closed, braced-after, braced-open}
 use Rattle.tt_script.proofs.PartSteps.{index-too_deep, brackets-too_deep, index-deeper, dollar-braced, dollar-named, dollar-itself, named-element, named-variable, part-dollar, part-brackets, part-escape, part-letter, parts-end, parts-part, parts-fault}
 use Rattle.tt_script.proofs.CommandSteps.{brackets-deeper, quoted-on, separated-yes, separated-none, parts-quoted, parts-braced, parts-bare, made, word-expands, word-plain, words-one, words-more, words-fault, commands-closed, commands-ended, commands-more, commands-fault, after-fails}
-use Rattle.tt_script.proofs.IntoGrammar.{no_takes, byte_at, named_is, parts-passes_one, words-passes_one, commands-passes_one, commands-none, parts-none, parts_closed, word_begins, command_begins, Sound, sound, part_is, parts_is, word_is, words_is}
+use Rattle.tt_script.proofs.IntoGrammar.{byte_at, named_is, parts-passes_one, words-passes_one, commands-passes_one, commands-none, parts-none, parts_closed, word_begins, command_begins, sound, part_is, parts_is, word_is, words_is}
 
 -- ---- reads that fail ----
 
