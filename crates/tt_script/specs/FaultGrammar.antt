@@ -1,6 +1,6 @@
--- The first fault of a text that is read from the left (Tcl(n)). Each relation says that `text` has this fault: what
--- stands before it is cut as the command grammar cuts it, and nothing of that is a fault. Where the text ends inside
--- something, the fault is that of the innermost. `depth` brackets and indices may still be opened.
+-- The first fault of a text that is read from the left (Tcl(n)). Each relation says that `text` has this fault, and
+-- that what stands before it is cut as the command grammar cuts it. Where the text ends inside something, the fault
+-- is that of the innermost. `depth` brackets and indices may still be opened.
 use Rattle.std.specs.Prelude.{◌≡◌, ℕ, zero, suc, ◌+◌, true, false, ◌==◌, List, [], ◌∷◌, ◌++◌, length, drop}
 use Rattle.std.specs.List.{position_or_len}
 use Rattle.tt_text.specs.Braces.{IsBalanced}
@@ -14,7 +14,7 @@ use Rattle.tt_script.specs.declared.command.Place.TheVariants as places
 use Rattle.tt_script.specs.declared.command.Ending.{Ending}
 use Rattle.tt_script.specs.declared.command.Ending.TheVariants as endings
 
--- no brace closes the one before this text: it is balanced up to none (rule 6)
+-- no brace closes the one before this text: it is balanced up to no closing brace (rule 6)
 abbrev pub IsUnclosed : List ℕ → Type 0
 IsUnclosed text = (inside rest : List ℕ) → text ≡ inside ++ (125 ∷ rest) → IsBalanced inside → ⊥
 

@@ -53,7 +53,7 @@ abbrev pub begins_name : List ℕ → Bool
 begins_name [] = false
 begins_name (b ∷ text) = is_name_byte b || (b == 58 && begins 58 text)
 
--- all colons
+-- all the colons at the front
 pub data IsColons : List ℕ → List ℕ → Type 0 where
   colons_end : {rest : List ℕ} → begins 58 rest ≡ false → IsColons rest rest
   colons_more : {b : ℕ} {text rest : List ℕ} → b ≡ 58 → IsColons text rest → IsColons (b ∷ text) rest
