@@ -231,12 +231,12 @@ module _ (level : Level) where
   closed-on [] e = cc
   closed-on (b ∷ text) e = commands-closed b text e
 
-  ended-on : (xs : List ℕ) → begins 93 (drop (skipped 0 xs) xs) ≡ false → length xs ≤ skipped 0 xs → commands level 0 xs ≡ fails CloseBracket
+  pub ended-on : (xs : List ℕ) → begins 93 (drop (skipped 0 xs) xs) ≡ false → length xs ≤ skipped 0 xs → commands level 0 xs ≡ fails CloseBracket
   unfolding commands
   ended-on [] e h = refl
   ended-on (b ∷ text) e h = commands-ended b text e (le-ltb (skipped 0 (b ∷ text)) (length (b ∷ text)) h)
 
-  fault-on : (xs : List ℕ) (fault : ParseFault) → begins 93 (drop (skipped 0 xs) xs) ≡ false → skipped 0 xs < length xs → words places.Brackets level 0 (drop (skipped 0 xs) xs) ≡ fails fault → commands level 0 xs ≡ fails fault
+  pub fault-on : (xs : List ℕ) (fault : ParseFault) → begins 93 (drop (skipped 0 xs) xs) ≡ false → skipped 0 xs < length xs → words places.Brackets level 0 (drop (skipped 0 xs) xs) ≡ fails fault → commands level 0 xs ≡ fails fault
   fault-on [] fault e h f = absurd (omega arith)
   fault-on (b ∷ text) fault e h f = commands-fault b text fault e (lt-ltb (skipped 0 (b ∷ text)) (length (b ∷ text)) h) f
 

@@ -17,6 +17,7 @@ use Rattle.tt_script.specs.declared.command.Ending.{Ending}
 use Rattle.tt_script.specs.declared.command.Ending.TheVariants as endings
 use Rattle.tt_script.proofs.Cuts.{Cut, cut_none, cut_more, cut_same, cut_cut, gap_cut, skipped_cut}
 use Rattle.tt_script.proofs.Escapes.{backslash_within}
+use Rattle.tt_script.proofs.NameCuts.{none-named, name_size}
 use Rattle.tt_script.proofs.Readers.{braced-closed}
 use Rattle.tt_script.proofs.PartSteps.{index-deeper, dollar-braced, dollar-named, dollar-itself, named-element, named-variable, part-dollar, part-brackets, part-escape, part-letter, parts-end, parts-part, parts-fault, parts_passes}
 use Rattle.tt_script.proofs.CommandSteps.{brackets-deeper, quoted-on, separated-yes, parts-quoted, parts-braced, parts-bare, made, word-expands, word-plain, words-one, words-more, words_passes, closed-on, more-on, after-takes}
@@ -38,19 +39,19 @@ ReadsSome {A} r value text rest = (done : ReadAs r value text rest) × (0 < done
 
 -- ---- cuts ----
 
-cut_one : (n c : ℕ) (text rest : List ℕ) → Cut n text (c ∷ rest) → Cut (n + 1) text rest
+pub cut_one : (n c : ℕ) (text rest : List ℕ) → Cut n text (c ∷ rest) → Cut (n + 1) text rest
 cut_one n c text rest cut = record {
   place = sym (drop-drop 1 n text) ∙ ap (drop 1) cut.place;
   size = omega (arith, cut.size);
 }
 
 -- the front of a text is what the rest leaves
-front : (n : ℕ) (text xs rest : List ℕ) → text ≡ xs ++ rest → Cut n text rest → take n text ≡ xs
+pub front : (n : ℕ) (text xs rest : List ℕ) → text ≡ xs ++ rest → Cut n text rest → take n text ≡ xs
 front n text xs rest e cut =
     let size : length xs ≡ n = omega (arith, cut.size, ap length e, length-append xs rest) in
     ap (take n) e ∙ take_at xs rest n size
 
-cut_at : (text xs rest : List ℕ) → text ≡ xs ++ rest → Cut (length xs) text rest
+pub cut_at : (text xs rest : List ℕ) → text ≡ xs ++ rest → Cut (length xs) text rest
 cut_at text xs rest e = record {
   place = ap (drop (length xs)) e ∙ drop_at xs rest (length xs) refl;
   size = omega (arith, ap length e, length-append xs rest);
@@ -128,14 +129,17 @@ script_read depth b c text inside rest e g r = record {
 }
 
 module _ (level : Level) (b : ℕ) (text name rest : List ℕ) (e : b ≡ 36) (h : IsNamed text name rest) where
-  longer : 0 < name_length 0 text
-  longer = omega (arith, h.longest, named_length name h.some)
+  size : name_length 0 text ≡ length name
+  size = name_size h
 
-  name_cut : Cut (length name) text rest
+  longer : 0 < name_length 0 text
+  longer = omega (arith, size, named_length name h.some)
+
+  pub name_cut : Cut (length name) text rest
   name_cut = cut_at text name rest h.cut
 
-  named_on : part level b text ≡ named_variable level (length name) text
-  named_on = part-dollar level b text (eq-eqb b 36 e) ∙ dollar-named level text (name_first text longer) (lt-ltb 0 (name_length 0 text) longer) ∙ ap (λ n. named_variable level n text) h.longest
+  pub named_on : part level b text ≡ named_variable level (length name) text
+  named_on = part-dollar level b text (eq-eqb b 36 e) ∙ dollar-named level text (name_first text longer) (lt-ltb 0 (name_length 0 text) longer) ∙ ap (λ n. named_variable level n text) size
 
   name_front : take (length name) text ≡ name
   name_front = front (length name) text name rest h.cut name_cut
@@ -202,7 +206,7 @@ pub begins-length : (c : ℕ) (text : List ℕ) → begins c text ≡ true → 0
 begins-length c [] e = cc
 begins-length c (b ∷ text) e = omega arith
 
-expands_length : (text : List ℕ) → expands text ≡ true → 3 ≤ length text
+pub expands_length : (text : List ℕ) → expands text ≡ true → 3 ≤ length text
 expands_length text e =
     let last = (and_both (begins 125 (drop 2 text)) _ (and_both (begins 123 text && begins 42 (drop 1 text)) _ e).1).0 in
     omega (arith, begins-length 125 (drop 2 text) last, length-drop 2 text)
@@ -263,7 +267,7 @@ commands_more depth text start next rest ws s e shorter r cs =
 
 -- ---- a word has a byte ----
 
-separates-some : (place : Place) (text : List ℕ) → separates place text ≡ false → 0 < length text
+pub separates-some : (place : Place) (text : List ℕ) → separates place text ≡ false → 0 < length text
 separates-some place [] e = cc
 separates-some place (b ∷ text) e = omega arith
 
@@ -310,7 +314,7 @@ mutual
   part_read (braced_part {depth} {b} {c} {d} {text} {rest} {part = p} name e f g h k m) = brace_read depth b c d text name rest p e f g h k m
   part_read (dollar_part {depth} {b} {text} e f g) = record {
     n = 0;
-    read = part-dollar (level depth) b text (eq-eqb b 36 e) ∙ dollar-itself (level depth) text f (ap (nat_lt 0) g);
+    read = part-dollar (level depth) b text (eq-eqb b 36 e) ∙ dollar-itself (level depth) text f (ap (nat_lt 0) (none-named text g));
     cut = cut_none text;
   }
 

@@ -18,6 +18,7 @@ use Rattle.tt_script.specs.declared.command.Place.TheVariants as places
 use Rattle.tt_script.specs.declared.command.Ending.{Ending}
 use Rattle.tt_script.specs.declared.command.Ending.TheVariants as endings
 use Rattle.tt_script.proofs.IntoCuts.{gap_is, gap_end-none, skipped_is, skipped_end-none, drop_none, or_both}
+use Rattle.tt_script.proofs.NameCuts.{name_is, named-none}
 use Rattle.tt_script.proofs.Naming.{name-letter, name-colons, name-none}
 use Rattle.tt_script.proofs.Readers.{braced-closed, braced-after, braced-open}
 use Rattle.tt_script.proofs.PartSteps.{index-too_deep, brackets-too_deep, index-deeper, dollar-braced, dollar-named, dollar-itself, named-element, named-variable, part-dollar, part-brackets, part-escape, part-letter, parts-end, parts-part, parts-fault}
@@ -26,13 +27,13 @@ use Rattle.tt_script.proofs.FromGrammar.{mapped-takes, word_parts_some}
 
 -- ---- reads that answer ----
 
-takes-value : {A : Type 0} {v w : A} {m n : ℕ} → takes v m ≡ takes w n → v ≡ w
+pub takes-value : {A : Type 0} {v w : A} {m n : ℕ} → takes v m ≡ takes w n → v ≡ w
 takes-value e = cc
 
 pub takes-count : {A : Type 0} {v w : A} {m n : ℕ} → takes v m ≡ takes w n → m ≡ n
 takes-count e = cc
 
-no_takes : {A : Type 0} {fault : ParseFault} {v : A} {n : ℕ} → fails fault ≡ takes v n → ⊥
+pub no_takes : {A : Type 0} {fault : ParseFault} {v : A} {n : ℕ} → fails fault ≡ takes v n → ⊥
 no_takes e = cc
 
 and_then-takes : {A B : Type 0} (r : Read A) (f : A → ℕ → Read B) (v : B) (n : ℕ) → and_then r f ≡ takes v n → (w : A) × (m : ℕ) × (r ≡ takes w m) × (f w m ≡ takes v n)
@@ -51,7 +52,7 @@ begins-cons c [] e = cc
 begins-cons c (b ∷ text) e = (b, eqb-true b c e, refl)
 
 -- a place with a byte, and the text after it
-byte_at : (n c : ℕ) (text : List ℕ) → begins c (drop n text) ≡ true → (d : ℕ) × (d ≡ c) × (drop n text ≡ d ∷ drop (n + 1) text)
+pub byte_at : (n c : ℕ) (text : List ℕ) → begins c (drop n text) ≡ true → (d : ℕ) × (d ≡ c) × (drop n text ≡ d ∷ drop (n + 1) text)
 byte_at n c text e =
     let b = begins-cons c (drop n text) e in
     (b.0, b.1, b.2 ∙ ap (λ t. b.0 ∷ t) (drop-drop 1 n text))
@@ -70,13 +71,13 @@ name_within zero (b ∷ text) h = go (is_name_byte b) ((b == 58) && begins 58 te
 -- ---- what `$` begins ----
 
 -- the name that is read is the longest, and isn't empty
-named_is : (text : List ℕ) → nat_lt 0 (name_length 0 text) ≡ true → IsNamed text (take (name_length 0 text) text) (drop (name_length 0 text) text)
+pub named_is : (text : List ℕ) → nat_lt 0 (name_length 0 text) ≡ true → IsNamed text (take (name_length 0 text) text) (drop (name_length 0 text) text)
 named_is text e =
     let n : ℕ = name_length 0 text in
     let size : length (take n text) ≡ n = omega (arith, length-take n text, name_within 0 text (omega arith)) in
     record {
       cut = joined n text;
-      longest = sym size;
+      longest = name_is 0 text;
       some = λ none_left. no_length (take n text) none_left (omega (arith, size, ltb-true 0 n e));
     }
   where
@@ -127,23 +128,23 @@ braced_is depth b c text p n e f r = go (nat_lt m (length text)) refl
 
 -- ---- a level in ----
 
-parts-passes_one : (level : Level) (ending : Ending) (k b : ℕ) (text : List ℕ) → parts level ending (suc k) (b ∷ text) ≡ after 1 (parts level ending k text)
+pub parts-passes_one : (level : Level) (ending : Ending) (k b : ℕ) (text : List ℕ) → parts level ending (suc k) (b ∷ text) ≡ after 1 (parts level ending k text)
 unfolding parts
 parts-passes_one level ending k b text = refl
 
-words-passes_one : (place : Place) (level : Level) (k b : ℕ) (text : List ℕ) → words place level (suc k) (b ∷ text) ≡ after 1 (words place level k text)
+pub words-passes_one : (place : Place) (level : Level) (k b : ℕ) (text : List ℕ) → words place level (suc k) (b ∷ text) ≡ after 1 (words place level k text)
 unfolding words
 words-passes_one place level k b text = refl
 
-commands-passes_one : (level : Level) (k b : ℕ) (text : List ℕ) → commands level (suc k) (b ∷ text) ≡ after 1 (commands level k text)
+pub commands-passes_one : (level : Level) (k b : ℕ) (text : List ℕ) → commands level (suc k) (b ∷ text) ≡ after 1 (commands level k text)
 unfolding commands
 commands-passes_one level k b text = refl
 
-commands-none : (level : Level) (k : ℕ) → commands level k [] ≡ fails CloseBracket
+pub commands-none : (level : Level) (k : ℕ) → commands level k [] ≡ fails CloseBracket
 unfolding commands
 commands-none level k = refl
 
-parts-none : (level : Level) (ending : Ending) (k : ℕ) → parts level ending k [] ≡ after k (parts_at_end ending)
+pub parts-none : (level : Level) (ending : Ending) (k : ℕ) → parts level ending k [] ≡ after k (parts_at_end ending)
 unfolding parts
 parts-none level ending k = refl
 
@@ -160,7 +161,7 @@ pub record Sound (depth : ℕ) : Type 0 where
   pub index : (text : List ℕ) (value : PlainParts) (n : ℕ) → (level depth).index text ≡ takes value n → IndexIs depth text value n
   pub brackets : (text inside : List ℕ) (n : ℕ) → (level depth).brackets text ≡ takes inside n → BracketsIs depth text inside n
 
-parts_closed : {depth : ℕ} {ending : Ending} {text rest : List ℕ} {value : PlainParts} → IsParts depth ending text value rest → ends_parts ending rest ≡ true
+pub parts_closed : {depth : ℕ} {ending : Ending} {text rest : List ℕ} {value : PlainParts} → IsParts depth ending text value rest → ends_parts ending rest ≡ true
 parts_closed (parts_end e) = e
 parts_closed (parts_more e p ps w) = parts_closed ps
 
@@ -187,7 +188,7 @@ or_none false q e = (refl, e)
 or_none true q e = cc
 
 -- a word begins where neither a gap nor a terminator stands
-word_begins : (place : Place) (text : List ℕ) → begins_gap text ≡ false → ends_command place text ≡ false → separates place text ≡ false
+pub word_begins : (place : Place) (text : List ℕ) → begins_gap text ≡ false → ends_command place text ≡ false → separates place text ≡ false
 word_begins place [] e f = cc
 word_begins place (b ∷ text) e f =
     let both = or_none (is_blank b) (continues_line b text) e in
@@ -205,7 +206,7 @@ script_begins (b ∷ text) e h =
     white_newline : (b : ℕ) → b ≡ 10 → is_white_space b ≡ false → ⊥
     white_newline b same white = let true_here : is_white_space b ≡ true = ap is_white_space same in cc
 
-command_begins : (text : List ℕ) → begins_skipped text ≡ false → begins 93 text ≡ false → 0 < length text → separates places.Brackets text ≡ false
+pub command_begins : (text : List ℕ) → begins_skipped text ≡ false → begins 93 text ≡ false → 0 < length text → separates places.Brackets text ≡ false
 command_begins [] e f h = absurd (omega arith)
 command_begins (b ∷ text) e f h =
     let outer = or_none ((is_white_space b || b == 59) || continues_line b text) (b == 35) e in
@@ -235,7 +236,7 @@ module _ (depth : ℕ) (sound : Sound depth) where
       go false false w f g h =
           let same = sym (dollar-itself (level depth) text f g) ∙ r in
           let none_named : k ≡ 0 = omega (arith, ltb-false 0 k g) in
-          subst (λ j. IsPart depth (b ∷ text) p (drop j text)) (takes-count same) (subst (λ q. IsPart depth (b ∷ text) q text) (takes-value same) (dollar_part e f none_named))
+          subst (λ j. IsPart depth (b ∷ text) p (drop j text)) (takes-count same) (subst (λ q. IsPart depth (b ∷ text) q text) (takes-value same) (dollar_part e f (named-none text none_named)))
       go false true false f g h =
           let same = sym (dollar-named (level depth) text f g ∙ named-variable (level depth) text k h) ∙ r in
           subst (λ j. IsPart depth (b ∷ text) p (drop j text)) (takes-count same) (subst (λ q. IsPart depth (b ∷ text) q (drop k text)) (takes-value same) (variable_part e (named_is text g) h))
@@ -245,7 +246,7 @@ module _ (depth : ℕ) (sound : Sound depth) where
           let count : k + 1 + (found.1 - (k + 1)) + 1 ≡ n = omega (arith, read.1, takes-count found.3) in
           subst (λ j. IsPart depth (b ∷ text) p (drop j text)) count (subst (λ q. IsPart depth (b ∷ text) q (drop (k + 1 + (found.1 - (k + 1)) + 1) text)) (takes-value found.3) (element_is depth b text found.0 (found.1 - (k + 1)) k e (named_is text g) h (sound.index (drop (k + 1) text) found.0 (found.1 - (k + 1)) read.0)))
 
-  part_is : (b : ℕ) (text : List ℕ) (p : PlainPart) (n : ℕ) → part (level depth) b text ≡ takes p n → IsPart depth (b ∷ text) p (drop n text)
+  pub part_is : (b : ℕ) (text : List ℕ) (p : PlainPart) (n : ℕ) → part (level depth) b text ≡ takes p n → IsPart depth (b ∷ text) p (drop n text)
   part_is b text p n r = go (b == 36) (b == 91) (b == 92) refl refl refl
     where
       go : (u v w : Bool) → (b == 36) ≡ u → (b == 91) ≡ v → (b == 92) ≡ w → IsPart depth (b ∷ text) p (drop n text)
@@ -260,7 +261,7 @@ module _ (depth : ℕ) (sound : Sound depth) where
           let same = sym (part-letter (level depth) b text e f g) ∙ r in
           subst (λ j. IsPart depth (b ∷ text) p (drop j text)) (takes-count same) (subst (λ q. IsPart depth (b ∷ text) q text) (takes-value same) (byte_part (eqb-false b 36 e) (eqb-false b 91 f) (eqb-false b 92 g)))
 
-  parts_is : (ending : Ending) (k : ℕ) (text : List ℕ) (value : PlainParts) (n : ℕ) → parts (level depth) ending k text ≡ takes value n → IsParts depth ending (drop k text) value (drop n text)
+  pub parts_is : (ending : Ending) (k : ℕ) (text : List ℕ) (value : PlainParts) (n : ℕ) → parts (level depth) ending k text ≡ takes value n → IsParts depth ending (drop k text) value (drop n text)
   parts_is ending k [] value n r = at_all ending (sym (parts-none (level depth) ending k) ∙ r)
     where
       at_all : (e : Ending) → after k (parts_at_end e) ≡ takes value n → IsParts depth e (drop k []) value (drop n [])
@@ -336,7 +337,7 @@ module _ (depth : ℕ) (sound : Sound depth) where
           subst (λ j. IsWordParts depth place (b ∷ text) value (drop j (b ∷ text))) count (brace_is place b text value (n - 1) (eqb-true b 123 f) read.0)
       go false false e f = bare e f (parts_is (endings.Word place) 0 (b ∷ text) value n (sym (parts-bare place (level depth) (b ∷ text) e f) ∙ r))
 
-  word_is : (place : Place) (text : List ℕ) (w : PlainWord) (n : ℕ) → separates place text ≡ false → word place (level depth) text ≡ takes w n → IsWord depth place text w (drop n text) × (0 < n)
+  pub word_is : (place : Place) (text : List ℕ) (w : PlainWord) (n : ℕ) → separates place text ≡ false → word place (level depth) text ≡ takes w n → IsWord depth place text w (drop n text) × (0 < n)
   word_is place text w n h r = go (expands text) refl
     where
       go : (v : Bool) → expands text ≡ v → IsWord depth place text w (drop n text) × (0 < n)
@@ -349,7 +350,7 @@ module _ (depth : ℕ) (sound : Sound depth) where
           let inner = mapped-takes (made false) (word_parts place (level depth) text) w n (sym (word-plain place (level depth) text e) ∙ r) in
           (subst (λ q. IsWord depth place text q (drop n text)) inner.2 (whole_word h e (word_parts_is place text inner.0 n inner.1)), word_parts_some place (level depth) text inner.0 n h inner.1)
 
-  words_is : (place : Place) (k : ℕ) (text : List ℕ) (ws : List PlainWord) (n : ℕ) → separates place (drop k text) ≡ false → words place (level depth) k text ≡ takes ws n → IsWords depth place (drop k text) ws (drop n text) × (k < n)
+  pub words_is : (place : Place) (k : ℕ) (text : List ℕ) (ws : List PlainWord) (n : ℕ) → separates place (drop k text) ≡ false → words place (level depth) k text ≡ takes ws n → IsWords depth place (drop k text) ws (drop n text) × (k < n)
   words_is place k [] ws n h r = let here : separates place [] ≡ false = ap (separates place) (sym (drop_none k)) ∙ h in cc
   words_is place (suc k) (b ∷ text) ws n h r =
       let read = after-takes 1 n (words place (level depth) k text) ws (sym (words-passes_one place (level depth) k b text) ∙ r) in
@@ -387,7 +388,7 @@ module _ (depth : ℕ) (sound : Sound depth) where
 
   -- ---- commands ----
 
-  commands_is : (k : ℕ) (text : List ℕ) (n : ℕ) → commands (level depth) k text ≡ takes tt n → IsCommands depth (drop k text) (drop n text) × (begins 93 (drop n text) ≡ true)
+  pub commands_is : (k : ℕ) (text : List ℕ) (n : ℕ) → commands (level depth) k text ≡ takes tt n → IsCommands depth (drop k text) (drop n text) × (begins 93 (drop n text) ≡ true)
   commands_is k [] n r = absurd (no_takes (sym (commands-none (level depth) k) ∙ r))
   commands_is (suc k) (b ∷ text) n r =
       let read = after-takes 1 n (commands (level depth) k text) tt (sym (commands-passes_one (level depth) k b text) ∙ r) in

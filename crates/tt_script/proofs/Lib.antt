@@ -4,12 +4,16 @@ pub mod CommandSteps
 pub mod Cuts
 pub mod Escapes
 pub mod Exits
+pub mod FaultLaw
 pub mod FirstLaw
 pub mod FirstSteps
+pub mod FromFaults
 pub mod FromGrammar
 pub mod IntoCuts
+pub mod IntoFaults
 pub mod IntoGrammar
 pub mod Joining
+pub mod NameCuts
 pub mod Naming
 pub mod PartSteps
 pub mod Readers

@@ -12,10 +12,10 @@ use Rattle.tt_script.proofs.Scanning.{unlike, next_special-bounds, begins_at}
 
 -- ---- runs by a test ----
 
-prefix_len-yes : (p : ℕ → Bool) (b : ℕ) (text : List ℕ) → p b ≡ true → prefix_len p (b ∷ text) ≡ 1 + prefix_len p text
+pub prefix_len-yes : (p : ℕ → Bool) (b : ℕ) (text : List ℕ) → p b ≡ true → prefix_len p (b ∷ text) ≡ 1 + prefix_len p text
 prefix_len-yes p b text e = rw e
 
-prefix_len-no : (p : ℕ → Bool) (b : ℕ) (text : List ℕ) → p b ≡ false → prefix_len p (b ∷ text) ≡ 0
+pub prefix_len-no : (p : ℕ → Bool) (b : ℕ) (text : List ℕ) → p b ≡ false → prefix_len p (b ∷ text) ≡ 0
 prefix_len-no p b text e = rw e
 
 module _ (p : ℕ → Bool) (text : List ℕ) (i : ℕ) where

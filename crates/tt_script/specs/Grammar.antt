@@ -1,12 +1,12 @@
 -- The command grammar: how a text is cut into commands, words and parts (Tcl(n)). Each relation says that
 -- `text` begins with something and that `rest` follows it. `depth` brackets and indices may still be opened.
-use Rattle.std.specs.Prelude.{◌≡◌, ◌≢◌, ℕ, suc, ◌+◌, Bool, true, false, ◌||◌, ◌==◌, List, [], ◌∷◌, ◌++◌, length, drop}
+use Rattle.std.specs.Prelude.{◌≡◌, ◌≢◌, ℕ, suc, ◌+◌, Bool, true, false, ◌||◌, ◌&&◌, ◌==◌, List, [], ◌∷◌, ◌++◌, length, drop}
 use Rattle.std.specs.List.{position_or_len}
 use Rattle.tt_text.specs.Characters.{is_white_space, is_blank}
 use Rattle.tt_text.specs.Backslash.{backslash}
 use Rattle.tt_text.specs.Braces.{IsBalanced}
 use Rattle.tt_script.specs.Words.{PlainPart, letters, variable, element, script, PlainParts, none, with_part, PlainWord, PlainCommand}
-use Rattle.tt_script.specs.Reading.{most_open, begins, continues_line, separates, ends_command, ends_parts, expands, letters_of, joined_lines, name_length, named}
+use Rattle.tt_script.specs.Reading.{most_open, begins, continues_line, separates, ends_command, ends_parts, expands, letters_of, joined_lines, is_name_byte, named}
 use Rattle.tt_script.specs.declared.command.Place.{Place}
 use Rattle.tt_script.specs.declared.command.Place.TheVariants as places
 use Rattle.tt_script.specs.declared.command.Ending.{Ending}
@@ -46,13 +46,31 @@ pub data IsSkipped : List ℕ → List ℕ → Type 0 where
   skip_line : {b c : ℕ} {text rest : List ℕ} → b ≡ 92 → c ≡ 10 → IsSkipped text rest → IsSkipped (b ∷ c ∷ text) rest
   skip_comment : {b : ℕ} {text end rest : List ℕ} → b ≡ 35 → IsComment text end → IsSkipped end rest → IsSkipped (b ∷ text) rest
 
--- ---- parts, words and scripts ----
+-- ---- names of variables ----
 
--- the name is all of the text that can be one, and isn't empty (rule 8)
+-- whether a byte of a name or two colons stand at the front
+abbrev pub begins_name : List ℕ → Bool
+begins_name [] = false
+begins_name (b ∷ text) = is_name_byte b || (b == 58 && begins 58 text)
+
+-- all the colons at the front
+pub data IsColons : List ℕ → List ℕ → Type 0 where
+  colons_end : {rest : List ℕ} → begins 58 rest ≡ false → IsColons rest rest
+  colons_more : {b : ℕ} {text rest : List ℕ} → b ≡ 58 → IsColons text rest → IsColons (b ∷ text) rest
+
+-- a longest name: letters, digits, underscores, and runs of two or more colons (rule 8)
+pub data IsName : List ℕ → List ℕ → Type 0 where
+  name_ends : {rest : List ℕ} → begins_name rest ≡ false → IsName rest rest
+  name_byte : {b : ℕ} {text rest : List ℕ} → is_name_byte b ≡ true → IsName text rest → IsName (b ∷ text) rest
+  name_colons : {b c : ℕ} {text middle rest : List ℕ} → b ≡ 58 → c ≡ 58 → IsColons text middle → IsName middle rest → IsName (b ∷ c ∷ text) rest
+
+-- the text begins with this longest name, which isn't empty (rule 8)
 pub record IsNamed (text name rest : List ℕ) : Type 0 where
   pub cut : text ≡ name ++ rest
-  pub longest : name_length 0 text ≡ length name
+  pub longest : IsName text rest
   pub some : name ≢ []
+
+-- ---- parts, words and scripts ----
 
 mutual
   -- a part of a word (rules 7 to 9)
@@ -70,7 +88,7 @@ mutual
     -- ${name}, up to the next brace (rule 8)
     braced_part : {depth b c d : ℕ} {text rest : List ℕ} {part : PlainPart} (name : List ℕ) → b ≡ 36 → c ≡ 123 → d ≡ 125 → text ≡ name ++ (d ∷ rest) → position_or_len (λ x. x == 125) name ≡ length name → part ≡ named name → IsPart depth (b ∷ c ∷ text) part rest
     -- a `$` before anything else is itself (rule 8)
-    dollar_part : {depth b : ℕ} {text : List ℕ} → b ≡ 36 → begins 123 text ≡ false → name_length 0 text ≡ 0 → IsPart depth (b ∷ text) (letters (36 ∷ [])) text
+    dollar_part : {depth b : ℕ} {text : List ℕ} → b ≡ 36 → begins 123 text ≡ false → begins_name text ≡ false → IsPart depth (b ∷ text) (letters (36 ∷ [])) text
 
   -- parts up to what ends them, substituted from left to right (rule 11)
   pub data IsParts : ℕ → Ending → List ℕ → PlainParts → List ℕ → Type 0 where

@@ -3,6 +3,7 @@ use Rattle.std.specs.Prelude.{◌≡◌, ℕ, ◌↔◌, List, []}
 use Rattle.tt_script.specs.Words.{PlainCommand, nothing, bad, command}
 use Rattle.tt_script.specs.Reading.{first}
 use Rattle.tt_script.specs.Grammar.{IsSkipped, IsFirst}
+use Rattle.tt_script.specs.FaultGrammar.{IsFirstFault}
 use Rattle.tt_script.specs.declared.command.ParseFault.{ParseFault}
 
 -- a command is read exactly where the grammar has one, and that one
@@ -16,3 +17,7 @@ NothingLaw = (text : List ℕ) → (first text ≡ nothing) ↔ IsSkipped text [
 -- a fault is met exactly where the grammar has no command and the text isn't skipped whole
 abbrev pub FaultLaw : Type 0
 FaultLaw = (text : List ℕ) → ((fault : ParseFault) × (place : ℕ) × (first text ≡ bad fault place)) ↔ (((c : PlainCommand) → IsFirst text c → ⊥) × (IsSkipped text [] → ⊥))
+
+-- the fault is the first from the left, and its place is where the command begins
+abbrev pub FirstFaultLaw : Type 0
+FirstFaultLaw = (text : List ℕ) (fault : ParseFault) (place : ℕ) → (first text ≡ bad fault place) ↔ IsFirstFault text fault place

@@ -1,5 +1,6 @@
 pub mod Answers
 pub mod Building
+pub mod FaultGrammar
 pub mod Grammar
 pub mod Law
 pub mod Plain

@@ -1,10 +1,12 @@
 //! What the definitions that other crates cite say together. Nothing runs here.
-ghost use Rattle.tt_script.specs.Law.{CommandLaw, NothingLaw, FaultLaw};
+ghost use Rattle.tt_script.specs.Law.{CommandLaw, NothingLaw, FaultLaw, FirstFaultLaw};
 
 /// The function that `first_command` answers by is the command grammar of Tcl(n): it has a command
-/// exactly where the grammar cuts one off, and that one, and a fault exactly where no cut is possible.
+/// exactly where the grammar cuts one off, and that one, and a fault exactly where no cut is possible:
+/// the one that is met first from the left, with the place of the command's first byte.
 pub fn grammar_law()
     ensures command { CommandLaw }
     ensures nothing { NothingLaw }
     ensures fault { FaultLaw }
+    ensures first_fault { FirstFaultLaw }
 {}

@@ -7,7 +7,7 @@ use tt_text::{NoMemory, Text};
 /// A text, a place in it, and what stands there: the three places of a command and its words, each
 /// after a `|`, or the fault. A word that expands begins with `{*}`; a variable is shown after `$`, a
 /// script in brackets.
-const ROWS: [(&str, usize, &str); 76] = [
+const ROWS: [(&str, usize, &str); 83] = [
     ("puts hi; x", 0, "0 7 8|puts|hi"),
     ("# c\nputs hi", 0, "4 11 11|puts|hi"),
     ("x; puts \"a", 2, "CloseQuote 3"),
@@ -52,6 +52,13 @@ const ROWS: [(&str, usize, &str); 76] = [
     ("[] x", 0, "0 4 4|[]|x"),
     ("a]b ]", 0, "0 5 5|a]b|]"),
     ("{a}]", 0, "AfterBrace 0"),
+    ("{a}b \"c", 0, "AfterBrace 0"),
+    ("\"a\"b {c", 0, "AfterQuote 0"),
+    ("[a \"b\"c {d]", 0, "AfterQuote 0"),
+    ("\"x [y", 0, "CloseBracket 0"),
+    ("$a([b", 0, "CloseBracket 0"),
+    ("a [b $c(d]", 0, "CloseParen 0"),
+    ("\"${a\"", 0, "VariableBrace 0"),
     ("${a b} c", 0, "0 8 8|$a b|c"),
     ("${a(b)}", 0, "0 7 7|$a(b)"),
     ("${a(b}", 0, "0 6 6|$a(b"),
