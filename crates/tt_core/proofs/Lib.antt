@@ -4,3 +4,4 @@ pub mod ServingLemmas
 pub mod StepLemmas
 pub mod RunLemmas
 pub mod StandLemmas
+pub mod RefusalLemmas

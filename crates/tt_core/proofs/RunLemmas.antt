@@ -111,7 +111,7 @@ can-try machine script crew thread at (inr can) = rw can.1 (server-can machine s
 
 -- ---- the machine can't step ----
 
-past-end : {X : Type 0} (items : List X) (place : ℕ) → slice_get items place ≡ None → length items ≤ place
+pub past-end : {X : Type 0} (items : List X) (place : ℕ) → slice_get items place ≡ None → length items ≤ place
 past-end [] place none = omega arith
 past-end (item ∷ items) zero none = absurd (cc none)
 past-end (item ∷ items) (suc place) none = omega (arith, past-end items place none)
@@ -136,15 +136,18 @@ main-cannot machine script crew left actions.Other at (inr next) none =
     let send = script-send (length crew.servers) at.creates at.commands crew.main next.does.0 next.does.1 next.rest at.plain (command-is crew.main actions.Other left (plain.Send next.does.0 next.does.1) next next.does.2) in
     next.does.3 send.number (omega (arith, send.large), omega (arith, send.few, at.few)) send.is
 
+-- it has no command and no event
+pub server-idle : (machine : Machine) (script : List ℕ) (crew : Crew) (place : ℕ) (server : Serving) → IsAt machine script crew → slice_get crew.servers place ≡ Some server → first server.left ≡ Nothing → server.queue ≡ [] → step machine (suc (suc place)) ≡ None
+server-idle machine script crew place server at there e none =
+    let one = serving-at at.rows at.others crew.servers place server at.serving there in
+    let there_row : of_thread machine.shared.threads (suc (suc place)) ≡ Some one.thread = rw at.threads one.thread_there in
+    step-disabled machine (suc (suc place)) Take (asked-server machine script crew place server at there ∙ ap (request_or Take) e) (ap has_event there_row ∙ no-event one.thread.queue (one.is.queue ∙ none)) at.over
+
 server-cannot : (machine : Machine) (script : List ℕ) (crew : Crew) (place : ℕ) → IsAt machine script crew → ServerAtCannot crew place → step machine (suc (suc place)) ≡ None
 server-cannot machine script crew place at cannot = go (slice_get crew.servers place) refl
   where
     read-cannot : (server : Serving) (read : First) → slice_get crew.servers place ≡ Some server → first server.left ≡ read → ¬ (IsBusyWith read server.queue) → step machine (suc (suc place)) ≡ None
-    read-cannot server Nothing there e idle =
-        let one = serving-at at.rows at.others crew.servers place server at.serving there in
-        let there_row : of_thread machine.shared.threads (suc (suc place)) ≡ Some one.thread = rw at.threads one.thread_there in
-        let none : server.queue ≡ [] = empty server.queue idle in
-        step-disabled machine (suc (suc place)) Take (asked-server machine script crew place server at there ∙ ap (request_or Take) e) (ap has_event there_row ∙ no-event one.thread.queue (one.is.queue ∙ none)) at.over
+    read-cannot server Nothing there e idle = server-idle machine script crew place server at there e (empty server.queue idle)
     read-cannot server (Found command rest) there e idle =
         let one = serving-at at.rows at.others crew.servers place server at.serving there in
         let next = puts-next one.is.commands server.left command rest one.is.plain e in

@@ -32,26 +32,30 @@ run-more : (beginning : Beginning) (threads : List ℕ) (thread : ℕ) (machine 
 unfolding run
 run-more beginning threads thread machine ran = rw (run_from-more (start_machine beginning) threads thread, ran) refl
 
+-- main alone is at the start of its script
+pub begins-at : (beginning : Beginning) → IsPlain beginning.script → IsAt (start_machine beginning) beginning.script (record { main = beginning.script; servers = [] })
+begins-at beginning plain = record {
+  over = refl;
+  rows = [];
+  before = [];
+  others = [];
+  threads = refl;
+  replies = refl;
+  doing = refl;
+  serving = tt;
+  creates = plain.creates;
+  commands = plain.commands;
+  plain = plain.is;
+  few = omega (arith, plain.few_threads);
+}
+
 -- a system that begins stands at the start
 pub begins : (beginning : Beginning) (out err : Option (List ℕ)) → IsPlain beginning.script → IsStanding beginning [] (record { main = beginning.script; servers = [] }) Running out out err err
 unfolding run
 begins beginning out err plain = record {
   machine = start_machine beginning;
   ran = refl;
-  stands = record {
-    over = refl;
-    rows = [];
-    before = [];
-    others = [];
-    threads = refl;
-    replies = refl;
-    doing = refl;
-    serving = tt;
-    creates = plain.creates;
-    commands = plain.commands;
-    plain = plain.is;
-    few = omega (arith, plain.few_threads);
-  };
+  stands = begins-at beginning plain;
   out = Grows-same out;
   err = Grows-same err;
 }

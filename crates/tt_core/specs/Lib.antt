@@ -1,4 +1,5 @@
 pub mod Machine
+pub mod PlainRuns
 pub mod Stage
 pub mod Standing
 pub mod Steps

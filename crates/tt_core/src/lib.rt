@@ -5,6 +5,7 @@ mod action;
 mod crew;
 mod effect;
 mod fault;
+pub mod laws;
 mod rest;
 mod server;
 mod setup;
