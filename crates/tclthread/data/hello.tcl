@@ -1,2 +1,0 @@
-puts hi
-puts {hello from tclthread}
