@@ -49,10 +49,12 @@ takes Max count = nat_lt 0 count
 takes Min count = nat_lt 0 count
 takes op count = count == 2
 
+-- the first operand
 abbrev pub first : List (List ℕ) → List ℕ
 first [] = []
 first (a ∷ operands) = a
 
+-- the operand after it
 abbrev pub second : List (List ℕ) → List ℕ
 second [] = []
 second (a ∷ []) = []
@@ -60,20 +62,23 @@ second (a ∷ b ∷ operands) = b
 
 -- ---- arithmetic
 
--- an operand that has to be a whole number
+-- an operand that has to be a whole number, or why it is none
 abbrev pub needed : Op → Result ℤ NumberFault → Result ℤ Refusal
 needed op (Ok n) = Ok n
 needed op (Err number.NotWhole) = Err (NotNumeric op)
 needed op (Err number.TooLarge) = Err TooLarge
 needed op (Err number.Float) = Err Float
 
+-- what an operand is read as, where it has to be a whole number (expr(n), Operands)
 unfoldable pub whole_operand : Op → List ℕ → Result ℤ Refusal
 whole_operand op text = needed op (whole_of text)
 
+-- what an operator on numbers gives
 abbrev pub arithmetic : Result ℤ ArithFault → Result ℤ Refusal
 arithmetic (Ok n) = Ok n
 arithmetic (Err fault) = Err (Arith fault)
 
+-- an operator on one number
 abbrev pub with_one : OneOp → Result ℤ Refusal → Result ℤ Refusal
 with_one operator (Ok a) = arithmetic (unary_of operator a)
 with_one operator (Err refusal) = Err refusal
@@ -84,14 +89,17 @@ with_two operator (Err refusal) b = Err refusal
 with_two operator (Ok a) (Err refusal) = Err refusal
 with_two operator (Ok a) (Ok b) = arithmetic (binary_of operator a b)
 
+-- the operators `- + ~`, and the functions abs and int
 abbrev pub on_one_of : Op → OneOp → List (List ℕ) → Result ℤ Refusal
 on_one_of op operator operands = with_one operator (whole_operand op (first operands))
 
+-- the operators `** * / % + - << >> & ^ |`
 abbrev pub on_two_of : Op → NumOp → List (List ℕ) → Result ℤ Refusal
 on_two_of op operator operands = with_two operator (whole_operand op (first operands)) (whole_operand op (second operands))
 
 -- ---- max and min
 
+-- a first operand's number before those of the later ones; the first is tested first
 abbrev pub with_whole : Result ℤ Refusal → Result (List ℤ) Refusal → Result (List ℤ) Refusal
 with_whole (Err refusal) numbers = Err refusal
 with_whole (Ok n) (Err refusal) = Err refusal
@@ -102,6 +110,7 @@ abbrev pub wholes : Op → List (List ℕ) → Result (List ℤ) Refusal
 wholes op [] = Ok []
 wholes op (a ∷ operands) = with_whole (whole_operand op a) (wholes op operands)
 
+-- which of two numbers `min` or `max` gives
 abbrev pub picked : Op → ℤ → ℤ → ℤ
 picked Min a b = ord_min int_cmp a b
 picked op a b = ord_max int_cmp a b
@@ -119,10 +128,12 @@ abbrev pub told : Bool → ℤ
 told true = pos 1
 told false = pos 0
 
+-- the operator `in`, by whether the operand is an item
 abbrev pub told_if : Result Bool Refusal → Result ℤ Refusal
 told_if (Ok truth) = Ok (told truth)
 told_if (Err refusal) = Err refusal
 
+-- the operator `ni`, likewise
 abbrev pub told_unless : Result Bool Refusal → Result ℤ Refusal
 told_unless (Ok truth) = Ok (told (not truth))
 told_unless (Err refusal) = Err refusal
@@ -134,6 +145,7 @@ compared (Err number.NotWhole) = Ok None
 compared (Err number.TooLarge) = Err TooLarge
 compared (Err number.Float) = Err Float
 
+-- what an operand of a comparison is read as
 unfoldable pub comparand : List ℕ → Result (Option ℤ) Refusal
 comparand text = compared (whole_of text)
 
@@ -143,6 +155,7 @@ order_by (Some a) (Some b) texts = int_cmp a b
 order_by (Some a) None texts = texts
 order_by None b texts = texts
 
+-- the left operand is tested first
 abbrev pub order_with : Result (Option ℤ) Refusal → Result (Option ℤ) Refusal → Ordering → Result Ordering Refusal
 order_with (Err refusal) b texts = Err refusal
 order_with (Ok a) (Err refusal) texts = Err refusal
@@ -152,16 +165,20 @@ order_with (Ok a) (Ok b) texts = Ok (order_by a b texts)
 abbrev pub order_of : List (List ℕ) → Result Ordering Refusal
 order_of operands = order_with (comparand (first operands)) (comparand (second operands)) (slice_cmp nat_cmp (first operands) (second operands))
 
+-- one of `< > <= >= == !=`, by the orders at which it holds
 abbrev pub test_order : (Ordering → Bool) → Result Ordering Refusal → Result ℤ Refusal
 test_order test (Ok order) = Ok (told (test order))
 test_order test (Err refusal) = Err refusal
 
+-- whether two operands are the same text, by their bytes
 abbrev pub is_same_text : List (List ℕ) → Bool
 is_same_text operands = bytes_eq (first operands) (second operands)
 
+-- whether a text is one of the items
 abbrev pub is_item : List ℕ → List (List ℕ) → Bool
 is_item text items = list_any (λ item. bytes_eq item text) items
 
+-- by what the list is split into
 abbrev pub is_member_by : List ℕ → Split → Result Bool Refusal
 is_member_by text (Items items) = Ok (is_item text items)
 is_member_by text (Bad fault) = Err (NotList fault)
@@ -172,6 +189,7 @@ is_member_of operands = is_member_by (first operands) (split_of (second operands
 
 -- ---- boolean values
 
+-- whether a text is this word, in any ASCII case
 abbrev pub is_word : List ℕ → List ℕ → Bool
 is_word text word = str_eq_ignore_ascii_case text word
 
@@ -181,6 +199,7 @@ boolean_word text =
     if is_word text (codes "true") || is_word text (codes "yes") || is_word text (codes "on") then Some true else
     if is_word text (codes "false") || is_word text (codes "no") || is_word text (codes "off") then Some false else None
 
+-- by what a text is read as as a number
 abbrev pub boolean_by : List ℕ → Result ℤ NumberFault → Option Bool
 boolean_by text (Ok n) = Some (not (unsigned_abs n == 0))
 boolean_by text (Err fault) = boolean_word text
@@ -189,16 +208,18 @@ boolean_by text (Err fault) = boolean_word text
 unfoldable pub boolean_of : List ℕ → Option Bool
 boolean_of text = boolean_by text (whole_of text)
 
+-- the operator `!`, by the boolean value of its operand
 abbrev pub negated : List ℕ → Option Bool → Result ℤ Refusal
 negated text (Some truth) = Ok (told (not truth))
 negated text None = Err (NotBoolean text)
 
+-- the operator `!` (expr(n), Operators)
 abbrev pub negation_of : List (List ℕ) → Result ℤ Refusal
 negation_of operands = negated (first operands) (boolean_of (first operands))
 
 -- ---- operators
 
--- what an operator gives: a whole number, or why there is none
+-- what an operator or a function gives: a whole number, or why there is none (expr(n), Operators; mathfunc(n))
 abbrev pub answer_of : Op → List (List ℕ) → Result ℤ Refusal
 answer_of Neg t = on_one_of Neg one.Neg t
 answer_of Plus t = on_one_of Plus one.Plus t
@@ -229,7 +250,7 @@ answer_of Abs t = on_one_of Abs one.Abs t
 answer_of Int t = on_one_of Int one.Plus t
 answer_of Max t = extreme_of Max (wholes Max t)
 answer_of Min t = extreme_of Min (wholes Min t)
--- the lazy operators are not applied
+-- a lazy operator is never applied
 answer_of op t = Ok (pos 0)
 
 -- a number in decimal, or the message of the error, which begins its trace

@@ -44,12 +44,14 @@ sign_of Int = codes "int"
 sign_of Max = codes "max"
 sign_of Min = codes "min"
 
+-- why numbers have no result
 abbrev pub arith_message : ArithFault → List ℕ
 arith_message Overflow = codes "integer overflow"
 arith_message DivideByZero = codes "divide by zero"
 arith_message NegativeShift = codes "negative shift argument"
 arith_message ZeroPower = codes "exponentiation of zero by negative power"
 
+-- why a text is no list (Tcl(n), lists)
 abbrev pub list_message : ListFault → List ℕ
 list_message OpenBrace = codes "unmatched open brace in list"
 list_message OpenQuote = codes "unmatched open quote in list"
