@@ -11,6 +11,7 @@ pub mod IntoCuts
 pub mod IntoGrammar
 pub mod Joining
 pub mod Naming
+pub mod OperandSteps
 pub mod PartSteps
 pub mod Readers
 pub mod Runs

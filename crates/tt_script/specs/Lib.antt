@@ -2,6 +2,7 @@ pub mod Answers
 pub mod Building
 pub mod Grammar
 pub mod Law
+pub mod Operands
 pub mod Plain
 pub mod Reading
 pub mod Scanning

@@ -1,0 +1,6 @@
+pub mod Parsing
+pub mod Plain
+pub mod Precedence
+pub mod Stacks
+pub mod Tokens
+pub mod Trees
