@@ -1,3 +1,4 @@
+pub mod Cutting
 pub mod Parsing
 pub mod Plain
 pub mod Precedence

@@ -1,6 +1,6 @@
 -- How the tokens of an expression make a tree (expr(n), OPERATORS): an operator waits for its right
 -- operand until something comes that binds less tightly.
-use Rattle.std.specs.Prelude.{ℕ, suc, ◌+◌, Bool, true, false, not, nat_lt, max, List, [], ◌∷◌, ◌++◌, foldl, Option, Some, None, codes}
+use Rattle.std.specs.Prelude.{ℕ, suc, ◌+◌, Bool, true, false, not, nat_lt, max, List, [], ◌∷◌, ◌++◌, fold, Option, Some, None, codes}
 use Rattle.tt_exprs.specs.Trees.{PlainExpr, node, PlainExprs, none, more, PlainParsed, tree, bad}
 use Rattle.tt_exprs.specs.Precedence.{binding, level, left_level}
 use Rattle.tt_exprs.specs.Tokens.{PlainToken, operand, operator, function, opening, closing, comma, colon, Tokens, read, refused_word, stopped, tokens}
@@ -53,8 +53,8 @@ applied op too_deep_row = too_deep
 -- ---- what waits for an operand ----
 
 pub data PlainPending : Type 0 where
-  prefix : Op → PlainPending  -- an operator before its operand
-  infix : Op → PlainValue → PlainPending  -- a left operand and an operator
+  unary : Op → PlainPending  -- an operator before its operand
+  binary : Op → PlainValue → PlainPending  -- a left operand and an operator
   test : PlainValue → PlainPending  -- what stands before a `?`
   branch : PlainValue → PlainValue → PlainPending  -- what stands before a `?`, and what before its `:`
   parenthesis : PlainPending
@@ -74,18 +74,18 @@ reaches bound (Some n) = not (nat_lt n bound)
 
 -- whether what waits takes an operand before an operator that binds its left operand at this level
 abbrev pub binds : ℕ → PlainPending → Bool
-binds bound (prefix op) = true
-binds bound (infix op left) = reaches bound (level_of op)
-binds bound (branch condition yes) = reaches bound (level_of Choose)
+binds bound (unary op) = true
+binds bound (binary op left) = reaches bound (level_of op)
+binds bound (branch condition chosen) = reaches bound (level_of Choose)
 binds bound (test condition) = false
 binds bound parenthesis = false
 binds bound (arguments op operands) = false
 
 -- what an operator makes with its last operand
 abbrev pub closed : PlainPending → PlainValue → PlainValue
-closed (prefix op) value = applied op (followed_by no_operands value)
-closed (infix op left) value = applied op (followed_by (followed_by no_operands left) value)
-closed (branch condition yes) value = applied Choose (followed_by (followed_by (followed_by no_operands condition) yes) value)
+closed (unary op) value = applied op (followed_by no_operands value)
+closed (binary op left) value = applied op (followed_by (followed_by no_operands left) value)
+closed (branch condition chosen) value = applied Choose (followed_by (followed_by (followed_by no_operands condition) chosen) value)
 closed (test condition) value = value
 closed parenthesis value = value
 closed (arguments op operands) value = value
@@ -126,7 +126,7 @@ as_prefix Not = Some Not
 as_prefix op = None
 
 abbrev pub prefixed : List PlainPending → Option Op → PlainState
-prefixed pending (Some op) = wants_after (prefix op) pending
+prefixed pending (Some op) = wants_after (unary op) pending
 prefixed pending None = wrong
 
 -- a token where an operand is wanted
@@ -147,7 +147,7 @@ at_call op pending token = wrong
 -- an operator with its left operand
 abbrev pub with_left : Op → PlainValue → PlainPending
 with_left Choose value = test value
-with_left op value = infix op value
+with_left op value = binary op value
 
 abbrev pub wants_right : Op → PlainWaiting → PlainState
 wants_right op left = wants_after (with_left op left.value) left.pending
@@ -193,7 +193,7 @@ at_operator waiting closing = let whole = gathered 0 waiting.pending waiting.val
 at_operator waiting comma = let whole = gathered 0 waiting.pending waiting.value in after_comma whole.value whole.pending
 at_operator waiting colon = let whole = gathered 0 waiting.pending waiting.value in after_colon whole.value whole.pending
 
-unfoldable pub step : PlainState → PlainToken → PlainState
+abbrev pub step : PlainState → PlainToken → PlainState
 step (wants pending) token = at_operand pending token
 step (calls op pending) token = at_call op pending token
 step (has waiting) token = at_operator waiting token
@@ -213,7 +213,7 @@ outcome_of too_deep [] = nested_too_deeply
 outcome_of value (first ∷ pending) = malformed
 
 -- what the tokens have come to at their end
-unfoldable pub finished : PlainState → PlainOutcome
+abbrev pub finished : PlainState → PlainOutcome
 finished (has waiting) = let whole = gathered 0 waiting.pending waiting.value in outcome_of whole.value whole.pending
 finished (wants pending) = malformed
 finished (calls op pending) = malformed
@@ -221,7 +221,7 @@ finished wrong = malformed
 
 -- the tree of these tokens
 abbrev pub tree_of : List PlainToken → PlainOutcome
-tree_of ts = finished (foldl step (wants []) ts)
+tree_of ts = finished (fold step (wants []) ts)
 
 -- the messages
 abbrev pub bareword_error : List ℕ → List ℕ

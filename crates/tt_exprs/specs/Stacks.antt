@@ -1,7 +1,7 @@
 -- The plain form of what waits while tokens are read.
 use Rattle.std.specs.Prelude.{ℕ, List, [], ◌∷◌, map, reverse}
 use Rattle.tt_exprs.specs.Plain.{plain_expr}
-use Rattle.tt_exprs.specs.Parsing.{PlainValue, nested, too_deep, PlainRow, row, too_deep_row, PlainPending, prefix, infix, test, branch, parenthesis, arguments, PlainWaiting, PlainState, wants, calls, has, wrong, PlainOutcome, good, malformed, nested_too_deeply}
+use Rattle.tt_exprs.specs.Parsing.{PlainValue, nested, too_deep, PlainRow, row, too_deep_row, PlainPending, unary, binary, test, branch, parenthesis, arguments, PlainWaiting, PlainState, wants, calls, has, wrong, PlainOutcome, good, malformed, nested_too_deeply}
 use Rattle.tt_exprs.specs.declared.values.Value.{Value}
 use Rattle.tt_exprs.specs.declared.values.Value.TheVariants as values
 use Rattle.tt_exprs.specs.declared.values.Row.{Row}
@@ -23,10 +23,10 @@ plain_row (rows.Operands exprs deepest) = row (map plain_expr exprs.items) deepe
 plain_row rows.TooDeep = too_deep_row
 
 abbrev pub plain_pending : Pending → PlainPending
-plain_pending (pendings.Prefix op) = prefix op
-plain_pending (pendings.Infix op left) = infix op (plain_value left)
+plain_pending (pendings.Unary op) = unary op
+plain_pending (pendings.Binary op left) = binary op (plain_value left)
 plain_pending (pendings.Test condition) = test (plain_value condition)
-plain_pending (pendings.Branch condition yes) = branch (plain_value condition) (plain_value yes)
+plain_pending (pendings.Branch condition chosen) = branch (plain_value condition) (plain_value chosen)
 plain_pending pendings.Parenthesis = parenthesis
 plain_pending (pendings.Arguments op operands) = arguments op (plain_row operands)
 

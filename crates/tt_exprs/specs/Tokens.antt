@@ -8,8 +8,8 @@ use Rattle.tt_text.specs.Characters.{is_white_space}
 use Rattle.tt_text.specs.Braces.{matching_brace}
 use Rattle.tt_number.specs.Numerals.{is_hexadecimal_mark, is_octal_mark, is_binary_mark, is_exponent_mark}
 use Rattle.tt_script.specs.Words.{PlainPart, letters, variable, element, script, PlainParts, none, more}
-use Rattle.tt_script.specs.Reading.{Read, takes, fails, begins, joined_lines, part, parts, most_open, level}
-use Rattle.tt_script.specs.declared.command.Ending.TheVariants.{Quote}
+use Rattle.tt_script.specs.Reading.{Read, takes, fails, begins, joined_lines}
+use Rattle.tt_script.specs.Operands.{quoted_text, outer_part}
 use Rattle.tt_exprs.specs.Trees.{PlainExpr, leaf, words}
 use Rattle.tt_exprs.specs.declared.op.Op.{Op}
 use Rattle.tt_exprs.specs.declared.op.Op.TheVariants.{BitNot, Not, Pow, Mul, Div, Mod, Add, Sub, Shl, Shr, Less, Greater, LessEqual, GreaterEqual, Equal, NotEqual, TextEqual, TextNotEqual, Member, NotMember, BitAnd, BitXor, BitOr, And, Or, Choose, Abs, Int, Max, Min}
@@ -228,15 +228,15 @@ of_part (takes part n) = of_one_part part n
 of_part (fails fault) = none_here
 
 -- what stands in quotes, with the text after the first one
-unfoldable pub quoted : List ℕ → Cut
-quoted text = of_quoted (parts (level most_open) Quote 0 text)
+abbrev pub quoted : List ℕ → Cut
+quoted text = of_quoted (quoted_text text)
 
 -- what a `$` or a `[` begins, with the text after it
-unfoldable pub substituted : ℕ → List ℕ → Cut
-substituted b text = of_part (part (level most_open) b text)
+abbrev pub substituted : ℕ → List ℕ → Cut
+substituted b text = of_part (outer_part b text)
 
 -- a text in braces, with the text after the brace
-unfoldable pub in_braces : List ℕ → Cut
+abbrev pub in_braces : List ℕ → Cut
 in_braces text =
     elim (matching_brace text) [
       | Some n ↦ one (operand (leaf (joined_lines 0 (take n text)))) (n + 2)
@@ -246,7 +246,7 @@ in_braces text =
 -- ---- tokens ----
 
 -- a token whose first byte begins neither a number nor a word
-unfoldable pub other : ℕ → List ℕ → Cut
+abbrev pub other : ℕ → List ℕ → Cut
 other b text =
     elim (b == 34) [ true ↦ quoted text | false ↦
     elim (b == 123) [ true ↦ in_braces text | false ↦

@@ -1,5 +1,5 @@
 //! How the tokens of an expression make a tree (expr(n), OPERATORS).
-ghost use Rattle.std.specs.Prelude.{◌≡◌, ◌≤◌, IfOk, map, foldl, []};
+ghost use Rattle.std.specs.Prelude.{◌≡◌, IfOk, map};
 ghost use Rattle.tt_exprs.specs.Parsing as parsing;
 ghost use Rattle.tt_exprs.specs.Plain.{plain_token};
 ghost use Rattle.tt_exprs.specs.Stacks.{plain_outcome, plain_stack, plain_state, plain_pending, plain_value, plain_waiting};
@@ -14,7 +14,7 @@ use std::alloc::Global;
 use tt_text::NoMemory;
 
 /// What the tokens so far have come to.
-#[derive(Debug, Drop)]
+#[derive(Drop)]
 enum State {
     /// An operand comes next.
     Wants(Vec<Pending>),
@@ -27,7 +27,7 @@ enum State {
 }
 
 /// The tree, or why there is none.
-#[derive(Debug, Drop)]
+#[derive(Drop)]
 pub(crate) enum Outcome {
     Good(Expr),
     Malformed,
@@ -65,7 +65,7 @@ fn at_operand(alloc: Global, pending: Vec<Pending>, token: Token) -> Result<Stat
             value: Value::Nested(expr, 0),
         })),
         Token::Operator(op) => match as_prefix(op) {
-            Some(op) => wants(pending, Pending::Prefix(op)),
+            Some(op) => wants(pending, Pending::Unary(op)),
             None => Ok(State::Wrong),
         },
         Token::Function(op) => Ok(State::Calls(op, pending)),
@@ -90,7 +90,7 @@ fn with_left(op: Op, value: Value) -> Pending
 {
     match op {
         Op::Choose => Pending::Test(value),
-        _ => Pending::Infix(op, value),
+        _ => Pending::Binary(op, value),
     }
 }
 
@@ -100,8 +100,8 @@ fn operated(alloc: Global, op: Op, waiting: Waiting) -> Result<State, NoMemory>
 {
     match left_level(op) {
         Some(bound) => {
-            let left = gathered(alloc, bound, waiting)?;
-            wants(left.pending, with_left(op, left.value))
+            let Waiting { pending, value } = gathered(alloc, bound, waiting)?;
+            wants(pending, with_left(op, value))
         }
         None => Ok(State::Wrong),
     }
@@ -191,11 +191,11 @@ fn finished(alloc: Global, state: State) -> Result<Outcome, NoMemory>
     let State::Has(waiting) = state else {
         return Ok(Outcome::Malformed);
     };
-    let whole = gathered(alloc, 0, waiting)?;
-    if !whole.pending.is_empty() {
+    let Waiting { pending, value } = gathered(alloc, 0, waiting)?;
+    if !pending.is_empty() {
         return Ok(Outcome::Malformed);
     }
-    match whole.value {
+    match value {
         Value::Nested(expr, _) => Ok(Outcome::Good(expr)),
         Value::TooDeep => Ok(Outcome::NestedTooDeeply),
     }

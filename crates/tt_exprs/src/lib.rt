@@ -5,7 +5,7 @@ mod climbing;
 mod expression;
 mod numbers;
 mod op;
-mod parse;
+mod parsing;
 mod pending;
 mod precedence;
 mod signs;
@@ -15,4 +15,7 @@ mod words;
 
 pub use expression::{Expr, Parsed};
 pub use op::Op;
-pub use parse::parse;
+pub use parsing::parse;
+
+#[cfg(test)]
+mod tests;

@@ -1,5 +1,5 @@
 //! How far a number at the front of a text goes (expr(n), OPERANDS).
-ghost use Rattle.std.specs.Prelude.{◌≡◌, ◌≤◌, ◌+◌, length, Some, IfSome};
+ghost use Rattle.std.specs.Prelude.{◌≡◌, ◌≤◌, ◌<◌, ◌+◌, length, IfSome};
 ghost use Rattle.tt_exprs.specs.Tokens as tokens;
 
 /// How many digits of this base are at the front.

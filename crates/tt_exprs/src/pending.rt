@@ -10,12 +10,12 @@ use std::alloc::Global;
 use tt_text::NoMemory;
 
 /// What waits for an operand.
-#[derive(Debug, Drop)]
+#[derive(Drop)]
 pub(crate) enum Pending {
     /// An operator before its operand.
-    Prefix(Op),
+    Unary(Op),
     /// An operator with its left operand.
-    Infix(Op, Value),
+    Binary(Op, Value),
     /// What stands before a `?`.
     Test(Value),
     /// What stands before a `?`, and what before its `:`.
@@ -26,7 +26,7 @@ pub(crate) enum Pending {
 }
 
 /// An operand with what waits before it, the innermost last.
-#[derive(Debug, Drop)]
+#[derive(Drop)]
 pub(crate) struct Waiting {
     pub(crate) pending: Vec<Pending>,
     pub(crate) value: Value,
@@ -47,8 +47,8 @@ fn binds(bound: u8, pending: &Pending) -> bool
     ensures { result ≡ parsing.binds bound (plain_pending pending.now) }
 {
     match pending {
-        Pending::Prefix(_) => true,
-        Pending::Infix(op, _) => reaches(bound, *op),
+        Pending::Unary(_) => true,
+        Pending::Binary(op, _) => reaches(bound, *op),
         Pending::Branch(..) => reaches(bound, Op::Choose),
         Pending::Test(_) | Pending::Parenthesis | Pending::Arguments(..) => false,
     }
@@ -59,17 +59,17 @@ fn closed(alloc: Global, pending: Pending, value: Value) -> Result<Value, NoMemo
     ensures { IfOk result (λ whole. plain_value whole ≡ parsing.closed (plain_pending pending) (plain_value value)) }
 {
     match pending {
-        Pending::Prefix(op) => {
+        Pending::Unary(op) => {
             let operands = Row::new(alloc).followed_by(value)?;
             Ok(applied(op, operands))
         }
-        Pending::Infix(op, left) => {
+        Pending::Binary(op, left) => {
             let operands = Row::new(alloc).followed_by(left)?.followed_by(value)?;
             Ok(applied(op, operands))
         }
-        Pending::Branch(condition, yes) => {
+        Pending::Branch(condition, chosen) => {
             let first = Row::new(alloc).followed_by(condition)?;
-            let operands = first.followed_by(yes)?.followed_by(value)?;
+            let operands = first.followed_by(chosen)?.followed_by(value)?;
             Ok(applied(Op::Choose, operands))
         }
         Pending::Test(_) | Pending::Parenthesis | Pending::Arguments(..) => Ok(value),
@@ -84,10 +84,11 @@ pub(crate) fn gathered(alloc: Global, bound: u8, waiting: Waiting) -> Result<Wai
         mut pending,
         mut value,
     } = waiting;
-    while pending.last().is_some_and(|last| binds(bound, last)) {
-        let Some(last) = pending.pop() else {
+    while let Some(last) = pending.pop() {
+        if !binds(bound, &last) {
+            pending.push(last)?;
             break;
-        };
+        }
         value = closed(alloc, last, value)?;
     }
     Ok(Waiting { pending, value })

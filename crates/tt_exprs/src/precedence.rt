@@ -18,7 +18,7 @@ pub(crate) enum Binding {
 }
 
 /// How each operator binds.
-pub(crate) fn binding(op: Op) -> Binding
+pub(crate) fn binds_as(op: Op) -> Binding
     ensures { result ≡ precedence.binding op }
 {
     match op {
@@ -45,7 +45,7 @@ pub(crate) fn binding(op: Op) -> Binding
 pub(crate) fn level(op: Op) -> Option<u8>
     ensures { result ≡ precedence.level (precedence.binding op) }
 {
-    match binding(op) {
+    match binds_as(op) {
         Binding::Leftwards(level) | Binding::Rightwards(level) => Some(level),
         Binding::Before | Binding::Called => None,
     }
@@ -55,7 +55,7 @@ pub(crate) fn level(op: Op) -> Option<u8>
 pub(crate) fn left_level(op: Op) -> Option<u8>
     ensures { result ≡ precedence.left_level (precedence.binding op) }
 {
-    match binding(op) {
+    match binds_as(op) {
         Binding::Leftwards(level) => Some(level),
         Binding::Rightwards(level) => Some(level + 1),
         Binding::Before | Binding::Called => None,

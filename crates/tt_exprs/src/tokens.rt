@@ -1,5 +1,5 @@
 //! The tokens of an expression, cut from the left (expr(n), OPERANDS and OPERATORS).
-ghost use Rattle.std.specs.Prelude.{◌≡◌, ◌≢◌, ◌∷◌, ◌+◌, ◌<◌, ◌≤◌, ◌||◌, ◌==◌, true, false, IfOk, IfSome, length, take, drop, slice_index};
+ghost use Rattle.std.specs.Prelude.{◌≡◌, ◌≢◌, ◌∷◌, ◌+◌, ◌-◌, ◌<◌, ◌≤◌, ◌||◌, ◌==◌, true, false, IfOk, IfSome, length, take, drop, slice_index};
 ghost use Rattle.tt_exprs.specs.Plain.{plain_cut, plain_token, plain_tokens, TakesWithin};
 ghost use Rattle.tt_exprs.specs.Tokens as tokens;
 ghost use Rattle.tt_script.specs.Plain.{plain_part};
@@ -15,7 +15,7 @@ use tt_script::{Part, braced_text, quoted_parts, script_part, variable_part};
 use tt_text::{NoMemory, Text};
 
 /// A token. `-` and `+` are the operators that stand between operands, wherever they stand.
-#[derive(Debug, Drop)]
+#[derive(Drop)]
 pub(crate) enum Token {
     Operand(Expr),
     Operator(Op),
@@ -30,7 +30,7 @@ pub(crate) enum Token {
 }
 
 /// What the front of a text is cut into.
-#[derive(Debug, Drop)]
+#[derive(Drop)]
 pub(crate) enum Cut {
     /// A token, and how many bytes it takes.
     One(Token, usize),
@@ -41,7 +41,7 @@ pub(crate) enum Cut {
 }
 
 /// The tokens of a text, as far as they can be read.
-#[derive(Debug, Drop)]
+#[derive(Drop)]
 pub(crate) enum Tokens {
     /// All of them.
     Read(Vec<Token>),
@@ -135,7 +135,7 @@ fn other(alloc: Global, first: u8, text: &[u8]) -> Result<Cut, NoMemory>
 }
 
 /// The token that a text begins with, which begins with this byte.
-fn token(alloc: Global, first: u8, text: &[u8]) -> Result<Cut, NoMemory>
+fn first_token(alloc: Global, first: u8, text: &[u8]) -> Result<Cut, NoMemory>
     requires here { 0 < length text.now }
     requires first { first ≡ slice_index text.now 0 }
     ensures read { IfOk result (λ cut. plain_cut cut ≡ tokens.token first (drop 1 text.now)) }
@@ -152,21 +152,31 @@ fn token(alloc: Global, first: u8, text: &[u8]) -> Result<Cut, NoMemory>
     other(alloc, first, &text[1..])
 }
 
+/// The token that begins here.
+fn token_at(alloc: Global, text: &[u8], at: usize) -> Result<Cut, NoMemory>
+    requires { at < length text.now }
+    ensures read { IfOk result (λ cut. plain_cut cut ≡ tokens.token (slice_index text.now at) (drop (at + 1) text.now)) }
+    ensures within { IfOk result (λ cut. TakesWithin cut (length text.now - at)) }
+{
+    let cut = first_token(alloc, text[at], &text[at..])?;
+    Ok(cut)
+}
+
 /// The tokens of a text, as far as they can be read.
-pub(crate) fn tokens(alloc: Global, text: &[u8]) -> Result<Tokens, NoMemory>
+pub(crate) fn all_tokens(alloc: Global, text: &[u8]) -> Result<Tokens, NoMemory>
     ensures { IfOk result (λ cut. plain_tokens cut ≡ tokens.tokens 0 text.now) }
 {
     let mut tokens = Vec::new(alloc);
-    let mut rest = text;
-    while let [first, after @ ..] = rest {
-        if is_white_space(*first) {
-            rest = after;
+    let mut at = 0;
+    while at < text.len() {
+        if is_white_space(text[at]) {
+            at += 1;
             continue;
         }
-        match token(alloc, *first, rest)? {
+        match token_at(alloc, text, at)? {
             Cut::One(token, n) => {
                 tokens.push(token)?;
-                rest = &rest[n..];
+                at += n;
             }
             Cut::Refused(word) => return Ok(Tokens::RefusedWord(word)),
             Cut::NoneHere => return Ok(Tokens::Stopped),

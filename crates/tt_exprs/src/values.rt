@@ -13,7 +13,7 @@ use tt_text::NoMemory;
 pub const MOST_NESTED: usize = 1000;
 
 /// An operand.
-#[derive(Debug, Drop)]
+#[derive(Drop)]
 pub(crate) enum Value {
     /// Its tree, and how deeply that is nested.
     Nested(Expr, usize),
@@ -22,7 +22,7 @@ pub(crate) enum Value {
 }
 
 /// Operands in a row.
-#[derive(Debug, Drop)]
+#[derive(Drop)]
 pub(crate) enum Row {
     /// Their trees, and how deeply the deepest is nested.
     Operands(Vec<Expr>, usize),

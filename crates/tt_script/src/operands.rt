@@ -2,7 +2,7 @@
 ghost use Rattle.std.specs.Prelude.{◌≡◌, ◌≤◌, ◌<◌, IfOk, IfSome, length, take};
 ghost use Rattle.std.specs.Option.{option_map};
 ghost use Rattle.tt_text.specs.Braces.{matching_brace};
-ghost use Rattle.tt_script.specs.Operands.{Finds};
+ghost use Rattle.tt_script.specs.Operands.{Finds, outer_part, quoted_text};
 ghost use Rattle.tt_script.specs.Plain.{plain_part, plain_parts};
 ghost use Rattle.tt_script.specs.Reading as reading;
 
@@ -22,7 +22,7 @@ pub fn quoted_parts(
     alloc: Global,
     text: &[u8],
 ) -> Result<Option<(Vec<Part>, usize)>, NoMemory>
-    ensures read { IfOk result (λ found. Finds (λ parts. plain_parts parts.items) found (reading.parts (reading.level reading.most_open) Ending.Quote 0 text.now)) }
+    ensures read { IfOk result (λ found. Finds (λ parts. plain_parts parts.items) found (quoted_text text.now)) }
     ensures within { IfOk result (λ found. IfSome found (λ r. r.1 < length text.now)) }
 {
     match parts(alloc, text, 0, Ending::Quote, DEPTH) {
@@ -37,7 +37,7 @@ pub fn quoted_parts(
 ///
 /// `NoMemory` where the memory for it is refused.
 pub fn variable_part(alloc: Global, text: &[u8]) -> Result<Option<(Part, usize)>, NoMemory>
-    ensures read { IfOk result (λ found. Finds plain_part found (reading.part (reading.level reading.most_open) 36 text.now)) }
+    ensures read { IfOk result (λ found. Finds plain_part found (outer_part 36 text.now)) }
     ensures within { IfOk result (λ found. IfSome found (λ r. r.1 ≤ length text.now)) }
 {
     match variable(alloc, text, 0, DEPTH) {
@@ -52,7 +52,7 @@ pub fn variable_part(alloc: Global, text: &[u8]) -> Result<Option<(Part, usize)>
 ///
 /// `NoMemory` where the memory for it is refused.
 pub fn script_part(alloc: Global, text: &[u8]) -> Result<Option<(Part, usize)>, NoMemory>
-    ensures read { IfOk result (λ found. Finds plain_part found (reading.part (reading.level reading.most_open) 91 text.now)) }
+    ensures read { IfOk result (λ found. Finds plain_part found (outer_part 91 text.now)) }
     ensures within { IfOk result (λ found. IfSome found (λ r. r.1 ≤ length text.now)) }
 {
     match brackets(alloc, text, 0, DEPTH) {

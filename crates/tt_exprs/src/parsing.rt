@@ -6,7 +6,7 @@ ghost use Rattle.tt_exprs.specs.Stacks.{plain_outcome};
 
 use crate::climbing::{Outcome, tree_of};
 use crate::expression::Parsed;
-use crate::tokens::{Tokens, tokens};
+use crate::tokens::{Tokens, all_tokens};
 use std::alloc::Global;
 use tt_text::{NoMemory, Text};
 
@@ -58,7 +58,7 @@ fn answered(alloc: Global, text: &[u8], outcome: Outcome) -> Result<Parsed, NoMe
 pub fn parse(alloc: Global, text: &[u8]) -> Result<Parsed, NoMemory>
     ensures exact { IfOk result (λ parsed. plain_parsed parsed ≡ parsing.parse text.now) }
 {
-    match tokens(alloc, text)? {
+    match all_tokens(alloc, text)? {
         Tokens::Read(tokens) => {
             let outcome = tree_of(alloc, tokens)?;
             answered(alloc, text, outcome)

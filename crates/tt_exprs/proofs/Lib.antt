@@ -1,0 +1,5 @@
+pub mod Builds
+pub mod ParseSteps
+pub mod Rows
+pub mod StackSteps
+pub mod TokenSteps
