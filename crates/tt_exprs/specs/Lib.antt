@@ -1,2 +1,9 @@
 pub mod Apply
 pub mod ApplyMessages
+pub mod Cutting
+pub mod Parsing
+pub mod Plain
+pub mod Precedence
+pub mod Stacks
+pub mod Tokens
+pub mod Trees

@@ -2,7 +2,22 @@
 #![tactic(auto)]
 
 mod applying;
+mod climbing;
+mod expression;
+mod numbers;
 mod op;
+mod parsing;
+mod pending;
+mod precedence;
+mod signs;
+mod tokens;
+mod values;
+mod words;
 
 pub use applying::{apply, boolean};
+pub use expression::{Expr, Parsed};
 pub use op::Op;
+pub use parsing::parse;
+
+#[cfg(test)]
+mod tests;

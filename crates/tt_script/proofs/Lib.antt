@@ -15,6 +15,7 @@ pub mod IntoGrammar
 pub mod Joining
 pub mod NameCuts
 pub mod Naming
+pub mod OperandSteps
 pub mod PartSteps
 pub mod Readers
 pub mod Runs

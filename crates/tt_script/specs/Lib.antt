@@ -3,6 +3,7 @@ pub mod Building
 pub mod FaultGrammar
 pub mod Grammar
 pub mod Law
+pub mod Operands
 pub mod Plain
 pub mod Reading
 pub mod Scanning

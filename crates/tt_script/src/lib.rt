@@ -6,12 +6,14 @@ mod builder;
 mod command;
 pub mod laws;
 mod names;
+mod operands;
 mod parser;
 mod scan;
 mod script;
 mod stop;
 
 pub use command::{Command, First, ParseFault, Part, Word};
+pub use operands::{braced_text, quoted_parts, script_part, variable_part};
 pub use script::{DEPTH, first_command};
 
 #[cfg(test)]

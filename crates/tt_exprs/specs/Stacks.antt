@@ -1,0 +1,49 @@
+-- The plain form of what waits while tokens are read.
+use Rattle.std.specs.Prelude.{ℕ, List, [], ◌∷◌, map, reverse}
+use Rattle.tt_exprs.specs.Plain.{plain_expr}
+use Rattle.tt_exprs.specs.Parsing.{PlainValue, nested, too_deep, PlainRow, row, too_deep_row, PlainPending, unary, binary, test, branch, parenthesis, arguments, PlainWaiting, PlainState, wants, calls, has, wrong, PlainOutcome, good, malformed, nested_too_deeply}
+use Rattle.tt_exprs.specs.declared.values.Value.{Value}
+use Rattle.tt_exprs.specs.declared.values.Value.TheVariants as values
+use Rattle.tt_exprs.specs.declared.values.Row.{Row}
+use Rattle.tt_exprs.specs.declared.values.Row.TheVariants as rows
+use Rattle.tt_exprs.specs.declared.pending.Pending.{Pending}
+use Rattle.tt_exprs.specs.declared.pending.Pending.TheVariants as pendings
+use Rattle.tt_exprs.specs.declared.pending.Waiting.{Waiting}
+use Rattle.tt_exprs.specs.declared.climbing.State.{State}
+use Rattle.tt_exprs.specs.declared.climbing.State.TheVariants as states
+use Rattle.tt_exprs.specs.declared.climbing.Outcome.{Outcome}
+use Rattle.tt_exprs.specs.declared.climbing.Outcome.TheVariants as outcomes
+
+abbrev pub plain_value : Value → PlainValue
+plain_value (values.Nested expr depth) = nested (plain_expr expr) depth
+plain_value values.TooDeep = too_deep
+
+abbrev pub plain_row : Row → PlainRow
+plain_row (rows.Operands exprs deepest) = row (map plain_expr exprs.items) deepest
+plain_row rows.TooDeep = too_deep_row
+
+abbrev pub plain_pending : Pending → PlainPending
+plain_pending (pendings.Unary op) = unary op
+plain_pending (pendings.Binary op left) = binary op (plain_value left)
+plain_pending (pendings.Test condition) = test (plain_value condition)
+plain_pending (pendings.Branch condition chosen) = branch (plain_value condition) (plain_value chosen)
+plain_pending pendings.Parenthesis = parenthesis
+plain_pending (pendings.Arguments op operands) = arguments op (plain_row operands)
+
+-- the innermost, which a vector has last, first
+abbrev pub plain_stack : List Pending → List PlainPending
+plain_stack pending = reverse (map plain_pending pending)
+
+abbrev pub plain_waiting : Waiting → PlainWaiting
+plain_waiting waiting = record { pending = plain_stack waiting.pending.items; value = plain_value waiting.value }
+
+abbrev pub plain_state : State → PlainState
+plain_state (states.Wants pending) = wants (plain_stack pending.items)
+plain_state (states.Calls op pending) = calls op (plain_stack pending.items)
+plain_state (states.Has waiting) = has (plain_waiting waiting)
+plain_state states.Wrong = wrong
+
+abbrev pub plain_outcome : Outcome → PlainOutcome
+plain_outcome (outcomes.Good expr) = good (plain_expr expr)
+plain_outcome outcomes.Malformed = malformed
+plain_outcome outcomes.NestedTooDeeply = nested_too_deeply

@@ -1,0 +1,75 @@
+//! How a text is read as an expression.
+ghost use Rattle.std.specs.Prelude.{◌≡◌, IfOk};
+ghost use Rattle.tt_exprs.specs.Parsing as parsing;
+ghost use Rattle.tt_exprs.specs.Plain.{plain_parsed};
+ghost use Rattle.tt_exprs.specs.Stacks.{plain_outcome};
+
+use crate::climbing::{Outcome, tree_of};
+use crate::expression::Parsed;
+use crate::tokens::{Tokens, all_tokens};
+use std::alloc::Global;
+use tt_text::{NoMemory, Text};
+
+/// `invalid bareword "WORD"`.
+fn bareword_error(alloc: Global, word: &[u8]) -> Result<Text, NoMemory>
+    ensures { IfOk result (λ message. message ≡ parsing.bareword_error word.now) }
+{
+    let mut message = Text::from_bytes(alloc, b"invalid bareword \"")?;
+    message.push_bytes(word)?;
+    message.push_bytes(b"\"")?;
+    Ok(message)
+}
+
+/// `syntax error in expression "TEXT"`.
+fn syntax_error(alloc: Global, text: &[u8]) -> Result<Text, NoMemory>
+    ensures { IfOk result (λ message. message ≡ parsing.syntax_error text.now) }
+{
+    let mut message = Text::from_bytes(alloc, b"syntax error in expression \"")?;
+    message.push_bytes(text)?;
+    message.push_bytes(b"\"")?;
+    Ok(message)
+}
+
+/// What tokens that have come to this make of the text.
+fn answered(alloc: Global, text: &[u8], outcome: Outcome) -> Result<Parsed, NoMemory>
+    ensures { IfOk result (λ parsed. plain_parsed parsed ≡ parsing.answered text.now (plain_outcome outcome)) }
+{
+    match outcome {
+        Outcome::Good(expr) => Ok(Parsed::Tree(expr)),
+        Outcome::Malformed => {
+            let message = syntax_error(alloc, text)?;
+            Ok(Parsed::Bad(message))
+        }
+        Outcome::NestedTooDeeply => {
+            let message = Text::from_bytes(alloc, b"expression nested too deeply")?;
+            Ok(Parsed::Bad(message))
+        }
+    }
+}
+
+/// Reads a text as an expression, as expr(n) says: its operands are the leaves of a tree, and its
+/// operators and functions the nodes, which bind by the table of precedence.
+///
+/// `Bad` with the message `invalid bareword "WORD"` where a bare word is no boolean word, operator or
+/// function; else `syntax error in expression "TEXT"` where the text has no tree; else `expression
+/// nested too deeply` where operators, functions and parentheses are nested more than 1,000 deep.
+///
+/// `NoMemory` where the memory for the answer is refused.
+pub fn parse(alloc: Global, text: &[u8]) -> Result<Parsed, NoMemory>
+    ensures exact { IfOk result (λ parsed. plain_parsed parsed ≡ parsing.parse text.now) }
+{
+    match all_tokens(alloc, text)? {
+        Tokens::Read(tokens) => {
+            let outcome = tree_of(alloc, tokens)?;
+            answered(alloc, text, outcome)
+        }
+        Tokens::RefusedWord(word) => {
+            let message = bareword_error(alloc, word.as_bytes())?;
+            Ok(Parsed::Bad(message))
+        }
+        Tokens::Stopped => {
+            let message = syntax_error(alloc, text)?;
+            Ok(Parsed::Bad(message))
+        }
+    }
+}
