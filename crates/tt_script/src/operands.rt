@@ -18,10 +18,7 @@ use tt_text::{NoMemory, Text};
 /// that one; or `None` where they can't be read (Tcl(n), rules 4 and 7 to 9).
 ///
 /// `NoMemory` where the memory for them is refused.
-pub fn quoted_parts(
-    alloc: Global,
-    text: &[u8],
-) -> Result<Option<(Vec<Part>, usize)>, NoMemory>
+pub fn quoted_parts(alloc: Global, text: &[u8]) -> Result<Option<(Vec<Part>, usize)>, NoMemory>
     ensures read { IfOk result (λ found. Finds (λ parts. plain_parts parts.items) found (quoted_text text.now)) }
     ensures within { IfOk result (λ found. IfSome found (λ r. r.1 < length text.now)) }
 {

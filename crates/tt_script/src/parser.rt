@@ -50,7 +50,12 @@ fn braced(alloc: Global, text: &[u8], from: usize, place: Place) -> Result<(Vec<
 
 /// What `$` begins, with the text after it here.
 #[cycle(parser)]
-pub(crate) fn variable(alloc: Global, text: &[u8], from: usize, depth: usize) -> Result<(Part, usize), Stop>
+pub(crate) fn variable(
+    alloc: Global,
+    text: &[u8],
+    from: usize,
+    depth: usize,
+) -> Result<(Part, usize), Stop>
     requires { from ≤ length text.now }
     ensures read { Answers plain_part result (reading.after from (reading.dollar (reading.level depth) (drop from text.now))) }
     ensures within { IfOk result (λ r. (from ≤ r.1) × (r.1 ≤ length text.now)) }
@@ -86,7 +91,12 @@ fn index(alloc: Global, text: &[u8], from: usize, depth: usize) -> Result<(Vec<P
 
 /// The script in brackets, which begins here, and the place of its `]`.
 #[cycle(parser)]
-pub(crate) fn brackets(alloc: Global, text: &[u8], from: usize, depth: usize) -> Result<(Text, usize), Stop>
+pub(crate) fn brackets(
+    alloc: Global,
+    text: &[u8],
+    from: usize,
+    depth: usize,
+) -> Result<(Text, usize), Stop>
     requires { from ≤ length text.now }
     ensures read { Answers (λ inside. inside) result (reading.after from ((reading.level depth).brackets (drop from text.now))) }
     ensures within { IfOk result (λ r. (from ≤ r.1) × (r.1 < length text.now)) }
