@@ -1,4 +1,5 @@
 pub mod Cutting
+pub mod ExprGrammar
 pub mod Parsing
 pub mod Plain
 pub mod Precedence

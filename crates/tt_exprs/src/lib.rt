@@ -3,6 +3,7 @@
 
 mod climbing;
 mod expression;
+pub mod laws;
 mod numbers;
 mod op;
 mod parsing;
