@@ -1,4 +1,8 @@
 pub mod Builds
+pub mod ExprLaw
+pub mod ExprReads
+pub mod ExprSpells
+pub mod ExprTables
 pub mod Extremes
 pub mod ParseSteps
 pub mod Rows

@@ -1,6 +1,7 @@
 pub mod Apply
 pub mod ApplyMessages
 pub mod Cutting
+pub mod ExprGrammar
 pub mod Parsing
 pub mod Plain
 pub mod Precedence

@@ -4,6 +4,7 @@
 mod applying;
 mod climbing;
 mod expression;
+pub mod laws;
 mod numbers;
 mod op;
 mod parsing;
