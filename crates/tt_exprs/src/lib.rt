@@ -16,6 +16,3 @@ mod words;
 pub use expression::{Expr, Parsed};
 pub use op::Op;
 pub use parsing::parse;
-
-#[cfg(test)]
-mod tests;
