@@ -35,44 +35,110 @@ pub data Cut : Type 0 where
 -- what a sign of this byte twice is
 abbrev pub doubled : ℕ → Option Op
 doubled b =
-    elim (b == 42) [ true ↦ Some Pow | false ↦
-    elim (b == 60) [ true ↦ Some Shl | false ↦
-    elim (b == 62) [ true ↦ Some Shr | false ↦
-    elim (b == 61) [ true ↦ Some Equal | false ↦
-    elim (b == 38) [ true ↦ Some And | false ↦
-    elim (b == 124) [ true ↦ Some Or | false ↦ None ] ] ] ] ] ]
+    elim (b == 42) [
+      | true ↦ Some Pow
+      | false ↦
+          elim (b == 60) [
+            | true ↦ Some Shl
+            | false ↦
+                elim (b == 62) [
+                  | true ↦ Some Shr
+                  | false ↦
+                      elim (b == 61) [
+                        | true ↦ Some Equal
+                        | false ↦
+                            elim (b == 38) [
+                              | true ↦ Some And
+                              | false ↦
+                                  elim (b == 124) [ true ↦ Some Or | false ↦ None ]
+                            ]
+                      ]
+                ]
+          ]
+    ]
 
 -- what a sign of this byte and `=` is
 abbrev pub with_equals : ℕ → Option Op
 with_equals b =
-    elim (b == 60) [ true ↦ Some LessEqual | false ↦
-    elim (b == 62) [ true ↦ Some GreaterEqual | false ↦
-    elim (b == 33) [ true ↦ Some NotEqual | false ↦ None ] ] ]
+    elim (b == 60) [
+      | true ↦ Some LessEqual
+      | false ↦
+          elim (b == 62) [
+            | true ↦ Some GreaterEqual
+            | false ↦
+                elim (b == 33) [ true ↦ Some NotEqual | false ↦ None ]
+          ]
+    ]
 
 -- the operator that a sign of this byte alone is
 abbrev pub single : ℕ → Option Op
 single b =
-    elim (b == 126) [ true ↦ Some BitNot | false ↦
-    elim (b == 33) [ true ↦ Some Not | false ↦
-    elim (b == 42) [ true ↦ Some Mul | false ↦
-    elim (b == 47) [ true ↦ Some Div | false ↦
-    elim (b == 37) [ true ↦ Some Mod | false ↦
-    elim (b == 43) [ true ↦ Some Add | false ↦
-    elim (b == 45) [ true ↦ Some Sub | false ↦
-    elim (b == 60) [ true ↦ Some Less | false ↦
-    elim (b == 62) [ true ↦ Some Greater | false ↦
-    elim (b == 38) [ true ↦ Some BitAnd | false ↦
-    elim (b == 94) [ true ↦ Some BitXor | false ↦
-    elim (b == 124) [ true ↦ Some BitOr | false ↦
-    elim (b == 63) [ true ↦ Some Choose | false ↦ None ] ] ] ] ] ] ] ] ] ] ] ] ]
+    elim (b == 126) [
+      | true ↦ Some BitNot
+      | false ↦
+          elim (b == 33) [
+            | true ↦ Some Not
+            | false ↦
+                elim (b == 42) [
+                  | true ↦ Some Mul
+                  | false ↦
+                      elim (b == 47) [
+                        | true ↦ Some Div
+                        | false ↦
+                            elim (b == 37) [
+                              | true ↦ Some Mod
+                              | false ↦
+                                  elim (b == 43) [
+                                    | true ↦ Some Add
+                                    | false ↦
+                                        elim (b == 45) [
+                                          | true ↦ Some Sub
+                                          | false ↦
+                                              elim (b == 60) [
+                                                | true ↦ Some Less
+                                                | false ↦
+                                                    elim (b == 62) [
+                                                      | true ↦ Some Greater
+                                                      | false ↦
+                                                          elim (b == 38) [
+                                                            | true ↦ Some BitAnd
+                                                            | false ↦
+                                                                elim (b == 94) [
+                                                                  | true ↦ Some BitXor
+                                                                  | false ↦
+                                                                      elim (b == 124) [
+                                                                        | true ↦ Some BitOr
+                                                                        | false ↦
+                                                                            elim (b == 63) [ true ↦ Some Choose | false ↦ None ]
+                                                                      ]
+                                                                ]
+                                                          ]
+                                                    ]
+                                              ]
+                                        ]
+                                  ]
+                            ]
+                      ]
+                ]
+          ]
+    ]
 
 -- a sign that is no operator
 abbrev pub mark : ℕ → Cut
 mark b =
-    elim (b == 40) [ true ↦ one opening 1 | false ↦
-    elim (b == 41) [ true ↦ one closing 1 | false ↦
-    elim (b == 44) [ true ↦ one comma 1 | false ↦
-    elim (b == 58) [ true ↦ one colon 1 | false ↦ none_here ] ] ] ]
+    elim (b == 40) [
+      | true ↦ one opening 1
+      | false ↦
+          elim (b == 41) [
+            | true ↦ one closing 1
+            | false ↦
+                elim (b == 44) [
+                  | true ↦ one comma 1
+                  | false ↦
+                      elim (b == 58) [ true ↦ one colon 1 | false ↦ none_here ]
+                ]
+          ]
+    ]
 
 -- an operator of two bytes
 abbrev pub pair : ℕ → List ℕ → Option Op
@@ -104,18 +170,36 @@ is_word_byte b = is_ascii_alphanumeric b || b == 95
 -- an operator that is spelled with letters
 abbrev pub operator_word : List ℕ → Option Op
 operator_word word =
-    elim (bytes_eq word (codes "eq")) [ true ↦ Some TextEqual | false ↦
-    elim (bytes_eq word (codes "ne")) [ true ↦ Some TextNotEqual | false ↦
-    elim (bytes_eq word (codes "in")) [ true ↦ Some Member | false ↦
-    elim (bytes_eq word (codes "ni")) [ true ↦ Some NotMember | false ↦ None ] ] ] ]
+    elim (bytes_eq word (codes "eq")) [
+      | true ↦ Some TextEqual
+      | false ↦
+          elim (bytes_eq word (codes "ne")) [
+            | true ↦ Some TextNotEqual
+            | false ↦
+                elim (bytes_eq word (codes "in")) [
+                  | true ↦ Some Member
+                  | false ↦
+                      elim (bytes_eq word (codes "ni")) [ true ↦ Some NotMember | false ↦ None ]
+                ]
+          ]
+    ]
 
 -- the name of a function
 abbrev pub function_word : List ℕ → Option Op
 function_word word =
-    elim (bytes_eq word (codes "abs")) [ true ↦ Some Abs | false ↦
-    elim (bytes_eq word (codes "int")) [ true ↦ Some Int | false ↦
-    elim (bytes_eq word (codes "max")) [ true ↦ Some Max | false ↦
-    elim (bytes_eq word (codes "min")) [ true ↦ Some Min | false ↦ None ] ] ] ]
+    elim (bytes_eq word (codes "abs")) [
+      | true ↦ Some Abs
+      | false ↦
+          elim (bytes_eq word (codes "int")) [
+            | true ↦ Some Int
+            | false ↦
+                elim (bytes_eq word (codes "max")) [
+                  | true ↦ Some Max
+                  | false ↦
+                      elim (bytes_eq word (codes "min")) [ true ↦ Some Min | false ↦ None ]
+                ]
+          ]
+    ]
 
 -- whether two words are the same but for the case of their letters
 abbrev pub is_same_word : List ℕ → List ℕ → Bool
@@ -130,9 +214,15 @@ is_boolean_word word =
 -- a bare word that takes n bytes
 abbrev pub bare_word : List ℕ → ℕ → Cut
 bare_word word n =
-    elim (operator_word word) [ Some op ↦ one (operator op) n | None ↦
-    elim (function_word word) [ Some op ↦ one (function op) n | None ↦
-    elim (is_boolean_word word) [ true ↦ one (operand (leaf word)) n | false ↦ refused word ] ] ]
+    elim (operator_word word) [
+      | Some op ↦ one (operator op) n
+      | None ↦
+          elim (function_word word) [
+            | Some op ↦ one (function op) n
+            | None ↦
+                elim (is_boolean_word word) [ true ↦ one (operand (leaf word)) n | false ↦ refused word ]
+          ]
+    ]
 
 -- ---- numbers ----
 
@@ -191,9 +281,15 @@ unmarked text = scaled (run 10 text) (run 10 text + fraction (run 10 text) (drop
 -- the base that a mark after a 0 names
 abbrev pub base_of_mark : ℕ → Option ℕ
 base_of_mark mark =
-    elim (is_hexadecimal_mark mark) [ true ↦ Some 16 | false ↦
-    elim (is_octal_mark mark) [ true ↦ Some 8 | false ↦
-    elim (is_binary_mark mark) [ true ↦ Some 2 | false ↦ None ] ] ]
+    elim (is_hexadecimal_mark mark) [
+      | true ↦ Some 16
+      | false ↦
+          elim (is_octal_mark mark) [
+            | true ↦ Some 8
+            | false ↦
+                elim (is_binary_mark mark) [ true ↦ Some 2 | false ↦ None ]
+          ]
+    ]
 
 -- how many bytes a mark of a base and the digits after it take, or 0
 abbrev pub marked : List ℕ → ℕ
@@ -248,9 +344,15 @@ in_braces text =
 -- a token whose first byte begins neither a number nor a word
 abbrev pub other : ℕ → List ℕ → Cut
 other b text =
-    elim (b == 34) [ true ↦ quoted text | false ↦
-    elim (b == 123) [ true ↦ in_braces text | false ↦
-    elim (b == 36 || b == 91) [ true ↦ substituted b text | false ↦ sign b text ] ] ]
+    elim (b == 34) [
+      | true ↦ quoted text
+      | false ↦
+          elim (b == 123) [
+            | true ↦ in_braces text
+            | false ↦
+                elim (b == 36 || b == 91) [ true ↦ substituted b text | false ↦ sign b text ]
+          ]
+    ]
 
 -- a word at the front
 unfoldable pub word : List ℕ → Cut

@@ -19,6 +19,3 @@ pub use applying::{apply, boolean};
 pub use expression::{Expr, Parsed};
 pub use op::Op;
 pub use parsing::parse;
-
-#[cfg(test)]
-mod tests;

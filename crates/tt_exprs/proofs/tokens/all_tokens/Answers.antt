@@ -22,9 +22,9 @@ loop-at-preserved c =
     record {
       within = omega (arith, sized.1);
       read =
-        tokens-pushed c.loop-at.tokens.items c.push.new.self.items c.in-One.token (tokens 0 (drop (at + c.in-One.n) text)) c.in_ok-push-in-One.ensures.items
-        ∙ ap (with_tokens before) (sym (one-at text at (plain_token c.in-One.token) c.in-One.n (omega arith) (sym c.is_white_space.ensures ∙ c.if-is_white_space.false) (sym c.in_ok-token.ensures.read ∙ ap plain_cut c.in-One.is) sized.0))
-        ∙ c.loop-at.invariant.read;
+          tokens-pushed c.loop-at.tokens.items c.push.new.self.items c.in-One.token (tokens 0 (drop (at + c.in-One.n) text)) c.in_ok-push-in-One.ensures.items
+          ∙ ap (with_tokens before) (sym (one-at text at (plain_token c.in-One.token) c.in-One.n (omega arith) (sym c.is_white_space.ensures ∙ c.if-is_white_space.false) (sym c.in_ok-token.ensures.read ∙ ap plain_cut c.in-One.is) sized.0))
+          ∙ c.loop-at.invariant.read;
     }
 
 pub returns-in-Refused : goal.returns-in-Refused

@@ -19,4 +19,4 @@ returns-then-digits-gt0-clause-read c =
 pub returns-clause-read : goal.returns-clause-read
 returns-clause-read c =
     subst (λ cut. IfOk c.other.result (λ found. plain_cut found ≡ cut)) (other-read c.args.text.now c.args.first c.number_length-digits.result c.requires.here c.requires.first (sym c.begins_word.ensures ∙ c.if-begins_word.false) c.number_length-digits.ensures.count (omega (arith, c.if-digits-gt0.false)))
-        (subst (λ rest. IfOk c.other.result (λ found. plain_cut found ≡ other c.args.first rest)) (whole 1 c.args.text.now) c.other.ensures.read)
+    (subst (λ rest. IfOk c.other.result (λ found. plain_cut found ≡ other c.args.first rest)) (whole 1 c.args.text.now) c.other.ensures.read)
