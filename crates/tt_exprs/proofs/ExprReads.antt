@@ -237,24 +237,24 @@ mutual
       called_last op pending before deepest ts expr depth (level_comes h (arguments op (row_worth before deepest) ∷ pending) (leaves_opened (arguments op (row_worth before deepest)) pending (called-not op (row_worth before deepest))))
   arguments_come (next_argument {d = d} {e = e} {op = op} {ts = ts} {first = first} {others = others} {expr = expr} {exprs = exprs} takes cut h rest) pending before deepest =
       called_next op pending before deepest ts first others expr exprs d e takes cut
-        (level_comes h (arguments op (row_worth before deepest) ∷ pending) (leaves_opened (arguments op (row_worth before deepest)) pending (called-not op (row_worth before deepest))))
-        (arguments_come rest pending (before ++ expr ∷ []) (max deepest d))
+      (level_comes h (arguments op (row_worth before deepest) ∷ pending) (leaves_opened (arguments op (row_worth before deepest)) pending (called-not op (row_worth before deepest))))
+      (arguments_come rest pending (before ++ expr ∷ []) (max deepest d))
 
   pub level_comes : {bound : ℕ} {ts : List PlainToken} {expr : PlainExpr} {depth : ℕ} → IsAtLevel bound ts expr depth → (pending : List PlainPending) → Leaves bound pending → Comes bound pending ts (worth expr depth)
   level_comes (one_operand {bound = bound} h) pending l = operand_comes h bound pending
   level_comes (from_left {bound = bound} {n = n} {d = d} {e = e} {op = op} {ts = ts} {left = left} {right = right} {a = a} {b = b} binds h cut one two) pending l =
       comes_binary bound n n (suc n) op ts left right pending a b d e (leftwards_other op n binds) (ap level binds) (ap left_level binds) h (omega arith) cut l
-        (level_comes one pending (leaves_more bound n pending h l))
-        (level_comes two (binary op (worth a d) ∷ pending) (leaves_left op n (worth a d) pending binds))
+      (level_comes one pending (leaves_more bound n pending h l))
+      (level_comes two (binary op (worth a d) ∷ pending) (leaves_left op n (worth a d) pending binds))
   level_comes (from_right {bound = bound} {n = n} {d = d} {e = e} {op = op} {ts = ts} {left = left} {right = right} {a = a} {b = b} other binds h cut one two) pending l =
       comes_binary bound n (suc n) n op ts left right pending a b d e other (ap level binds) (ap left_level binds ∙ ap Some (omega arith)) h (omega arith) cut l
-        (level_comes one pending (leaves_more bound (suc n) pending (omega (arith, h)) l))
-        (level_comes two (binary op (worth a d) ∷ pending) (leaves_right op n (worth a d) pending binds))
+      (level_comes one pending (leaves_more bound (suc n) pending (omega (arith, h)) l))
+      (level_comes two (binary op (worth a d) ∷ pending) (leaves_right op n (worth a d) pending binds))
   level_comes (choice {d = d} {e = e} {f = f} {ts = ts} {condition = condition} {branches = branches} {chosen = chosen} {other = other} {a = a} {b = b} {c = c} cut cut_again one two three) pending l =
       comes_choice ts condition branches chosen other pending a b c d e f cut cut_again l
-        (level_comes one pending (leaves_more 0 1 pending (omega arith) l))
-        (level_comes two (test (worth a d) ∷ pending) (leaves_opened (test (worth a d)) pending (test-not (worth a d))))
-        (level_comes three (branch (worth a d) (worth b e) ∷ pending) (leaves_branch (worth a d) (worth b e) pending))
+      (level_comes one pending (leaves_more 0 1 pending (omega arith) l))
+      (level_comes two (test (worth a d) ∷ pending) (leaves_opened (test (worth a d)) pending (test-not (worth a d))))
+      (level_comes three (branch (worth a d) (worth b e) ∷ pending) (leaves_branch (worth a d) (worth b e) pending))
 
 -- what the grammar spells, the function comes to
 pub grammar_read : {ts : List PlainToken} {expr : PlainExpr} {depth : ℕ} → IsAtLevel 0 ts expr depth → tree_of ts ≡ outcome_of (worth expr depth) []

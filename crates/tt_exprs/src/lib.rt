@@ -19,3 +19,6 @@ pub use applying::{apply, boolean};
 pub use expression::{Expr, Parsed};
 pub use op::Op;
 pub use parsing::parse;
+
+#[cfg(test)]
+mod tests;
