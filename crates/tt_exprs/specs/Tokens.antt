@@ -1,6 +1,6 @@
 -- The tokens of an expression, cut from the left (expr(n), OPERANDS and OPERATORS).
 -- `k` is a number of bytes that are passed over.
-use Rattle.std.specs.Prelude.{ℕ, zero, suc, pred, ◌+◌, Bool, true, false, ◌&&◌, ◌||◌, ◌==◌, nat_lt, List, [], ◌∷◌, take, drop, Option, Some, None, codes}
+use Rattle.std.specs.Prelude.{ℕ, zero, suc, pred, ◌+◌, Bool, true, false, ◌&&◌, ◌||◌, if◌then◌else◌, ◌==◌, nat_lt, List, [], ◌∷◌, take, drop, Option, Some, None, codes}
 use Rattle.std.specs.List.{prefix_len}
 use Rattle.std.specs.Str.{bytes_eq, str_eq_ignore_ascii_case}
 use Rattle.std.specs.Char.{is_digit, is_ascii_alphabetic, is_ascii_alphanumeric}
@@ -35,110 +35,44 @@ pub data Cut : Type 0 where
 -- what a sign of this byte twice is
 abbrev pub doubled : ℕ → Option Op
 doubled b =
-    elim (b == 42) [
-      | true ↦ Some Pow
-      | false ↦
-          elim (b == 60) [
-            | true ↦ Some Shl
-            | false ↦
-                elim (b == 62) [
-                  | true ↦ Some Shr
-                  | false ↦
-                      elim (b == 61) [
-                        | true ↦ Some Equal
-                        | false ↦
-                            elim (b == 38) [
-                              | true ↦ Some And
-                              | false ↦
-                                  elim (b == 124) [ true ↦ Some Or | false ↦ None ]
-                            ]
-                      ]
-                ]
-          ]
-    ]
+    if b == 42 then Some Pow else
+    if b == 60 then Some Shl else
+    if b == 62 then Some Shr else
+    if b == 61 then Some Equal else
+    if b == 38 then Some And else
+    if b == 124 then Some Or else None
 
 -- what a sign of this byte and `=` is
 abbrev pub with_equals : ℕ → Option Op
 with_equals b =
-    elim (b == 60) [
-      | true ↦ Some LessEqual
-      | false ↦
-          elim (b == 62) [
-            | true ↦ Some GreaterEqual
-            | false ↦
-                elim (b == 33) [ true ↦ Some NotEqual | false ↦ None ]
-          ]
-    ]
+    if b == 60 then Some LessEqual else
+    if b == 62 then Some GreaterEqual else
+    if b == 33 then Some NotEqual else None
 
 -- the operator that a sign of this byte alone is
 abbrev pub single : ℕ → Option Op
 single b =
-    elim (b == 126) [
-      | true ↦ Some BitNot
-      | false ↦
-          elim (b == 33) [
-            | true ↦ Some Not
-            | false ↦
-                elim (b == 42) [
-                  | true ↦ Some Mul
-                  | false ↦
-                      elim (b == 47) [
-                        | true ↦ Some Div
-                        | false ↦
-                            elim (b == 37) [
-                              | true ↦ Some Mod
-                              | false ↦
-                                  elim (b == 43) [
-                                    | true ↦ Some Add
-                                    | false ↦
-                                        elim (b == 45) [
-                                          | true ↦ Some Sub
-                                          | false ↦
-                                              elim (b == 60) [
-                                                | true ↦ Some Less
-                                                | false ↦
-                                                    elim (b == 62) [
-                                                      | true ↦ Some Greater
-                                                      | false ↦
-                                                          elim (b == 38) [
-                                                            | true ↦ Some BitAnd
-                                                            | false ↦
-                                                                elim (b == 94) [
-                                                                  | true ↦ Some BitXor
-                                                                  | false ↦
-                                                                      elim (b == 124) [
-                                                                        | true ↦ Some BitOr
-                                                                        | false ↦
-                                                                            elim (b == 63) [ true ↦ Some Choose | false ↦ None ]
-                                                                      ]
-                                                                ]
-                                                          ]
-                                                    ]
-                                              ]
-                                        ]
-                                  ]
-                            ]
-                      ]
-                ]
-          ]
-    ]
+    if b == 126 then Some BitNot else
+    if b == 33 then Some Not else
+    if b == 42 then Some Mul else
+    if b == 47 then Some Div else
+    if b == 37 then Some Mod else
+    if b == 43 then Some Add else
+    if b == 45 then Some Sub else
+    if b == 60 then Some Less else
+    if b == 62 then Some Greater else
+    if b == 38 then Some BitAnd else
+    if b == 94 then Some BitXor else
+    if b == 124 then Some BitOr else
+    if b == 63 then Some Choose else None
 
 -- a sign that is no operator
 abbrev pub mark : ℕ → Cut
 mark b =
-    elim (b == 40) [
-      | true ↦ one opening 1
-      | false ↦
-          elim (b == 41) [
-            | true ↦ one closing 1
-            | false ↦
-                elim (b == 44) [
-                  | true ↦ one comma 1
-                  | false ↦
-                      elim (b == 58) [ true ↦ one colon 1 | false ↦ none_here ]
-                ]
-          ]
-    ]
+    if b == 40 then one opening 1 else
+    if b == 41 then one closing 1 else
+    if b == 44 then one comma 1 else
+    if b == 58 then one colon 1 else none_here
 
 -- an operator of two bytes
 abbrev pub pair : ℕ → List ℕ → Option Op
@@ -170,36 +104,18 @@ is_word_byte b = is_ascii_alphanumeric b || b == 95
 -- an operator that is spelled with letters
 abbrev pub operator_word : List ℕ → Option Op
 operator_word word =
-    elim (bytes_eq word (codes "eq")) [
-      | true ↦ Some TextEqual
-      | false ↦
-          elim (bytes_eq word (codes "ne")) [
-            | true ↦ Some TextNotEqual
-            | false ↦
-                elim (bytes_eq word (codes "in")) [
-                  | true ↦ Some Member
-                  | false ↦
-                      elim (bytes_eq word (codes "ni")) [ true ↦ Some NotMember | false ↦ None ]
-                ]
-          ]
-    ]
+    if bytes_eq word (codes "eq") then Some TextEqual else
+    if bytes_eq word (codes "ne") then Some TextNotEqual else
+    if bytes_eq word (codes "in") then Some Member else
+    if bytes_eq word (codes "ni") then Some NotMember else None
 
 -- the name of a function
 abbrev pub function_word : List ℕ → Option Op
 function_word word =
-    elim (bytes_eq word (codes "abs")) [
-      | true ↦ Some Abs
-      | false ↦
-          elim (bytes_eq word (codes "int")) [
-            | true ↦ Some Int
-            | false ↦
-                elim (bytes_eq word (codes "max")) [
-                  | true ↦ Some Max
-                  | false ↦
-                      elim (bytes_eq word (codes "min")) [ true ↦ Some Min | false ↦ None ]
-                ]
-          ]
-    ]
+    if bytes_eq word (codes "abs") then Some Abs else
+    if bytes_eq word (codes "int") then Some Int else
+    if bytes_eq word (codes "max") then Some Max else
+    if bytes_eq word (codes "min") then Some Min else None
 
 -- whether two words are the same but for the case of their letters
 abbrev pub is_same_word : List ℕ → List ℕ → Bool
@@ -281,15 +197,9 @@ unmarked text = scaled (run 10 text) (run 10 text + fraction (run 10 text) (drop
 -- the base that a mark after a 0 names
 abbrev pub base_of_mark : ℕ → Option ℕ
 base_of_mark mark =
-    elim (is_hexadecimal_mark mark) [
-      | true ↦ Some 16
-      | false ↦
-          elim (is_octal_mark mark) [
-            | true ↦ Some 8
-            | false ↦
-                elim (is_binary_mark mark) [ true ↦ Some 2 | false ↦ None ]
-          ]
-    ]
+    if is_hexadecimal_mark mark then Some 16 else
+    if is_octal_mark mark then Some 8 else
+    if is_binary_mark mark then Some 2 else None
 
 -- how many bytes a mark of a base and the digits after it take, or 0
 abbrev pub marked : List ℕ → ℕ
