@@ -1,5 +1,6 @@
 #!/bin/sh
-# Prints the time that splitting and joining a list takes for a byte, at 64 KiB, 256 KiB and 1 MiB.
+# Prints the time that splitting and joining a list, and reading an expression, take for a byte, at 64 KiB,
+# 256 KiB and 1 MiB.
 # Further runs differ by what else the machine does.
 set -eu
 cd "$(dirname "$0")/../crates/bench_lists"

@@ -1,4 +1,4 @@
-//! Lists of 64 KiB, 256 KiB and 1 MiB split and joined.
+//! Lists of 64 KiB, 256 KiB and 1 MiB split and joined, and expressions of these sizes read.
 //!
 //! Without arguments it says of the first what comes out. With the argument `times` it prints of all
 //! three how long each takes for a byte.
@@ -8,18 +8,25 @@ use std::alloc::Global;
 use std::env;
 use std::rt::Clock;
 use std::time::{Duration, Instant};
+use tt_exprs::{Parsed, parse};
 use tt_lists::{Split, join_list, split};
 use tt_text::Texts;
 
 // An item of each form.
 const ITEMS: &[u8] = b"word {two words} \"two more\" back\\ slash {a {b} c} #sign $name [script] ";
 
+// An operand of a function, with others in it.
+const OPERAND: &[u8] = b"12 * $x - abs(3), ";
+
 fn main(rt: HostRuntime) -> anyhow::Result<()> {
     let is_timed = env::args(&rt)?.any(|word| word.as_str() == "times");
     run(&rt, rt.alloc(), 1 << 16, is_timed)?;
+    run_expression(&rt, rt.alloc(), 1 << 16, is_timed)?;
     if is_timed {
-        run(&rt, rt.alloc(), 1 << 18, is_timed)?;
-        run(&rt, rt.alloc(), 1 << 20, is_timed)?;
+        for size in [1 << 18, 1 << 20] {
+            run(&rt, rt.alloc(), size, is_timed)?;
+            run_expression(&rt, rt.alloc(), size, is_timed)?;
+        }
     }
     Ok(())
 }
@@ -47,6 +54,38 @@ fn run(
         println!(rt; "{size} bytes: {count} items, joined {bytes} bytes")?;
     }
     Ok(())
+}
+
+fn run_expression(
+    rt: &(impl Clock + Print),
+    alloc: Global,
+    size: usize,
+    is_timed: bool,
+) -> anyhow::Result<()> {
+    let text = expression_text(alloc, size)?;
+    let start = Instant::now(rt)?;
+    let parsed = parse(alloc, text.as_slice())?;
+    let reading = start.elapsed(rt)?;
+    let Parsed::Tree(_) = parsed else {
+        anyhow::bail!("not an expression");
+    };
+    if is_timed {
+        let read_time = picoseconds(reading, text.len());
+        println!(rt; "{size} bytes: expression read {read_time} ps a byte")?;
+    } else {
+        println!(rt; "{size} bytes: an expression of {} bytes", text.len())?;
+    }
+    Ok(())
+}
+
+// A function of so many operands that the text has this size.
+fn expression_text(alloc: Global, size: usize) -> anyhow::Result<Vec<u8>> {
+    let mut text = Vec::from_slice(alloc, b"max(")?;
+    for _ in 0..size / OPERAND.len() {
+        text.extend_from_slice(OPERAND)?;
+    }
+    text.extend_from_slice(b"0)")?;
+    Ok(text)
 }
 
 fn list_text(alloc: Global, size: usize) -> anyhow::Result<Vec<u8>> {
