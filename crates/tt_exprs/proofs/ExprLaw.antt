@@ -1,10 +1,10 @@
 -- The function that makes a tree of tokens is the grammar of expressions.
-use Rattle.std.proofs.Common.{◌≡◌, ◌⊎◌, ℕ, ◌<◌, ◌≤◌, List, [], refl, ap, sym, ◌∙◌, subst, inl, inr}
+use Rattle.std.proofs.Common.{◌≡◌, ◌⊎◌, ℕ, ◌<◌, ◌≤◌, List, [], ap, sym, ◌∙◌, subst, inl, inr}
 use Rattle.tt_exprs.specs.Trees.{PlainExpr}
 use Rattle.tt_exprs.specs.Tokens.{PlainToken}
 use Rattle.tt_exprs.specs.Parsing.{most_nested, good, malformed, nested_too_deeply, outcome_of, tree_of}
 use Rattle.tt_exprs.specs.ExprGrammar.{IsExpr, TreeLaw, DepthLaw, FormLaw}
-use Rattle.tt_exprs.proofs.ExprTables.{worth, worth-in, worth-out, fits_or_not}
+use Rattle.tt_exprs.proofs.ExprTables.{worth-in, worth-out, fits_or_not}
 use Rattle.tt_exprs.proofs.ExprReads.{grammar_read}
 use Rattle.tt_exprs.proofs.ExprSpells.{Reads, spelled_or_not}
 
@@ -32,6 +32,7 @@ tree_law ts expr = (λ e. found e (spelled_or_not ts), λ h. read_in h.1 h.2)
     fitting : tree_of ts ≡ good expr → (r : Reads 0 ts) → (r.1 ≤ most_nested) ⊎ (most_nested < r.1) → (depth : ℕ) × IsExpr ts expr depth × (depth ≤ most_nested)
     fitting e r (inl low) = (r.1, subst (λ x. IsExpr ts x r.1) (good_same r.0 expr (sym (read_in r.2 low) ∙ e)) r.2, low)
     fitting e r (inr high) = absurd (good_shallow expr (sym e ∙ read_out r.2 high))
+
     found : tree_of ts ≡ good expr → (tree_of ts ≡ malformed) ⊎ Reads 0 ts → (depth : ℕ) × IsExpr ts expr depth × (depth ≤ most_nested)
     found e (inl bad) = absurd (good_formed expr (sym e ∙ bad))
     found e (inr r) = fitting e r (fits_or_not r.1)
@@ -42,6 +43,7 @@ depth_law ts = (λ e. found e (spelled_or_not ts), λ h. read_out h.2 h.3)
     deeper : tree_of ts ≡ nested_too_deeply → (r : Reads 0 ts) → (r.1 ≤ most_nested) ⊎ (most_nested < r.1) → (expr : PlainExpr) × (depth : ℕ) × IsExpr ts expr depth × (most_nested < depth)
     deeper e r (inl low) = absurd (good_shallow r.0 (sym (read_in r.2 low) ∙ e))
     deeper e r (inr high) = (r.0, r.1, r.2, high)
+
     found : tree_of ts ≡ nested_too_deeply → (tree_of ts ≡ malformed) ⊎ Reads 0 ts → (expr : PlainExpr) × (depth : ℕ) × IsExpr ts expr depth × (most_nested < depth)
     found e (inl bad) = absurd (deep_formed (sym e ∙ bad))
     found e (inr r) = deeper e r (fits_or_not r.1)
@@ -52,6 +54,7 @@ form_law ts = (λ e expr depth h. none e h (fits_or_not depth), λ h. found h (s
     none : tree_of ts ≡ malformed → {expr : PlainExpr} {depth : ℕ} → IsExpr ts expr depth → (depth ≤ most_nested) ⊎ (most_nested < depth) → ⊥
     none e {expr} {depth} h (inl low) = good_formed expr (sym (read_in h low) ∙ e)
     none e {expr} {depth} h (inr high) = deep_formed (sym (read_out h high) ∙ e)
+
     found : ((expr : PlainExpr) (depth : ℕ) → IsExpr ts expr depth → ⊥) → (tree_of ts ≡ malformed) ⊎ Reads 0 ts → tree_of ts ≡ malformed
     found h (inl bad) = bad
     found h (inr r) = absurd (h r.0 r.1 r.2)

@@ -1,14 +1,13 @@
 -- What the grammar spells, the function reads.
-use Rattle.std.proofs.Common.{◌≡◌, ◌≢◌, ℕ, zero, suc, ◌+◌, ◌<◌, ◌≤◌, max, Bool, true, false, List, [], ◌∷◌, ◌++◌, fold, Option, Some, None, refl, ap, sym, ◌∙◌, subst, append_assoc, arith, inl, inr, ◌⊎◌}
+use Rattle.std.proofs.Common.{◌≡◌, ◌≢◌, ℕ, suc, ◌<◌, ◌≤◌, max, true, false, List, [], ◌∷◌, ◌++◌, fold, Some, refl, ap, sym, ◌∙◌, append_assoc, arith, inl, inr, ◌⊎◌}
 use Rattle.std.proofs.lemmas.List.Sums.{fold-append}
 use Rattle.tt_exprs.specs.Trees.{PlainExpr, node, PlainExprs, none, more}
 use Rattle.tt_exprs.specs.Precedence.{binding, level, left_level}
-use Rattle.tt_exprs.specs.Tokens.{PlainToken, operand, operator, function, opening, closing, comma, colon}
-use Rattle.tt_exprs.specs.Parsing.{PlainValue, nested, too_deep, most_nested, PlainRow, no_operands, followed_by, in_a_row, applied, PlainPending, unary, binary, test, branch, parenthesis, arguments, PlainWaiting, gathered, binds, reaches, closed, PlainState, wants, calls, has, wrong, as_prefix, prefixed, takes_more, operated, wants_after, with_left, after_comma, after_closing, after_colon, step, PlainOutcome, outcome_of, finished, tree_of, level_of, left_level_of}
+use Rattle.tt_exprs.specs.Tokens.{PlainToken, operator, function, opening, closing, comma, colon}
+use Rattle.tt_exprs.specs.Parsing.{PlainValue, nested, PlainRow, no_operands, followed_by, in_a_row, applied, PlainPending, unary, binary, test, branch, parenthesis, arguments, PlainWaiting, gathered, binds, reaches, PlainState, wants, has, as_prefix, prefixed, takes_more, operated, wants_after, with_left, after_comma, after_closing, after_colon, step, outcome_of, finished, tree_of, level_of, left_level_of}
 use Rattle.tt_exprs.specs.ExprGrammar.{IsOperand, token_operand, in_parentheses, function_call, after_prefix, IsArguments, last_argument, next_argument, IsAtLevel, one_operand, from_left, from_right, choice}
 use Rattle.tt_exprs.specs.declared.op.Op.{Op}
 use Rattle.tt_exprs.specs.declared.op.Op.TheVariants.{Choose}
-use Rattle.tt_exprs.specs.declared.precedence.Binding.{Binding}
 use Rattle.tt_exprs.specs.declared.precedence.Binding.TheVariants.{Leftwards, Rightwards}
 use Rattle.tt_exprs.proofs.StackSteps.{gathered-empty, gathered-takes, gathered-stops}
 use Rattle.tt_exprs.proofs.ExprTables.{Groups, groups_left, groups_right, groups, left_regular, right_regular, left_binary, leftwards_other, reaches-yes, reaches-no, worth, row_worth, parenthesized-worth, applied-worth, followed-worth, unary-worth, binary-worth, branch-worth}
@@ -237,24 +236,24 @@ mutual
       called_last op pending before deepest ts expr depth (level_comes h (arguments op (row_worth before deepest) ∷ pending) (leaves_opened (arguments op (row_worth before deepest)) pending (called-not op (row_worth before deepest))))
   arguments_come (next_argument {d = d} {e = e} {op = op} {ts = ts} {first = first} {others = others} {expr = expr} {exprs = exprs} takes cut h rest) pending before deepest =
       called_next op pending before deepest ts first others expr exprs d e takes cut
-        (level_comes h (arguments op (row_worth before deepest) ∷ pending) (leaves_opened (arguments op (row_worth before deepest)) pending (called-not op (row_worth before deepest))))
-        (arguments_come rest pending (before ++ expr ∷ []) (max deepest d))
+      (level_comes h (arguments op (row_worth before deepest) ∷ pending) (leaves_opened (arguments op (row_worth before deepest)) pending (called-not op (row_worth before deepest))))
+      (arguments_come rest pending (before ++ expr ∷ []) (max deepest d))
 
   pub level_comes : {bound : ℕ} {ts : List PlainToken} {expr : PlainExpr} {depth : ℕ} → IsAtLevel bound ts expr depth → (pending : List PlainPending) → Leaves bound pending → Comes bound pending ts (worth expr depth)
   level_comes (one_operand {bound = bound} h) pending l = operand_comes h bound pending
   level_comes (from_left {bound = bound} {n = n} {d = d} {e = e} {op = op} {ts = ts} {left = left} {right = right} {a = a} {b = b} binds h cut one two) pending l =
       comes_binary bound n n (suc n) op ts left right pending a b d e (leftwards_other op n binds) (ap level binds) (ap left_level binds) h (omega arith) cut l
-        (level_comes one pending (leaves_more bound n pending h l))
-        (level_comes two (binary op (worth a d) ∷ pending) (leaves_left op n (worth a d) pending binds))
+      (level_comes one pending (leaves_more bound n pending h l))
+      (level_comes two (binary op (worth a d) ∷ pending) (leaves_left op n (worth a d) pending binds))
   level_comes (from_right {bound = bound} {n = n} {d = d} {e = e} {op = op} {ts = ts} {left = left} {right = right} {a = a} {b = b} other binds h cut one two) pending l =
       comes_binary bound n (suc n) n op ts left right pending a b d e other (ap level binds) (ap left_level binds ∙ ap Some (omega arith)) h (omega arith) cut l
-        (level_comes one pending (leaves_more bound (suc n) pending (omega (arith, h)) l))
-        (level_comes two (binary op (worth a d) ∷ pending) (leaves_right op n (worth a d) pending binds))
+      (level_comes one pending (leaves_more bound (suc n) pending (omega (arith, h)) l))
+      (level_comes two (binary op (worth a d) ∷ pending) (leaves_right op n (worth a d) pending binds))
   level_comes (choice {d = d} {e = e} {f = f} {ts = ts} {condition = condition} {branches = branches} {chosen = chosen} {other = other} {a = a} {b = b} {c = c} cut cut_again one two three) pending l =
       comes_choice ts condition branches chosen other pending a b c d e f cut cut_again l
-        (level_comes one pending (leaves_more 0 1 pending (omega arith) l))
-        (level_comes two (test (worth a d) ∷ pending) (leaves_opened (test (worth a d)) pending (test-not (worth a d))))
-        (level_comes three (branch (worth a d) (worth b e) ∷ pending) (leaves_branch (worth a d) (worth b e) pending))
+      (level_comes one pending (leaves_more 0 1 pending (omega arith) l))
+      (level_comes two (test (worth a d) ∷ pending) (leaves_opened (test (worth a d)) pending (test-not (worth a d))))
+      (level_comes three (branch (worth a d) (worth b e) ∷ pending) (leaves_branch (worth a d) (worth b e) pending))
 
 -- what the grammar spells, the function comes to
 pub grammar_read : {ts : List PlainToken} {expr : PlainExpr} {depth : ℕ} → IsAtLevel 0 ts expr depth → tree_of ts ≡ outcome_of (worth expr depth) []

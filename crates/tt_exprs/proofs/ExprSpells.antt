@@ -1,5 +1,5 @@
 -- What the function reads, the grammar spells.
-use Rattle.std.proofs.Common.{◌≡◌, ◌≢◌, ℕ, zero, suc, ◌+◌, ◌<◌, ◌≤◌, max, Bool, true, false, true≢false, List, [], ◌∷◌, ◌++◌, fold, Option, Some, None, refl, ap, sym, ◌∙◌, subst, append_assoc, append-nil, arith, inl, inr, ◌⊎◌}
+use Rattle.std.proofs.Common.{◌≡◌, ◌≢◌, ℕ, zero, suc, ◌<◌, ◌≤◌, max, Bool, true, false, true≢false, List, [], ◌∷◌, ◌++◌, fold, Option, Some, None, refl, ap, sym, ◌∙◌, subst, append_assoc, append-nil, arith, inl, inr, ◌⊎◌}
 use Rattle.tt_exprs.specs.Trees.{PlainExpr, node, PlainExprs, none, more}
 use Rattle.tt_exprs.specs.Precedence.{binding, level, left_level}
 use Rattle.tt_exprs.specs.Tokens.{PlainToken, operand, operator, function, opening, closing, comma, colon}
@@ -91,12 +91,12 @@ record Gathered (k : ℕ) (w : PlainWaiting) (ts : List PlainToken) : Type 0 whe
 rests : (k : ℕ) (first : PlainPending) (pending : List PlainPending) (value : PlainValue) (before inside ts : List PlainToken) → binds k first ≡ false → Spells 0 (first ∷ pending) before → Reads k inside → Reads 0 inside → ts ≡ before ++ inside → Gathered k (gathered k (first ∷ pending) value) ts
 rests k first pending value before inside ts never s low fits e =
     subst (λ w. Gathered k w ts) (sym (gathered-stops k first pending value never))
-      (record { bound = 0; before = before; inside = inside; stack = s; low = low; fits = fits; whole = e; stops = λ op m f g. omega arith })
+    (record { bound = 0; before = before; inside = inside; stack = s; low = low; fits = fits; whole = e; stops = λ op m f g. omega arith })
 
 gathers : (k : ℕ) {bound : ℕ} {pending : List PlainPending} {before : List PlainToken} → k ≤ tightest → (s : Spells bound pending before) → (value : PlainValue) (inside ts : List PlainToken) → Reads k inside → Reads bound inside → ts ≡ before ++ inside → Gathered k (gathered k pending value) ts
 gathers k h starts value inside ts low fits e =
     subst (λ w. Gathered k w ts) (sym (gathered-empty k value))
-      (record { bound = 0; before = []; inside = inside; stack = starts; low = low; fits = fits; whole = e; stops = λ op m f g. omega arith })
+    (record { bound = 0; before = []; inside = inside; stack = starts; low = low; fits = fits; whole = e; stops = λ op m f g. omega arith })
 gathers k h (in_parenthesis {pending = pending} {whole = whole} s c) value inside ts low fits e = rests k parenthesis pending value whole inside ts refl (in_parenthesis s c) low fits e
 gathers k h (in_arguments {op = op} {operands = operands} {pending = pending} {whole = whole} own s f c) value inside ts low fits e = rests k (arguments op operands) pending value whole inside ts refl (in_arguments own s f c) low fits e
 gathers k h (in_test {condition = condition} {pending = pending} {whole = whole} left s j r c) value inside ts low fits e = rests k (test condition) pending value whole inside ts refl (in_test left s j r c) low fits e
@@ -107,11 +107,11 @@ gathers k h (waits {bound = bound} {wanted = wanted} {first = first} {pending = 
     go true holds next =
         let made = r inside fits in
         subst (λ w. Gathered k w ts) (sym (gathered-takes k first pending value holds))
-          (next (closed first value) (reads_less n k (own ++ inside) (f k h holds) made) (reads_less n bound (own ++ inside) j made)
-            (e ∙ ap (λ x. x ++ inside) c ∙ append_assoc before own inside))
+        (next (closed first value) (reads_less n k (own ++ inside) (f k h holds) made) (reads_less n bound (own ++ inside) j made)
+        (e ∙ ap (λ x. x ++ inside) c ∙ append_assoc before own inside))
     go false never next =
         subst (λ w. Gathered k w ts) (sym (gathered-stops k first pending value never))
-          (record { bound = wanted; before = whole; inside = inside; stack = waits n own s j i b f g r c; low = low; fits = fits; whole = e; stops = λ op m p q. g op m k p q never })
+        (record { bound = wanted; before = whole; inside = inside; stack = waits n own s j i b f g r c; low = low; fits = fits; whole = e; stops = λ op m p q. g op m k p q never })
 
 -- ---- from token to token ----
 
@@ -130,10 +130,10 @@ joined ts before inside front own tail e f =
 prefix_waits : (sign op : Op) (bound : ℕ) (pending : List PlainPending) (ts : List PlainToken) → as_prefix sign ≡ Some op → Spells bound pending ts → Spells tightest (unary op ∷ pending) (ts ++ operator sign ∷ [])
 prefix_waits sign op bound pending ts e s =
     waits tightest (operator sign ∷ []) s (spells_bound s) (omega arith) refl
-      (λ k h b. h)
-      (λ other m k f g b. absurd (true≢false b))
-      (λ right r. (node op (more r.0 none), suc r.1, one_operand (after_prefix e (level_operand (omega arith) r.2))))
-      refl
+    (λ k h b. h)
+    (λ other m k f g b. absurd (true≢false b))
+    (λ right r. (node op (more r.0 none), suc r.1, one_operand (after_prefix e (level_operand (omega arith) r.2))))
+    refl
 
 after_sign : (sign : Op) (bound : ℕ) (pending : List PlainPending) (ts : List PlainToken) → Spells bound pending ts → (o : Option Op) → as_prefix sign ≡ o → Spelled (prefixed pending o) (ts ++ operator sign ∷ [])
 after_sign sign bound pending ts s (Some op) e = (tightest, prefix_waits sign op bound pending ts e s)
@@ -176,9 +176,9 @@ closes (waits {first = arguments op l} n own s j i b f g t c) value inside ts r 
 comma_opens : {bound : ℕ} {pending : List PlainPending} (op : Op) (operands more_operands : PlainRow) (own front whole inside ts : List PlainToken) → Spells bound pending front → ((rest : List PlainToken) → ReadsArguments op rest → ReadsArguments op (own ++ rest)) → whole ≡ front ++ (function op ∷ opening ∷ own) → Reads 0 inside → ts ≡ whole ++ inside → takes_more op ≡ true → Spells 0 (arguments op more_operands ∷ pending) (ts ++ comma ∷ [])
 comma_opens op operands more_operands own front whole inside ts s f c r e takes =
     in_arguments (own ++ (inside ++ comma ∷ [])) s
-      (λ rest a. subst (ReadsArguments op) (sym (append_assoc own (inside ++ comma ∷ []) rest ∙ ap (λ x. own ++ x) (append_assoc inside (comma ∷ []) rest)))
-        (f (inside ++ comma ∷ rest) (more r.0 a.0, max r.1 a.1, next_argument takes refl r.2 a.2)))
-      (joined ts whole inside front (function op ∷ opening ∷ own) (comma ∷ []) e c)
+    (λ rest a. subst (ReadsArguments op) (sym (append_assoc own (inside ++ comma ∷ []) rest ∙ ap (λ x. own ++ x) (append_assoc inside (comma ∷ []) rest)))
+    (f (inside ++ comma ∷ rest) (more r.0 a.0, max r.1 a.1, next_argument takes refl r.2 a.2)))
+    (joined ts whole inside front (function op ∷ opening ∷ own) (comma ∷ []) e c)
 
 -- `,`
 parts : {bound : ℕ} {pending : List PlainPending} {before : List PlainToken} → Spells bound pending before → (value : PlainValue) (inside ts : List PlainToken) → Reads 0 inside → ts ≡ before ++ inside → Spelled (after_comma value pending) (ts ++ comma ∷ [])
@@ -209,12 +209,14 @@ chooses : {bound : ℕ} {pending : List PlainPending} {before : List PlainToken}
 chooses starts value inside ts r e = tt
 chooses (in_parenthesis s c) value inside ts r e = tt
 chooses (in_arguments own s f c) value inside ts r e = tt
-chooses (in_test {before = front} {whole = whole} left s h t c) value inside ts r e =
-    (0, waits 0 ((left ++ operator Choose ∷ []) ++ (inside ++ colon ∷ [])) s h (omega arith) refl
+chooses (in_test {before = front} {whole = whole} left s h t c) value inside ts r e = (
+  0,
+  waits 0 ((left ++ operator Choose ∷ []) ++ (inside ++ colon ∷ [])) s h (omega arith) refl
       (λ k j b. reaches-true k 0 b)
       (λ op m k p q b. omega arith)
       (λ right o. (node Choose (more t.0 (more r.0 (more o.0 none))), suc (max (max t.1 r.1) o.1), choice (chosen_cut left inside right) refl t.2 r.2 o.2))
-      (joined ts whole inside front (left ++ operator Choose ∷ []) (colon ∷ []) e c))
+      (joined ts whole inside front (left ++ operator Choose ∷ []) (colon ∷ []) e c),
+)
 chooses (waits {first = unary op} n own s j i b f g t c) value inside ts r e = tt
 chooses (waits {first = binary op l} n own s j i b f g t c) value inside ts r e = tt
 chooses (waits {first = test l} n own s j i b f g t c) value inside ts r e = absurd (true≢false (sym b))
@@ -233,10 +235,10 @@ left_waits op n w ts e g =
     let lev : level_of op ≡ Some n = ap level e in
     let range = left_regular op n e in
     waits n (g.inside ++ operator op ∷ []) g.stack (g.stops op n lev (ap left_level e)) (omega (arith, range.1)) (ap (reaches 0) lev ∙ reaches-yes 0 n (omega arith))
-      (λ k h b. reaches-true k n (sym (ap (reaches k) lev) ∙ b))
-      (λ other m k p q b. above other m k p (reaches-false k n (sym (ap (reaches k) lev) ∙ b)) (groups other k q))
-      (λ right r. (node op (more g.low.0 (more r.0 none)), suc (max g.low.1 r.1), from_left e (omega arith) (append_assoc g.inside (operator op ∷ []) right) g.low.2 r.2))
-      (appended ts g.before g.inside (operator op ∷ []) g.whole)
+    (λ k h b. reaches-true k n (sym (ap (reaches k) lev) ∙ b))
+    (λ other m k p q b. above other m k p (reaches-false k n (sym (ap (reaches k) lev) ∙ b)) (groups other k q))
+    (λ right r. (node op (more g.low.0 (more r.0 none)), suc (max g.low.1 r.1), from_left e (omega arith) (append_assoc g.inside (operator op ∷ []) right) g.low.2 r.2))
+    (appended ts g.before g.inside (operator op ∷ []) g.whole)
   where
     above : (other : Op) (m k : ℕ) → level_of other ≡ Some m → n < k → Groups other k → suc n ≤ m
     above other m k p h (groups_left b) = let same : m ≡ k = some_same m k (sym p ∙ ap level b) in omega (arith, same, h)
@@ -251,14 +253,15 @@ right_waits op n k w ts other e j g =
     let lev : level_of op ≡ Some n = ap level e in
     let left : left_level_of op ≡ Some k = ap left_level e ∙ ap Some (omega (arith, j)) in
     waits n (g.inside ++ operator op ∷ []) g.stack (g.stops op n lev left) (low (right_regular op n e)) (ap (reaches 0) lev ∙ reaches-yes 0 n (omega arith))
-      (λ l h b. reaches-true l n (sym (ap (reaches l) lev) ∙ b))
-      (λ o m l p q b. above o m l p (reaches-false l n (sym (ap (reaches l) lev) ∙ b)) (groups o l q))
-      (λ right r. (node op (more g.low.0 (more r.0 none)), suc (max g.low.1 r.1), from_right other e (omega arith) (append_assoc g.inside (operator op ∷ []) right) (level_less (suc n) (omega (arith, j)) g.low.2) r.2))
-      (appended ts g.before g.inside (operator op ∷ []) g.whole)
+    (λ l h b. reaches-true l n (sym (ap (reaches l) lev) ∙ b))
+    (λ o m l p q b. above o m l p (reaches-false l n (sym (ap (reaches l) lev) ∙ b)) (groups o l q))
+    (λ right r. (node op (more g.low.0 (more r.0 none)), suc (max g.low.1 r.1), from_right other e (omega arith) (append_assoc g.inside (operator op ∷ []) right) (level_less (suc n) (omega (arith, j)) g.low.2) r.2))
+    (appended ts g.before g.inside (operator op ∷ []) g.whole)
   where
     low : (n ≡ 13) ⊎ (n ≡ 0) → n ≤ tightest
     low (inl d) = omega (arith, d)
     low (inr d) = omega (arith, d)
+
     above : (o : Op) (m l : ℕ) → level_of o ≡ Some m → n < l → Groups o l → n ≤ m
     above o m l p h (groups_left b) = let same : m ≡ l = some_same m l (sym p ∙ ap level b) in omega (arith, same, h)
     above o m l p h (groups_right i b d) = let same : m ≡ i = some_same m i (sym p ∙ ap level b) in omega (arith, same, h, d)
@@ -273,9 +276,11 @@ operates op k w ts e g = go (choose_or_not op)
   where
     plain : op ≢ Choose → (bound : ℕ) → Spells bound (binary op w.value ∷ w.pending) (ts ++ operator op ∷ []) → Spelled (wants_after (with_left op w.value) w.pending) (ts ++ operator op ∷ [])
     plain other bound s = subst (λ p. Spelled (wants_after p w.pending) (ts ++ operator op ∷ [])) (sym (left_binary op w.value other)) (bound, s)
+
     by_group : op ≢ Choose → Groups op k → Spelled (wants_after (with_left op w.value) w.pending) (ts ++ operator op ∷ [])
     by_group other (groups_left b) = plain other (suc k) (left_waits op k w ts b g)
     by_group other (groups_right n b j) = plain other n (right_waits op n k w ts other b j g)
+
     go : (op ≡ Choose) ⊎ (op ≢ Choose) → Spelled (wants_after (with_left op w.value) w.pending) (ts ++ operator op ∷ [])
     go (inl c) = subst (λ o. Spelled (wants_after (with_left o w.value) w.pending) (ts ++ operator o ∷ [])) (sym c) (0, test_waits k w ts (ap left_level_of (sym c) ∙ e) g)
     go (inr other) = by_group other (groups op k e)
