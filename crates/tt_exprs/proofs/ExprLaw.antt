@@ -1,10 +1,10 @@
 -- The function that makes a tree of tokens is the grammar of expressions.
-use Rattle.std.proofs.Common.{◌≡◌, ◌⊎◌, ℕ, ◌<◌, ◌≤◌, List, [], refl, ap, sym, ◌∙◌, subst, inl, inr}
+use Rattle.std.proofs.Common.{◌≡◌, ◌⊎◌, ℕ, ◌<◌, ◌≤◌, List, [], ap, sym, ◌∙◌, subst, inl, inr}
 use Rattle.tt_exprs.specs.Trees.{PlainExpr}
 use Rattle.tt_exprs.specs.Tokens.{PlainToken}
 use Rattle.tt_exprs.specs.Parsing.{most_nested, good, malformed, nested_too_deeply, outcome_of, tree_of}
 use Rattle.tt_exprs.specs.ExprGrammar.{IsExpr, TreeLaw, DepthLaw, FormLaw}
-use Rattle.tt_exprs.proofs.ExprTables.{worth, worth-in, worth-out, fits_or_not}
+use Rattle.tt_exprs.proofs.ExprTables.{worth-in, worth-out, fits_or_not}
 use Rattle.tt_exprs.proofs.ExprReads.{grammar_read}
 use Rattle.tt_exprs.proofs.ExprSpells.{Reads, spelled_or_not}
 

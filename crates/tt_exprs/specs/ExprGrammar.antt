@@ -37,7 +37,7 @@ mutual
     from_left : {bound n d e : ℕ} {op : Op} {ts left right : List PlainToken} {a b : PlainExpr} → binding op ≡ Leftwards n → bound ≤ n → ts ≡ left ++ operator op ∷ right → IsAtLevel n left a d → IsAtLevel (suc n) right b e → IsAtLevel bound ts (node op (more a (more b none))) (suc (max d e))
     -- two operands of an operator that groups from the right: the left one binds tighter
     from_right : {bound n d e : ℕ} {op : Op} {ts left right : List PlainToken} {a b : PlainExpr} → op ≢ Choose → binding op ≡ Rightwards n → bound ≤ n → ts ≡ left ++ operator op ∷ right → IsAtLevel (suc n) left a d → IsAtLevel n right b e → IsAtLevel bound ts (node op (more a (more b none))) (suc (max d e))
-    -- condition ? chosen : other, which groups from the right at the lowest level
+    -- condition ? chosen : other, at the lowest level: what is chosen is any expression, and it groups from the right
     choice : {d e f : ℕ} {ts condition branches chosen other : List PlainToken} {a b c : PlainExpr} → ts ≡ condition ++ operator Choose ∷ branches → branches ≡ chosen ++ colon ∷ other → IsAtLevel 1 condition a d → IsAtLevel 0 chosen b e → IsAtLevel 0 other c f → IsAtLevel zero ts (node Choose (more a (more b (more c none)))) (suc (max (max d e) f))
 
 -- the tokens spell this tree, which is nested so deeply

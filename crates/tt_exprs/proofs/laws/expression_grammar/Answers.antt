@@ -1,7 +1,4 @@
 use Rattle.tt_exprs.proofs.ExprLaw.{tree_law, depth_law, form_law}
-use Rattle.tt_exprs.proofs.ExprReads
-use Rattle.tt_exprs.proofs.ExprSpells
-use Rattle.tt_exprs.proofs.ExprTables
 use Rattle.tt_exprs.proofs.laws.expression_grammar.Goals as goal
 
 pub returns : goal.returns
