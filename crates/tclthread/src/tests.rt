@@ -276,7 +276,7 @@ fn a_thousand_threads_are_stepped_in_reverse_order(rt: HostRuntime) -> Result<()
         script.extend_from_slice(sent.as_bytes())?;
     }
     for step in 0..999 {
-        let number = 1000 - step;
+        let number = 1000_u32.saturating_sub(step);
         let steps = format!(in alloc; "{number} 2\n")?;
         schedule.extend_from_slice(steps.as_bytes())?;
         let line = format!(in alloc; "for {number}\n")?;
