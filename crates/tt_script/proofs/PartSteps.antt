@@ -1,12 +1,12 @@
 -- One step of reading parts.
-use Rattle.std.proofs.Common.{◌≡◌, ◌≢◌, ℕ, zero, suc, ◌+◌, ◌-◌, ◌<◌, ◌≤◌, Bool, true, false, not, ◌==◌, ◌&&◌, ◌||◌, List, [], ◌∷◌, length, get_or, drop, take, refl, ap, sym, ◌∙◌, arith}
+use Rattle.std.proofs.Common.{◌≡◌, ◌≢◌, ℕ, zero, suc, ◌+◌, ◌-◌, ◌<◌, ◌≤◌, Bool, true, false, not, ◌==◌, ◌&&◌, ◌||◌, List, [], ◌∷◌, length, get_or, drop, take, refl, ap, sym, ◌∙◌, arith, ◌⊎◌, inl, inr}
 use Rattle.std.proofs.lemmas.List.{drop_more, drop-drop, drop_all, length-drop, length-take}
-use Rattle.std.proofs.lemmas.Bool.{eq-eqb, ne_eqb, lt-ltb}
+use Rattle.std.proofs.lemmas.Bool.{eq-eqb, ne_eqb, lt-ltb, cases_lt}
 use Rattle.std.specs.Prelude.{nat_lt, if◌then◌else◌}
 use Rattle.std.specs.List.{prefix_len, position_or_len}
 use Rattle.tt_text.specs.Backslash.{backslash}
 use Rattle.tt_script.specs.Words.{PlainPart, letters, variable, element, script, PlainParts, none, with_letters, with_part}
-use Rattle.tt_script.specs.Reading.{Read, takes, fails, after, mapped, and_then, begins, Level, level, part, parts, parts_at_end, ends_parts, separates, is_terminator, continues_line, dollar, named_variable, braced_variable, named, name_length}
+use Rattle.tt_script.specs.Reading.{Read, takes, fails, after, mapped, and_then, begins, Level, level, part, parts, parts_at_end, ends_parts, separates, is_terminator, continues_line, dollar, named_variable, braced_variable, named, name_length, letters_of}
 use Rattle.tt_lanes.specs.Classes.{is_special, is_special_in_quotes, is_special_in_index}
 use Rattle.tt_script.specs.Scanning.{ends_run, is_letter}
 use Rattle.tt_script.specs.declared.command.ParseFault.{ParseFault}
@@ -18,7 +18,8 @@ use Rattle.tt_script.specs.declared.command.Ending.{Ending}
 use Rattle.tt_script.specs.declared.command.Ending.TheVariants as endings
 use Rattle.tt_script.proofs.Runs.{passes, all}
 use Rattle.tt_script.proofs.Readers.{after-after, after-zero, after-mapped, mapped-mapped, mapped-same}
-use Rattle.tt_script.proofs.Scanning.{unlike}
+use Rattle.tt_script.proofs.Scanning.{unlike, begins_at}
+use Rattle.tt_script.specs.Answers.{ends_within}
 use Rattle.tt_script.proofs.Builds.{with_letters-++}
 use Rattle.tt_script.proofs.Joining.{slice-more}
 
@@ -225,6 +226,36 @@ module _ (level : Level) (ending : Ending) where
       ∙ ap (λ k. after k (mapped (with_letters bs) tail)) (omega arith)
       ∙ after-mapped stop (with_letters bs) tail
       ∙ ap (λ r. mapped (with_letters bs) (after stop (parts level ending 0 r))) rest
+
+-- ---- where parts end ----
+
+module _ (ending : Ending) (text : List ℕ) (end : ℕ) (within : end ≤ length text) (ends : ends_parts ending (drop end text) ≡ true) where
+  pub ended_at : (level : Level) → after end (parts level ending 0 (drop end text)) ≡ takes none end
+  ended_at level = go (cases_lt end (length text))
+    where
+      at_all : (e : Ending) → ending ≡ e → length text ≤ end → after end (parts_at_end e) ≡ takes none end
+      at_all (endings.Word place) same last = ap (takes none) (omega arith)
+      at_all endings.Quote same last = absurd (omega (arith, begins_at 34 text end (ap (λ e. ends_parts e (drop end text)) (sym same) ∙ ends)))
+      at_all endings.Parenthesis same last = absurd (omega (arith, begins_at 41 text end (ap (λ e. ends_parts e (drop end text)) (sym same) ∙ ends)))
+
+      go : ((end < length text) ⊎ (length text ≤ end)) → after end (parts level ending 0 (drop end text)) ≡ takes none end
+      go (inl room) = parts_at-end level ending text end room ends
+      go (inr last) = parts_at-all level ending text end (omega arith) ∙ at_all ending refl last
+
+  pub ended_within : ends_within ending end (length text)
+  ended_within = go ending refl
+    where
+      go : (e : Ending) → ending ≡ e → ends_within e end (length text)
+      go (endings.Word place) same = within
+      go endings.Quote same = begins_at 34 text end (ap (λ e. ends_parts e (drop end text)) (sym same) ∙ ends)
+      go endings.Parenthesis same = begins_at 41 text end (ap (λ e. ends_parts e (drop end text)) (sym same) ∙ ends)
+
+-- letters alone, up to what ends them
+pub plain_parts_at : (level : Level) (ending : Ending) (text : List ℕ) (from end : ℕ) → from ≤ end → end ≤ length text → end ≤ from + prefix_len (is_letter ending) (drop from text)
+    → ends_parts ending (drop end text) ≡ true → after from (parts level ending 0 (drop from text)) ≡ takes (letters_of (take (end - from) (drop from text))) end
+plain_parts_at level ending text from end order within run ends =
+    letters_run level ending text from end order within run
+    ∙ ap (mapped (with_letters (take (end - from) (drop from text)))) (ended_at ending text end within ends level)
 
 -- ---- what `$` begins, at a place ----
 

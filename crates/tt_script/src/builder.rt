@@ -78,7 +78,7 @@ impl Builder {
         Ok(())
     }
 
-    /// Makes the letters a part of their own.
+    /// Makes the letters a part of their own, before others.
     fn close_letters(&mut self, alloc: Global) -> Result<(), NoMemory>
         ensures letters { OnOk result (self.new.letters ≡ []) }
         ensures parts {
@@ -88,7 +88,7 @@ impl Builder {
     {
         if !self.letters.as_bytes().is_empty() {
             let letters = mem::replace(&mut self.letters, Text::new(alloc));
-            self.push_whole(Part::Letters(letters))?;
+            self.done.push(Part::Letters(letters))?;
         }
         Ok(())
     }
@@ -119,10 +119,10 @@ impl Builder {
 pub(crate) fn letters(alloc: Global, text: Text) -> Result<Vec<Part>, NoMemory>
     ensures { IfOk result (λ parts. plain_parts parts.items ≡ letters_of text) }
 {
-    let builder = Builder {
-        mode: Mode::Keep,
-        done: Vec::new(alloc),
-        letters: text,
-    };
-    builder.finish(alloc)
+    if text.as_bytes().is_empty() {
+        return Ok(Vec::new(alloc));
+    }
+    let mut parts = Vec::with_capacity(alloc, 1)?;
+    parts.push(Part::Letters(text))?;
+    Ok(parts)
 }

@@ -1,5 +1,5 @@
 //! What nests: brackets, indices and the words around them (Tcl(n), rules 3 to 8).
-ghost use Rattle.std.specs.Prelude.{◌≡◌, ◌+◌, ◌≤◌, ◌<◌, false, true, length, drop, slice_index, IfOk, OnOk, IfErr};
+ghost use Rattle.std.specs.Prelude.{◌≡◌, ◌+◌, ◌-◌, ◌≤◌, ◌<◌, false, true, length, drop, take, slice_index, IfOk, IfSome, OnOk, IfErr};
 ghost use Rattle.tt_script.specs.Words.{none};
 ghost use Rattle.tt_script.specs.Answers.{Answers, Continues, Refuses, ends_within};
 ghost use Rattle.tt_script.specs.Building.{Adds};
@@ -7,7 +7,7 @@ ghost use Rattle.tt_script.specs.Plain.{plain_part, plain_parts, plain_word, pla
 ghost use Rattle.tt_script.specs.Reading as reading;
 
 use crate::braces::{braced_parts, closing_brace};
-use crate::builder::Builder;
+use crate::builder::{Builder, letters};
 use crate::command::{Ending, ParseFault, Part, Place, Word};
 use crate::mode::Mode;
 use crate::names::{brace_end, name_end, named};
@@ -272,6 +272,10 @@ pub(crate) fn parts(
     ensures within { IfOk result (λ r. (from ≤ r.1) × ends_within ending r.1 (length text.now)) }
     ensures later { reading.ends_parts ending (drop from text.now) ≡ false → IfOk result (λ r. from < r.1) }
 {
+    if let Some(end) = plain_end(text, from, ending) {
+        let plain = mode.text(alloc, &text[from..end])?;
+        return Ok((letters(alloc, plain)?, end));
+    }
     let mut builder = Builder::new(alloc, mode);
     let mut at = from;
     while at < text.len() && !ends_parts(text, at, ending) {
@@ -319,6 +323,24 @@ fn push_part(
             builder.push_letters(&text[at..next])?;
             Ok(next)
         }
+    }
+}
+
+/// The end of parts that begin here, where they are letters alone.
+fn plain_end(text: &[u8], from: usize, ending: Ending) -> Option<usize>
+    requires { from ≤ length text.now }
+    ensures read {
+        IfSome result (λ end. (level : reading.Level) → reading.after from (reading.parts level ending 0 (drop from text.now))
+            ≡ reading.takes (reading.letters_of (take (end - from) (drop from text.now))) end)
+    }
+    ensures within { IfSome result (λ end. (from ≤ end) × ends_within ending end (length text.now)) }
+    ensures ends { IfSome result (λ end. reading.ends_parts ending (drop end text.now) ≡ true) }
+{
+    let end = letters_end(text, from, ending);
+    if ends_parts(text, end, ending) {
+        Some(end)
+    } else {
+        None
     }
 }
 

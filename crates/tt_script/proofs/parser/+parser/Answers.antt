@@ -7,7 +7,7 @@ use Rattle.tt_script.specs.Answers.{Answers}
 use Rattle.tt_script.specs.Building.{so_far}
 use Rattle.tt_script.specs.Plain.{plain_part, plain_parts, plain_words}
 use Rattle.tt_script.specs.Scanning.{ends_run}
-use Rattle.tt_script.specs.Reading.{takes, after, mapped, level}
+use Rattle.tt_script.specs.Reading.{takes, after, mapped, level, letters_of}
 use Rattle.tt_script.proofs.Builds.{plain_letters, plain_variable, plain_element, plain_script}
 use Rattle.tt_script.proofs.Keeping.{mapped-itself, gathered-word}
 use Rattle.tt_script.proofs.Scanning.{run-within}
@@ -87,8 +87,14 @@ parts-returns-in_err-must_end-clause-read t c =
 
 pub parts-returns-in_err-at-clause-read : goal.parts-returns-in_err-at-clause-read
 parts-returns-in_err-at-clause-read t c =
-    answers_exit _ _ c.from_residual.result _ _ c.from_residual.ensures.1
+    answers_exit _ _ c.from_residual-in_err-at.result _ _ c.from_residual-in_err-at.ensures.1
     (refuses_by _ _ _ (λ fault e. c.loop-at.invariant.read.1 ∙ ap (mapped c.loop-at.invariant.read.0) e) c.in_err-at.ensures.read)
+
+pub parts-returns-in-Some-clause-read : goal.parts-returns-in-Some-clause-read
+parts-returns-in-Some-clause-read t c =
+    (letters_of (take (c.in-Some.end - c.args.from) (drop c.args.from c.args.text.now)),
+    c.in-Some.ensures.read (level c.args.depth),
+    λ keep. c.in_ok-letters.ensures ∙ ap letters_of (c.in_ok-plain.ensures keep))
 
 pub push_part-slice_bounds-push_letters-end-in_default : goal.push_part-slice_bounds-push_letters-end-in_default
 push_part-slice_bounds-push_letters-end-in_default t c =
