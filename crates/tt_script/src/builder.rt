@@ -116,6 +116,7 @@ impl Builder {
 }
 
 /// The parts of a text that is all letters.
+#[inline(always)]
 pub(crate) fn letters(alloc: Global, text: Text) -> Result<Vec<Part>, NoMemory>
     ensures { IfOk result (λ parts. plain_parts parts.items ≡ letters_of text) }
 {

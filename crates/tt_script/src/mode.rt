@@ -15,6 +15,7 @@ pub(crate) enum Mode {
 
 impl Mode {
     /// A text of these bytes, or an empty one where they are skipped.
+    #[inline(always)]
     pub(crate) fn text(self, alloc: Global, bytes: &[u8]) -> Result<Text, NoMemory>
         ensures { self ≡ Mode.Keep → IfOk result (λ text. text ≡ bytes.now) }
     {

@@ -178,6 +178,7 @@ pub(crate) fn words(
 
 /// The word that begins here, and the place after it.
 #[cycle(parser)]
+#[inline(always)]
 fn word(
     alloc: Global,
     text: &[u8],
@@ -214,6 +215,7 @@ fn word(
 
 /// The parts of a word in quotes, in braces or bare.
 #[cycle(parser)]
+#[inline(always)]
 fn word_parts(
     alloc: Global,
     text: &[u8],
@@ -231,6 +233,9 @@ fn word_parts(
         quoted(alloc, text, from + 1, place, depth, mode)
     } else if begins(text, from, b'{') {
         braced(alloc, text, from + 1, place, mode)
+    } else if let Some(end) = plain_end(text, from, Ending::Word(place)) {
+        let plain = mode.text(alloc, &text[from..end])?;
+        Ok((letters(alloc, plain)?, end))
     } else {
         parts(alloc, text, from, Ending::Word(place), depth, mode)
     }
@@ -272,10 +277,6 @@ pub(crate) fn parts(
     ensures within { IfOk result (λ r. (from ≤ r.1) × ends_within ending r.1 (length text.now)) }
     ensures later { reading.ends_parts ending (drop from text.now) ≡ false → IfOk result (λ r. from < r.1) }
 {
-    if let Some(end) = plain_end(text, from, ending) {
-        let plain = mode.text(alloc, &text[from..end])?;
-        return Ok((letters(alloc, plain)?, end));
-    }
     let mut builder = Builder::new(alloc, mode);
     let mut at = from;
     while at < text.len() && !ends_parts(text, at, ending) {
@@ -327,6 +328,7 @@ fn push_part(
 }
 
 /// The end of parts that begin here, where they are letters alone.
+#[inline(always)]
 fn plain_end(text: &[u8], from: usize, ending: Ending) -> Option<usize>
     requires { from ≤ length text.now }
     ensures read {

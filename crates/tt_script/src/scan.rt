@@ -177,6 +177,7 @@ fn begins_black(text: &[u8], at: usize) -> bool
 }
 
 /// The end of a run of letters from here on, among parts that end so.
+#[inline(always)]
 pub(crate) fn letters_end(text: &[u8], from: usize, ending: Ending) -> usize
     requires { from ≤ length text.now }
     ensures { result ≡ from + position_or_len (ends_run ending) (drop from text.now) }

@@ -87,14 +87,8 @@ parts-returns-in_err-must_end-clause-read t c =
 
 pub parts-returns-in_err-at-clause-read : goal.parts-returns-in_err-at-clause-read
 parts-returns-in_err-at-clause-read t c =
-    answers_exit _ _ c.from_residual-in_err-at.result _ _ c.from_residual-in_err-at.ensures.1
+    answers_exit _ _ c.from_residual.result _ _ c.from_residual.ensures.1
     (refuses_by _ _ _ (λ fault e. c.loop-at.invariant.read.1 ∙ ap (mapped c.loop-at.invariant.read.0) e) c.in_err-at.ensures.read)
-
-pub parts-returns-in-Some-clause-read : goal.parts-returns-in-Some-clause-read
-parts-returns-in-Some-clause-read t c =
-    (letters_of (take (c.in-Some.end - c.args.from) (drop c.args.from c.args.text.now)),
-    c.in-Some.ensures.read (level c.args.depth),
-    λ keep. c.in_ok-letters.ensures ∙ ap letters_of (c.in_ok-plain.ensures keep))
 
 pub push_part-slice_bounds-push_letters-end-in_default : goal.push_part-slice_bounds-push_letters-end-in_default
 push_part-slice_bounds-push_letters-end-in_default t c =
@@ -224,8 +218,14 @@ pub word-word_parts-requires : goal.word-word_parts-requires
 word-word_parts-requires t c =
     (omega arith, omega (arith, expands-room c.args.text.now c.args.from (sym c.expands.ensures ∙ c.if-expands.true)))
 
-pub word_parts-returns-else-begins-2-clause-read : goal.word_parts-returns-else-begins-2-clause-read
-word_parts-returns-else-begins-2-clause-read t c =
+pub word_parts-returns-in_ok-letters-clause-read : goal.word_parts-returns-in_ok-letters-clause-read
+word_parts-returns-in_ok-letters-clause-read t c =
+    (letters_of (take (c.in-Some.end - c.args.from) (drop c.args.from c.args.text.now)),
+    parts_at-bare c.args.place (level c.args.depth) c.args.text.now c.args.from (sym c.begins.ensures ∙ c.if-begins.false) (sym c.begins-else-begins.ensures ∙ c.if-begins-2.false) ∙ c.in-Some.ensures.read (level c.args.depth),
+    λ keep. c.in_ok-letters.ensures ∙ ap letters_of (c.in_ok-plain.ensures keep))
+
+pub word_parts-returns-in_default-clause-read : goal.word_parts-returns-in_default-clause-read
+word_parts-returns-in_default-clause-read t c =
     subst (Answers c.args.mode (λ parts. plain_parts parts.items) c.parts.result) (sym (parts_at-bare c.args.place (level c.args.depth) c.args.text.now c.args.from (sym c.begins.ensures ∙ c.if-begins.false) (sym c.begins-else-begins.ensures ∙ c.if-begins-2.false))) c.parts.ensures.read
 
 pub word_parts-returns-then-begins-2-clause-read : goal.word_parts-returns-then-begins-2-clause-read
