@@ -48,6 +48,7 @@ impl Builder {
     }
 
     /// Adds a part.
+    #[inline(always)]
     pub(crate) fn push(&mut self, alloc: Global, part: Part) -> Result<(), NoMemory>
         ensures added {
             self.old.mode ≡ Mode.Keep
@@ -63,6 +64,7 @@ impl Builder {
     }
 
     /// Adds a part that is kept.
+    #[inline(always)]
     fn push_kept(&mut self, alloc: Global, part: Part) -> Result<(), NoMemory>
         ensures added {
             OnOk result ((rest : PlainParts) → so_far self.new rest ≡ so_far self.old (with_part (plain_part part) rest))
@@ -93,6 +95,7 @@ impl Builder {
         Ok(())
     }
 
+    #[inline(always)]
     /// Adds a part after those that are whole. Most words have one part, so the first takes room for one.
     fn push_whole(&mut self, part: Part) -> Result<(), NoMemory>
         ensures done { OnOk result (self.new.done.items ≡ self.old.done.items ++ part ∷ []) }
@@ -107,6 +110,7 @@ impl Builder {
     }
 
     /// The parts.
+    #[inline(always)]
     pub(crate) fn finish(mut self, alloc: Global) -> Result<Vec<Part>, NoMemory>
         ensures { IfOk result (λ parts. plain_parts parts.items ≡ so_far self none) }
     {
