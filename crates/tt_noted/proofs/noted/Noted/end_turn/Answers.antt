@@ -1,7 +1,7 @@
-use Rattle.std.proofs.Common.{map, sym, ap, ◌∙◌}
+use Rattle.std.proofs.Common.{arith, map, sym, ap, ◌∙◌}
 use Rattle.tt_noted.specs.Rule.{held_with}
 use Rattle.tt_noted.proofs.Passes.{leaves_fit, new_notes, first}
-use Rattle.tt_noted.proofs.noted.Noted.leave.Goals as goal
+use Rattle.tt_noted.proofs.noted.Noted.end_turn.Goals as goal
 
 pub put_back-requires-clause-fits : goal.put_back-requires-clause-fits
 put_back-requires-clause-fits g c κs within = leaves_fit g.T.Tie.fits c.args.self.now c.args.pass.now c.args.turn c.args.note c.args.pass.now.numbered.1 c.requires.own c.requires.turn c.requires.fits
@@ -9,6 +9,7 @@ put_back-requires-clause-fits g c κs within = leaves_fit g.T.Tie.fits c.args.se
 pub invariant_of-pass : goal.invariant_of-pass
 invariant_of-pass g c = let now = c.put_back.ensures.noted in let notes = new_notes c.args.pass.now.seat.me.0 c.put_back.new.seat.me.0 _ c.args.note c.args.pass.now.numbered.1 (ap (λ m. m.0) now) in record {
   numbered = (c.args.pass.now.numbered.0, ap (map (λ c. c.0)) notes);
+  counted = let same = ap (λ m. m.0.count) now in omega (arith, c.args.pass.now.counted);
   held = ap (λ m. m.1) now ∙ sym (ap (λ m. held_with m.0.turn) now);
 }
 
