@@ -173,7 +173,7 @@ impl Counted for FirstByte {
     }
 }
 
-// The place of the lowest bit that is set, or the number of lanes.
+/// The place of the lowest bit that is set, or the number of lanes.
 #[inline(always)]
 fn first_set(mask: u64) -> usize
     ensures { result ≡ (if mask == 0 then LANES else trailing_zeros w64 mask) }

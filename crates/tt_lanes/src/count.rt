@@ -34,7 +34,7 @@ fn count<C: Counted>(bytes: &[u8]) -> usize
     count + plain_count::<C>(&bytes[at..])
 }
 
-// How many bytes count, one at a time.
+/// How many bytes count, one at a time.
 fn plain_count<C: Counted>(bytes: &[u8]) -> usize
     ensures bound { result ≤ length bytes.now }
     ensures value { result ≡ count_by C.is_counted bytes.now }

@@ -63,7 +63,7 @@ fn first_stop<S: Stop>(bytes: &[u8], from: usize) -> usize
     at + plain_run::<S>(&bytes[at..])
 }
 
-// How many bytes stand before the first stop, a byte at a time.
+/// How many bytes stand before the first stop, a byte at a time.
 fn plain_run<S: Stop>(bytes: &[u8]) -> usize
     ensures value { result ≡ position_or_len S.is_stop bytes.now }
     ensures bound { result ≤ length bytes.now }

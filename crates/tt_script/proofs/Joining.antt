@@ -148,7 +148,7 @@ plain_at text at next h room escaped single goes = go (eqb_tells b 92)
         let c : ℕ = get_or text (at + 1) 0 in
         let none_left : next - (at + 1 + 1) ≡ 0 = omega arith in
         let bytes : take (next - at) (drop at text) ≡ b ∷ c ∷ [] =
-            slice-more text at next h (omega arith) ∙ ap (λ bs. b ∷ bs) (slice-more text (at + 1) next second (omega arith) ∙ ap (λ n. c ∷ take n (drop (at + 1 + 1) text)) none_left) in
+        slice-more text at next h (omega arith) ∙ ap (λ bs. b ∷ bs) (slice-more text (at + 1) next second (omega arith) ∙ ap (λ n. c ∷ take n (drop (at + 1 + 1) text)) none_left) in
         let other : (c == 10) ≡ false = ap (begins 10) (sym (drop_more text (at + 1) 0 second)) ∙ and-false (b == 92) (begins 10 (drop (at + 1) text)) goes e in
         subst IsPlain (sym bytes) (plain-pair b c e other)
     go (inr (e, is)) =

@@ -16,8 +16,11 @@ NothingLaw = (text : List ℕ) → (first text ≡ nothing) ↔ IsSkipped text [
 
 -- a fault is met exactly where the grammar has no command and the text isn't skipped whole
 abbrev pub FaultLaw : Type 0
-FaultLaw = (text : List ℕ) → ((fault : ParseFault) × (place : ℕ) × (first text ≡ bad fault place)) ↔ (((c : PlainCommand) → IsFirst text c → ⊥) × (IsSkipped text [] → ⊥))
+FaultLaw = (text : List ℕ)
+    → ((fault : ParseFault) × (place : ℕ) × (first text ≡ bad fault place))
+    ↔ (((c : PlainCommand) → IsFirst text c → ⊥) × (IsSkipped text [] → ⊥))
 
 -- the fault is the first from the left, and its place is where the command begins
 abbrev pub FirstFaultLaw : Type 0
-FirstFaultLaw = (text : List ℕ) (fault : ParseFault) (place : ℕ) → (first text ≡ bad fault place) ↔ IsFirstFault text fault place
+FirstFaultLaw = (text : List ℕ) (fault : ParseFault) (place : ℕ)
+    → (first text ≡ bad fault place) ↔ IsFirstFault text fault place

@@ -154,7 +154,9 @@ pub record Level : Type 0 where
 unfoldable pub named_variable : Level → ℕ → List ℕ → Read PlainPart
 named_variable level n text =
     elim (begins 40 (drop n text)) [
-      | true ↦ and_then (after (n + 1) (level.index (drop (n + 1) text))) (λ index m. takes (element (take n text) index) (m + 1))
+      | true ↦
+          and_then (after (n + 1) (level.index (drop (n + 1) text)))
+          (λ index m. takes (element (take n text) index) (m + 1))
       | false ↦ takes (variable (take n text)) n
     ]
 
@@ -183,7 +185,8 @@ part level b text =
       ]
     ]
 
--- whether parts end before this text: a bare word before a separator, a quoted word before its quote, an index before its `)`
+-- whether parts end before this text: a bare word before a separator, a quoted word before its quote, an index before
+-- its `)`
 abbrev pub ends_parts : Ending → List ℕ → Bool
 ends_parts (endings.Word place) text = separates place text
 ends_parts endings.Quote text = begins 34 text
@@ -216,7 +219,8 @@ separated place fault text value n = elim (separates place (drop n text)) [ true
 
 -- a word in quotes, with the text after the quote (rule 4)
 unfoldable pub quoted : Place → Level → List ℕ → Read PlainParts
-quoted place level text = and_then (parts level endings.Quote 0 text) (λ value n. separated place AfterQuote text value (n + 1))
+quoted place level text =
+    and_then (parts level endings.Quote 0 text) (λ value n. separated place AfterQuote text value (n + 1))
 
 -- a word in braces, with the text after the brace (rule 6)
 unfoldable pub braced : Place → List ℕ → Read PlainParts
@@ -250,7 +254,8 @@ expands text = (begins 123 text && begins 42 (drop 1 text)) && (begins 125 (drop
 unfoldable pub word : Place → Level → List ℕ → Read PlainWord
 word place level text =
     elim (expands text) [
-      | true ↦ after 3 (mapped (λ value. record { expand = true; parts = value }) (word_parts place level (drop 3 text)))
+      | true ↦
+          after 3 (mapped (λ value. record { expand = true; parts = value }) (word_parts place level (drop 3 text)))
       | false ↦ mapped (λ value. record { expand = false; parts = value }) (word_parts place level text)
     ]
 
@@ -311,7 +316,10 @@ unfoldable pub command_at : ℕ → List ℕ → PlainFirst
 command_at start [] = nothing
 command_at start (b ∷ text) =
     elim (words places.Script (level most_open) 0 (b ∷ text)) [
-      | takes ws n ↦ command (record { words = ws; start = start; text_end = start + n; next = start + n + terminator_length (drop n (b ∷ text)) })
+      | takes ws n ↦
+          let end = start + n in
+          let next = end + terminator_length (drop n (b ∷ text)) in
+          command (record { words = ws; start = start; text_end = end; next = next })
       | fails fault ↦ bad fault start
     ]
 
@@ -323,4 +331,5 @@ first text = command_at (skipped 0 text) (drop (skipped 0 text) text)
 abbrev pub moved : ℕ → PlainFirst → PlainFirst
 moved n nothing = nothing
 moved n (bad fault start) = bad fault (n + start)
-moved n (command c) = command (record { words = c.words; start = n + c.start; text_end = n + c.text_end; next = n + c.next })
+moved n (command c) =
+    command (record { words = c.words; start = n + c.start; text_end = n + c.text_end; next = n + c.next })

@@ -41,14 +41,10 @@ fn depth_after(byte: u8, depth: usize) -> Option<usize>
 /// The brace that closes the one before here. A byte after a backslash is none.
 pub(crate) fn closing_brace(text: &[u8], from: usize) -> Option<Closing>
     requires { from ≤ length text.now }
-    ensures place {
-        option_map (λ closing. closing.end) result ≡ further from (matching_brace (drop from text.now))
-    }
+    ensures place { option_map (λ closing. closing.end) result ≡ further from (matching_brace (drop from text.now)) }
     ensures within { IfSome result (λ closing. (from ≤ closing.end) × (closing.end < length text.now)) }
-    ensures plain {
-        IfSome result (λ closing. closing.joins ≡ false
-            → let inside = take (closing.end - from) (drop from text.now) in joined_lines 0 inside ≡ inside)
-    }
+    ensures plain { IfSome result (λ closing. closing.joins ≡ false
+        → let inside = take (closing.end - from) (drop from text.now) in joined_lines 0 inside ≡ inside) }
 {
     let mut depth = 0;
     let mut joins = false;
@@ -97,10 +93,8 @@ pub(crate) fn inside_braces(
 ) -> Result<Text, NoMemory>
     requires order { from ≤ closing.end }
     requires room { closing.end ≤ length text.now }
-    requires plain {
-        closing.joins ≡ false
-            → let inside = take (closing.end - from) (drop from text.now) in joined_lines 0 inside ≡ inside
-    }
+    requires plain { closing.joins ≡ false
+        → let inside = take (closing.end - from) (drop from text.now) in joined_lines 0 inside ≡ inside }
     ensures { IfOk result (λ inside. inside ≡ joined_lines 0 (take (closing.end - from) (drop from text.now))) }
 {
     let inside = &text[from..closing.end];
@@ -121,14 +115,10 @@ pub(crate) fn braced_parts(
 ) -> Result<Vec<Part>, NoMemory>
     requires order { from ≤ closing.end }
     requires room { closing.end ≤ length text.now }
-    requires plain {
-        closing.joins ≡ false
-            → let inside = take (closing.end - from) (drop from text.now) in joined_lines 0 inside ≡ inside
-    }
-    ensures {
-        mode ≡ Mode.Keep
-            → IfOk result (λ parts. plain_parts parts.items ≡ letters_of (joined_lines 0 (take (closing.end - from) (drop from text.now))))
-    }
+    requires plain { closing.joins ≡ false
+        → let inside = take (closing.end - from) (drop from text.now) in joined_lines 0 inside ≡ inside }
+    ensures { let inside = take (closing.end - from) (drop from text.now) in
+        mode ≡ Mode.Keep → IfOk result (λ parts. plain_parts parts.items ≡ letters_of (joined_lines 0 inside)) }
 {
     match mode {
         Mode::Keep => letters(alloc, inside_braces(alloc, text, from, closing)?),

@@ -34,10 +34,9 @@ impl Builder {
 
     /// Adds bytes that stand for themselves.
     pub(crate) fn push_letters(&mut self, bytes: &[u8]) -> Result<(), NoMemory>
-        ensures added {
-            self.old.mode ≡ Mode.Keep
-                → OnOk result ((rest : PlainParts) → so_far self.new rest ≡ so_far self.old (with_letters bytes.now rest))
-        }
+        ensures added { self.old.mode ≡ Mode.Keep
+            → OnOk result ((rest : PlainParts)
+            → so_far self.new rest ≡ so_far self.old (with_letters bytes.now rest)) }
         ensures mode { self.new.mode ≡ self.old.mode }
     {
         match self.mode {
@@ -50,10 +49,9 @@ impl Builder {
     /// Adds a part.
     #[inline(always)]
     pub(crate) fn push(&mut self, alloc: Global, part: Part) -> Result<(), NoMemory>
-        ensures added {
-            self.old.mode ≡ Mode.Keep
-                → OnOk result ((rest : PlainParts) → so_far self.new rest ≡ so_far self.old (with_part (plain_part part) rest))
-        }
+        ensures added { self.old.mode ≡ Mode.Keep
+            → OnOk result ((rest : PlainParts)
+            → so_far self.new rest ≡ so_far self.old (with_part (plain_part part) rest)) }
         ensures mode { self.new.mode ≡ self.old.mode }
     {
         match self.mode {
@@ -66,9 +64,8 @@ impl Builder {
     /// Adds a part that is kept.
     #[inline(always)]
     fn push_kept(&mut self, alloc: Global, part: Part) -> Result<(), NoMemory>
-        ensures added {
-            OnOk result ((rest : PlainParts) → so_far self.new rest ≡ so_far self.old (with_part (plain_part part) rest))
-        }
+        ensures added { OnOk result ((rest : PlainParts)
+            → so_far self.new rest ≡ so_far self.old (with_part (plain_part part) rest)) }
         ensures mode { self.new.mode ≡ self.old.mode }
     {
         if let Part::Letters(letters) = part {
@@ -83,9 +80,8 @@ impl Builder {
     /// Makes the letters a part of their own, before others.
     fn close_letters(&mut self, alloc: Global) -> Result<(), NoMemory>
         ensures letters { OnOk result (self.new.letters ≡ []) }
-        ensures parts {
-            OnOk result ((rest : PlainParts) → before self.new.done.items rest ≡ before self.old.done.items (apart self.old.letters rest))
-        }
+        ensures parts { OnOk result ((rest : PlainParts)
+            → before self.new.done.items rest ≡ before self.old.done.items (apart self.old.letters rest)) }
         ensures mode { self.new.mode ≡ self.old.mode }
     {
         if !self.letters.as_bytes().is_empty() {

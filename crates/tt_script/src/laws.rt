@@ -1,4 +1,5 @@
 //! What the definitions that other crates cite say together. Nothing runs here.
+ghost use Rattle.tt_script.specs.ByteClasses.{ByteClassLaw};
 ghost use Rattle.tt_script.specs.Law.{CommandLaw, NothingLaw, FaultLaw, FirstFaultLaw};
 
 /// The function that `first_command` answers by is the command grammar of Tcl(n): it has a command
@@ -9,4 +10,10 @@ pub fn grammar_law()
     ensures nothing { NothingLaw }
     ensures fault { FaultLaw }
     ensures first_fault { FirstFaultLaw }
+{}
+
+/// White space, newlines, blanks and first bytes of characters are the same bytes for the scans of `tt_lanes`
+/// as for the texts of `tt_text`, of which neither stands on the other.
+pub fn byte_class_law()
+    ensures { ByteClassLaw }
 {}

@@ -4,7 +4,9 @@
 mod braces;
 mod builder;
 mod command;
+mod elements;
 pub mod laws;
+mod messages;
 mod mode;
 mod names;
 mod operands;
@@ -14,6 +16,7 @@ mod script;
 mod stop;
 
 pub use command::{Command, First, ParseFault, Part, Word};
+pub use elements::{global_name, split_name};
 pub use operands::{braced_text, quoted_parts, script_part, variable_part};
 pub use script::{DEPTH, first_command};
 

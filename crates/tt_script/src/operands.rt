@@ -66,7 +66,8 @@ pub fn script_part(alloc: Global, text: &[u8]) -> Result<Option<(Part, usize)>, 
 ///
 /// `NoMemory` where the memory for it is refused.
 pub fn braced_text(alloc: Global, text: &[u8]) -> Result<Option<(Text, usize)>, NoMemory>
-    ensures read { IfOk result (λ found. found ≡ option_map (λ n. (reading.joined_lines 0 (take n text.now), n)) (matching_brace text.now)) }
+    ensures read { IfOk result (λ found.
+        found ≡ option_map (λ n. (reading.joined_lines 0 (take n text.now), n)) (matching_brace text.now)) }
     ensures within { IfOk result (λ found. IfSome found (λ r. r.1 < length text.now)) }
 {
     let Some(closing) = closing_brace(text, 0) else {

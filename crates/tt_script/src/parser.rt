@@ -9,8 +9,9 @@ ghost use Rattle.tt_script.specs.Reading as reading;
 use crate::braces::{braced_parts, closing_brace};
 use crate::builder::{Builder, letters};
 use crate::command::{Ending, ParseFault, Part, Place, Word};
+use crate::elements::named;
 use crate::mode::Mode;
-use crate::names::{brace_end, name_end, named};
+use crate::names::{brace_end, name_end};
 use crate::scan::{
     begins, ends_command, ends_parts, expands, gap_end, letters_end, separates, skip_end,
 };
@@ -46,7 +47,8 @@ fn braced(
     mode: Mode,
 ) -> Result<(Vec<Part>, usize), Stop>
     requires { from ≤ length text.now }
-    ensures read { Answers mode (λ parts. plain_parts parts.items) result (reading.after from (reading.braced place (drop from text.now))) }
+    ensures read { Answers mode (λ parts. plain_parts parts.items) result
+        (reading.after from (reading.braced place (drop from text.now))) }
     ensures within { IfOk result (λ r. (from < r.1) × (r.1 ≤ length text.now)) }
 {
     let Some(closing) = closing_brace(text, from) else {
@@ -69,7 +71,8 @@ pub(crate) fn variable(
     mode: Mode,
 ) -> Result<(Part, usize), Stop>
     requires { from ≤ length text.now }
-    ensures read { Answers mode plain_part result (reading.after from (reading.dollar (reading.level depth) (drop from text.now))) }
+    ensures read { Answers mode plain_part result
+        (reading.after from (reading.dollar (reading.level depth) (drop from text.now))) }
     ensures within { IfOk result (λ r. (from ≤ r.1) × (r.1 ≤ length text.now)) }
 {
     if begins(text, from, b'{') {
@@ -97,7 +100,8 @@ fn index(
     mode: Mode,
 ) -> Result<(Vec<Part>, usize), Stop>
     requires { from ≤ length text.now }
-    ensures read { Answers mode (λ parts. plain_parts parts.items) result (reading.after from ((reading.level depth).index (drop from text.now))) }
+    ensures read { Answers mode (λ parts. plain_parts parts.items) result
+        (reading.after from ((reading.level depth).index (drop from text.now))) }
     ensures within { IfOk result (λ r. (from ≤ r.1) × (r.1 < length text.now)) }
 {
     if depth == 0 {
@@ -117,7 +121,8 @@ pub(crate) fn brackets(
     mode: Mode,
 ) -> Result<(Text, usize), Stop>
     requires { from ≤ length text.now }
-    ensures read { Answers mode (λ inside. inside) result (reading.after from ((reading.level depth).brackets (drop from text.now))) }
+    ensures read { Answers mode (λ inside. inside) result
+        (reading.after from ((reading.level depth).brackets (drop from text.now))) }
     ensures within { IfOk result (λ r. (from ≤ r.1) × (r.1 < length text.now)) }
 {
     if depth == 0 {
@@ -132,7 +137,8 @@ pub(crate) fn brackets(
 #[cycle(parser)]
 fn commands(alloc: Global, text: &[u8], from: usize, depth: usize) -> Result<usize, Stop>
     requires { from ≤ length text.now }
-    ensures read { Continues result (λ end. reading.takes tt end) (reading.after from (reading.commands (reading.level depth) 0 (drop from text.now))) }
+    ensures read { Continues result (λ end. reading.takes tt end)
+        (reading.after from (reading.commands (reading.level depth) 0 (drop from text.now))) }
     ensures within { IfOk result (λ end. (from ≤ end) × (end < length text.now)) }
 {
     let mut at = from;
@@ -161,7 +167,8 @@ pub(crate) fn words(
 ) -> Result<(Vec<Word>, usize), Stop>
     requires here { from < length text.now }
     requires begins { reading.separates place (drop from text.now) ≡ false }
-    ensures read { Answers mode (λ words. plain_words words.items) result (reading.after from (reading.words place (reading.level depth) 0 (drop from text.now))) }
+    ensures read { Answers mode (λ words. plain_words words.items) result
+        (reading.after from (reading.words place (reading.level depth) 0 (drop from text.now))) }
     ensures within { IfOk result (λ r. (from < r.1) × (r.1 ≤ length text.now)) }
 {
     let mut words = Vec::new(alloc);
@@ -189,7 +196,8 @@ fn word(
 ) -> Result<(Word, usize), Stop>
     requires here { from < length text.now }
     requires begins { reading.separates place (drop from text.now) ≡ false }
-    ensures read { Answers mode plain_word result (reading.after from (reading.word place (reading.level depth) (drop from text.now))) }
+    ensures read { Answers mode plain_word result
+        (reading.after from (reading.word place (reading.level depth) (drop from text.now))) }
     ensures within { IfOk result (λ r. (from < r.1) × (r.1 ≤ length text.now)) }
 {
     if expands(text, from) {
@@ -225,7 +233,8 @@ fn word_parts(
     mode: Mode,
 ) -> Result<(Vec<Part>, usize), Stop>
     requires { from ≤ length text.now }
-    ensures read { Answers mode (λ parts. plain_parts parts.items) result (reading.after from (reading.word_parts place (reading.level depth) (drop from text.now))) }
+    ensures read { Answers mode (λ parts. plain_parts parts.items) result
+        (reading.after from (reading.word_parts place (reading.level depth) (drop from text.now))) }
     ensures within { IfOk result (λ r. (from ≤ r.1) × (r.1 ≤ length text.now)) }
     ensures later { reading.separates place (drop from text.now) ≡ false → IfOk result (λ r. from < r.1) }
 {
@@ -252,7 +261,8 @@ fn quoted(
     mode: Mode,
 ) -> Result<(Vec<Part>, usize), Stop>
     requires { from ≤ length text.now }
-    ensures read { Answers mode (λ parts. plain_parts parts.items) result (reading.after from (reading.quoted place (reading.level depth) (drop from text.now))) }
+    ensures read { Answers mode (λ parts. plain_parts parts.items) result
+        (reading.after from (reading.quoted place (reading.level depth) (drop from text.now))) }
     ensures within { IfOk result (λ r. (from < r.1) × (r.1 ≤ length text.now)) }
 {
     let (parts, end) = parts(alloc, text, from, Ending::Quote, depth, mode)?;
@@ -273,7 +283,8 @@ pub(crate) fn parts(
     mode: Mode,
 ) -> Result<(Vec<Part>, usize), Stop>
     requires { from ≤ length text.now }
-    ensures read { Answers mode (λ parts. plain_parts parts.items) result (reading.after from (reading.parts (reading.level depth) ending 0 (drop from text.now))) }
+    ensures read { Answers mode (λ parts. plain_parts parts.items) result
+        (reading.after from (reading.parts (reading.level depth) ending 0 (drop from text.now))) }
     ensures within { IfOk result (λ r. (from ≤ r.1) × ends_within ending r.1 (length text.now)) }
     ensures later { reading.ends_parts ending (drop from text.now) ≡ false → IfOk result (λ r. from < r.1) }
 {
@@ -331,10 +342,9 @@ fn push_part(
 #[inline(always)]
 fn plain_end(text: &[u8], from: usize, ending: Ending) -> Option<usize>
     requires { from ≤ length text.now }
-    ensures read {
-        IfSome result (λ end. (level : reading.Level) → reading.after from (reading.parts level ending 0 (drop from text.now))
-            ≡ reading.takes (reading.letters_of (take (end - from) (drop from text.now))) end)
-    }
+    ensures read { IfSome result (λ end. (level : reading.Level)
+        → reading.after from (reading.parts level ending 0 (drop from text.now))
+        ≡ reading.takes (reading.letters_of (take (end - from) (drop from text.now))) end) }
     ensures within { IfSome result (λ end. (from ≤ end) × ends_within ending end (length text.now)) }
     ensures ends { IfSome result (λ end. reading.ends_parts ending (drop end text.now) ≡ true) }
 {
@@ -350,9 +360,11 @@ fn plain_end(text: &[u8], from: usize, ending: Ending) -> Option<usize>
 fn must_end(text: &[u8], at: usize, ending: Ending) -> Result<(), Stop>
     requires within { at ≤ length text.now }
     requires ends { at < length text.now → reading.ends_parts ending (drop at text.now) ≡ true }
-    ensures ok { OnOk result ((level : reading.Level) → reading.after at (reading.parts level ending 0 (drop at text.now)) ≡ reading.takes none at) }
+    ensures ok { OnOk result ((level : reading.Level)
+        → reading.after at (reading.parts level ending 0 (drop at text.now)) ≡ reading.takes none at) }
     ensures closed { OnOk result (ends_within ending at (length text.now)) }
-    ensures fault { IfErr result (λ stop. (level : reading.Level) → Refuses stop (reading.after at (reading.parts level ending 0 (drop at text.now)))) }
+    ensures fault { IfErr result (λ stop. (level : reading.Level)
+        → Refuses stop (reading.after at (reading.parts level ending 0 (drop at text.now)))) }
 {
     if at < text.len() {
         return Ok(());

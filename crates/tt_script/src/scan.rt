@@ -44,7 +44,8 @@ pub(crate) fn gap_end(text: &[u8], from: usize) -> usize
     ensures place { result ≡ from + reading.gap 0 (drop from text.now) }
     ensures within { result ≤ length text.now }
     ensures blank { result < length text.now → characters.is_blank (slice_index text.now result) ≡ false }
-    ensures line { result < length text.now → reading.continues_line (slice_index text.now result) (drop (result + 1) text.now) ≡ false }
+    ensures line { result < length text.now
+        → reading.continues_line (slice_index text.now result) (drop (result + 1) text.now) ≡ false }
 {
     let mut at = from;
     while at < text.len() {

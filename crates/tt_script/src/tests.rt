@@ -1,5 +1,8 @@
 //! What texts begin with: each row was worked out by the rules of Tcl(n), or seen in tclsh 8.6.
-use crate::{First, ParseFault, Part, Word, first_command};
+use crate::{
+    First, ParseFault, Part, Word, braced_text, first_command, global_name, quoted_parts,
+    script_part, split_name, variable_part,
+};
 use std::alloc::Global;
 use std::test::Fail;
 use tt_text::{NoMemory, Text};
@@ -158,6 +161,117 @@ fn texts_begin_as_tcl_says(rt: HostRuntime) -> Result<(), Fail> {
         assert_eq!(rt; found.as_bytes(), expected.as_bytes(), "at {text:?}");
     }
     Ok(())
+}
+
+/// An operand of an expression with its first byte, what it is, and after a `|` how many bytes after that
+/// byte are before its closing quote or brace, or belong to it.
+const OPERANDS: [(&str, &str); 20] = [
+    ("\"a $b\" c", "a $b|4"),
+    ("\"[x \"y\"] z\"", "[x \"y\"] z|9"),
+    ("\"\"", "|0"),
+    ("\"a", "None"),
+    ("\"a [b\"", "None"),
+    ("$a::b-", "$a::b|4"),
+    ("$a(b c)d", "$a(b c)|6"),
+    ("${a b}c", "$a b|5"),
+    ("$+", "$|0"),
+    ("$a(b", "None"),
+    ("${a", "None"),
+    ("[f x]y", "[f x]|4"),
+    ("[f {]}]", "[f {]}]|6"),
+    ("[]", "[]|1"),
+    ("[f", "None"),
+    ("[f {a}b]", "None"),
+    ("{a {b} \\} }c", "a {b} \\} |9"),
+    ("{a\\\n  b}", "a b|6"),
+    ("{}", "|0"),
+    ("{a {b}", "None"),
+];
+
+/// What the operand after this first byte is shown as.
+fn shown_operand(alloc: Global, text: &[u8]) -> Result<Text, Fail> {
+    let Some((first, rest)) = text.split_first() else {
+        return Ok(Text::new(alloc));
+    };
+    let mut shown = Text::new(alloc);
+    let length = match first {
+        b'"' => match quoted_parts(alloc, rest)? {
+            Some((parts, length)) => {
+                for part in &parts {
+                    show_part(part, &mut shown)?;
+                }
+                Some(length)
+            }
+            None => None,
+        },
+        b'{' => match braced_text(alloc, rest)? {
+            Some((inside, length)) => {
+                shown.push_bytes(inside.as_bytes())?;
+                Some(length)
+            }
+            None => None,
+        },
+        b'$' => show_operand(variable_part(alloc, rest)?, &mut shown)?,
+        _ => show_operand(script_part(alloc, rest)?, &mut shown)?,
+    };
+    match length {
+        Some(length) => shown.push_bytes(format!(in alloc; "|{length}")?.as_bytes())?,
+        None => shown.push_bytes(b"None")?,
+    }
+    Ok(shown)
+}
+
+fn show_operand(found: Option<(Part, usize)>, shown: &mut Text) -> Result<Option<usize>, NoMemory> {
+    match found {
+        Some((part, length)) => {
+            show_part(&part, shown)?;
+            Ok(Some(length))
+        }
+        None => Ok(None),
+    }
+}
+
+#[test]
+fn operands_are_parts(rt: HostRuntime) -> Result<(), Fail> {
+    for (text, expected) in &OPERANDS {
+        let found = shown_operand(rt.alloc(), text.as_bytes())?;
+        assert_eq!(rt; found.as_bytes(), expected.as_bytes(), "at {text:?}");
+    }
+    Ok(())
+}
+
+/// A name, its array and its index where it is an element's, and the rest where it has a leading `::`.
+const NAMES: [(&str, Option<(&str, &str)>, Option<&str>); 8] = [
+    ("a", None, None),
+    ("a(b)", Some(("a", "b")), None),
+    ("a(b(c)d)", Some(("a", "b(c)d")), None),
+    ("(x)", Some(("", "x")), None),
+    ("a()", Some(("a", "")), None),
+    ("a(b)c", None, None),
+    ("a)", None, None),
+    ("::::a(b)", Some(("::::a", "b")), Some("::a(b)")),
+];
+
+#[test]
+fn names_are_split(rt: HostRuntime) {
+    for (name, element, rest) in &NAMES {
+        match (split_name(name.as_bytes()), element) {
+            (Some((array, index)), Some((expected_array, expected_index))) => {
+                assert_eq!(rt; array, expected_array.as_bytes(), "the array of {name:?}");
+                assert_eq!(rt; index, expected_index.as_bytes(), "the index of {name:?}");
+            }
+            (found, _) => assert_eq!(rt; found.is_some(), element.is_some(), "{name:?}"),
+        }
+        match (global_name(name.as_bytes()), rest) {
+            (Some(found), Some(expected)) => assert_eq!(rt; found, expected.as_bytes(), "{name:?}"),
+            (found, _) => assert_eq!(rt; found.is_some(), rest.is_some(), "{name:?}"),
+        }
+    }
+}
+
+#[test]
+fn a_fault_has_its_message(rt: HostRuntime) {
+    assert_eq!(rt; ParseFault::CloseParen.message(), b"missing )".as_slice());
 }
 
 /// So many brackets, one in the other.

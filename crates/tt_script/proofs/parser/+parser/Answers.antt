@@ -110,31 +110,34 @@ push_part-backslash-sequence-requires t c =
 
 pub push_part-returns-in_ok-push-in-36-clause-read : goal.push_part-returns-in_ok-push-in-36-clause-read
 push_part-returns-in_ok-push-in-36-clause-read t c =
-    let read = c.in_ok-part-in-36.ensures.read in
-    (with_part read.0,
-    parts_at-part (level c.args.depth) c.args.ending c.args.text.now c.args.at c.in_ok-part-in-36.next read.0 c.requires.here c.requires.goes_on
-    (ap (after (c.args.at + 1)) (part_at-dollar (level c.args.depth) c.args.text.now c.args.at c.in-36.is) ∙ read.1)
-    (omega (arith, c.in_ok-part-in-36.ensures.within)),
-    λ keep rest. c.in_ok-push-in-36.ensures.added keep rest ∙ ap (λ p. so_far c.args.builder.now (with_part p rest)) (read.2 keep))
+    let read = c.in_ok-part-in-36.ensures.read in (
+      with_part read.0,
+      parts_at-part (level c.args.depth) c.args.ending c.args.text.now c.args.at c.in_ok-part-in-36.next read.0 c.requires.here c.requires.goes_on
+          (ap (after (c.args.at + 1)) (part_at-dollar (level c.args.depth) c.args.text.now c.args.at c.in-36.is) ∙ read.1)
+          (omega (arith, c.in_ok-part-in-36.ensures.within)),
+      λ keep rest. c.in_ok-push-in-36.ensures.added keep rest ∙ ap (λ p. so_far c.args.builder.now (with_part p rest)) (read.2 keep),
+    )
 
 pub push_part-returns-in_ok-push-in-91-clause-read : goal.push_part-returns-in_ok-push-in-91-clause-read
 push_part-returns-in_ok-push-in-91-clause-read t c =
     let read = c.in_ok-inside-in-91.ensures.read in
-    let end = c.in_ok-inside-in-91.end in
-    (with_part (script read.0),
-    parts_at-part (level c.args.depth) c.args.ending c.args.text.now c.args.at (end + 1) (script read.0) c.requires.here c.requires.goes_on
-    (part_at-script (level c.args.depth) c.args.text.now c.args.at read.0 end c.in-91.is read.1)
-    (omega (arith, c.in_ok-inside-in-91.ensures.within)),
-    λ keep rest. c.in_ok-push-in-91.ensures.added keep rest ∙ ap (λ p. so_far c.args.builder.now (with_part p rest)) (plain_script c.in_ok-inside-in-91.inside ∙ ap script (read.2 keep)))
+    let end = c.in_ok-inside-in-91.end in (
+      with_part (script read.0),
+      parts_at-part (level c.args.depth) c.args.ending c.args.text.now c.args.at (end + 1) (script read.0) c.requires.here c.requires.goes_on
+          (part_at-script (level c.args.depth) c.args.text.now c.args.at read.0 end c.in-91.is read.1)
+          (omega (arith, c.in_ok-inside-in-91.ensures.within)),
+      λ keep rest. c.in_ok-push-in-91.ensures.added keep rest ∙ ap (λ p. so_far c.args.builder.now (with_part p rest)) (plain_script c.in_ok-inside-in-91.inside ∙ ap script (read.2 keep)),
+    )
 
 pub push_part-returns-in_ok-push_letters-in-92-clause-read : goal.push_part-returns-in_ok-push_letters-in-92-clause-read
 push_part-returns-in_ok-push_letters-in-92-clause-read t c =
-    let bytes : List ℕ = (backslash (drop (c.args.at + 1) c.args.text.now)).value in
-    (with_part (letters bytes),
-    parts_at-part (level c.args.depth) c.args.ending c.args.text.now c.args.at c.backslash-sequence.result.next (letters bytes) c.requires.here c.requires.goes_on
-    (ap (after (c.args.at + 1)) (part_at-escape (level c.args.depth) c.args.text.now c.args.at c.in-92.is) ∙ ap (takes (letters bytes)) (sym c.backslash-sequence.ensures.next))
-    (omega (arith, c.backslash-sequence.ensures.next)),
-    λ keep rest. c.in_ok-push_letters-in-92.ensures.added keep rest ∙ ap (λ bs. so_far c.args.builder.now (with_letters bs rest)) (ap (λ n. take n c.backslash-sequence.result.bytes) c.from.ensures ∙ c.backslash-sequence.ensures.value))
+    let bytes : List ℕ = (backslash (drop (c.args.at + 1) c.args.text.now)).value in (
+      with_part (letters bytes),
+      parts_at-part (level c.args.depth) c.args.ending c.args.text.now c.args.at c.backslash-sequence.result.next (letters bytes) c.requires.here c.requires.goes_on
+          (ap (after (c.args.at + 1)) (part_at-escape (level c.args.depth) c.args.text.now c.args.at c.in-92.is) ∙ ap (takes (letters bytes)) (sym c.backslash-sequence.ensures.next))
+          (omega (arith, c.backslash-sequence.ensures.next)),
+      λ keep rest. c.in_ok-push_letters-in-92.ensures.added keep rest ∙ ap (λ bs. so_far c.args.builder.now (with_letters bs rest)) (ap (λ n. take n c.backslash-sequence.result.bytes) c.from.ensures ∙ c.backslash-sequence.ensures.value),
+    )
 
 pub push_part-returns-in_ok-push_letters-in-92-clause-within : goal.push_part-returns-in_ok-push_letters-in-92-clause-within
 push_part-returns-in_ok-push_letters-in-92-clause-within t c =
@@ -144,11 +147,12 @@ pub push_part-returns-in_ok-push_letters-in_default-clause-read : goal.push_part
 push_part-returns-in_ok-push_letters-in_default-clause-read t c =
     let text = c.args.text.now in
     let next = c.letters_end-next.result in
-    let within = run-within (ends_run c.args.ending) text (c.args.at + 1) (omega arith) in
-    (with_letters (take (next - c.args.at) (drop c.args.at text)),
-    parts_at-letters (level c.args.depth) c.args.ending text c.args.at c.requires.here c.requires.goes_on next (omega arith) (omega arith) (omega arith)
-    (omega (arith, c.letters_end-next.ensures)) (omega (arith, within, c.letters_end-next.ensures)) (omega (arith, c.letters_end-next.ensures)),
-    λ keep rest. c.in_ok-push_letters-in_default.ensures.added keep rest)
+    let within = run-within (ends_run c.args.ending) text (c.args.at + 1) (omega arith) in (
+      with_letters (take (next - c.args.at) (drop c.args.at text)),
+      parts_at-letters (level c.args.depth) c.args.ending text c.args.at c.requires.here c.requires.goes_on next (omega arith) (omega arith) (omega arith)
+          (omega (arith, c.letters_end-next.ensures)) (omega (arith, within, c.letters_end-next.ensures)) (omega (arith, c.letters_end-next.ensures)),
+      λ keep rest. c.in_ok-push_letters-in_default.ensures.added keep rest,
+    )
 
 pub quoted-returns-clause-read : goal.quoted-returns-clause-read
 quoted-returns-clause-read t c =
@@ -168,10 +172,11 @@ quoted-returns-then-not-separates-clause-read t c =
 pub variable-returns-clause-read : goal.variable-returns-clause-read
 variable-returns-clause-read t c =
     let read = c.in_ok-parts.ensures.read in
-    let name = take (c.name_end-end.result - c.args.from) (drop c.args.from c.args.text.now) in
-    (element name read.0,
-    dollar_at-read (level c.args.depth) c.args.text.now c.args.from c.name_end-end.result (sym c.begins.ensures ∙ c.if-begins.false) c.name_end-end.ensures.place c.if-end-from.false (sym c.begins-2.ensures ∙ c.if-not-begins.false) read.0 c.in_ok-parts.close read.1,
-    λ keep. plain_element c.in_ok-name.name c.in_ok-parts.parts ∙ ap (λ n. element n (plain_parts c.in_ok-parts.parts.items)) (c.in_ok-name.ensures keep) ∙ ap (element name) (read.2 keep))
+    let name = take (c.name_end-end.result - c.args.from) (drop c.args.from c.args.text.now) in (
+      element name read.0,
+      dollar_at-read (level c.args.depth) c.args.text.now c.args.from c.name_end-end.result (sym c.begins.ensures ∙ c.if-begins.false) c.name_end-end.ensures.place c.if-end-from.false (sym c.begins-2.ensures ∙ c.if-not-begins.false) read.0 c.in_ok-parts.close read.1,
+      λ keep. plain_element c.in_ok-name.name c.in_ok-parts.parts ∙ ap (λ n. element n (plain_parts c.in_ok-parts.parts.items)) (c.in_ok-name.ensures keep) ∙ ap (element name) (read.2 keep),
+    )
 
 pub variable-returns-in_err-parts-clause-read : goal.variable-returns-in_err-parts-clause-read
 variable-returns-in_err-parts-clause-read t c =
@@ -183,16 +188,18 @@ variable-returns-then-begins-clause-read t c =
     subst (Answers c.args.mode plain_part c.braced_variable.result) (sym (dollar_at-braced (level c.args.depth) c.args.text.now c.args.from (sym c.begins.ensures ∙ c.if-begins.true))) c.braced_variable.ensures.read
 
 pub variable-returns-then-end-from-clause-read : goal.variable-returns-then-end-from-clause-read
-variable-returns-then-end-from-clause-read t c =
-    (letters (36 ∷ []),
-    dollar_at-itself (level c.args.depth) c.args.text.now c.args.from c.name_end-end.result (sym c.begins.ensures ∙ c.if-begins.false) c.name_end-end.ensures.place c.if-end-from.true,
-    λ keep. plain_letters _ ∙ ap letters (c.in_ok-text.ensures keep))
+variable-returns-then-end-from-clause-read t c = (
+  letters (36 ∷ []),
+  dollar_at-itself (level c.args.depth) c.args.text.now c.args.from c.name_end-end.result (sym c.begins.ensures ∙ c.if-begins.false) c.name_end-end.ensures.place c.if-end-from.true,
+  λ keep. plain_letters _ ∙ ap letters (c.in_ok-text.ensures keep),
+)
 
 pub variable-returns-then-not-begins-clause-read : goal.variable-returns-then-not-begins-clause-read
-variable-returns-then-not-begins-clause-read t c =
-    (variable (take (c.name_end-end.result - c.args.from) (drop c.args.from c.args.text.now)),
-    dollar_at-variable (level c.args.depth) c.args.text.now c.args.from c.name_end-end.result (sym c.begins.ensures ∙ c.if-begins.false) c.name_end-end.ensures.place c.if-end-from.false (sym c.begins-2.ensures ∙ c.if-not-begins.true),
-    λ keep. plain_variable _ ∙ ap variable (c.in_ok-name.ensures keep))
+variable-returns-then-not-begins-clause-read t c = (
+  variable (take (c.name_end-end.result - c.args.from) (drop c.args.from c.args.text.now)),
+  dollar_at-variable (level c.args.depth) c.args.text.now c.args.from c.name_end-end.result (sym c.begins.ensures ∙ c.if-begins.false) c.name_end-end.ensures.place c.if-end-from.false (sym c.begins-2.ensures ∙ c.if-not-begins.true),
+  λ keep. plain_variable _ ∙ ap variable (c.in_ok-name.ensures keep),
+)
 
 pub word-returns-in_err-parts-2-clause-read : goal.word-returns-in_err-parts-2-clause-read
 word-returns-in_err-parts-2-clause-read t c =
@@ -219,10 +226,11 @@ word-word_parts-requires t c =
     (omega arith, omega (arith, expands-room c.args.text.now c.args.from (sym c.expands.ensures ∙ c.if-expands.true)))
 
 pub word_parts-returns-in_ok-letters-clause-read : goal.word_parts-returns-in_ok-letters-clause-read
-word_parts-returns-in_ok-letters-clause-read t c =
-    (letters_of (take (c.in-Some.end - c.args.from) (drop c.args.from c.args.text.now)),
-    parts_at-bare c.args.place (level c.args.depth) c.args.text.now c.args.from (sym c.begins.ensures ∙ c.if-begins.false) (sym c.begins-else-begins.ensures ∙ c.if-begins-2.false) ∙ c.in-Some.ensures.read (level c.args.depth),
-    λ keep. c.in_ok-letters.ensures ∙ ap letters_of (c.in_ok-plain.ensures keep))
+word_parts-returns-in_ok-letters-clause-read t c = (
+  letters_of (take (c.in-Some.end - c.args.from) (drop c.args.from c.args.text.now)),
+  parts_at-bare c.args.place (level c.args.depth) c.args.text.now c.args.from (sym c.begins.ensures ∙ c.if-begins.false) (sym c.begins-else-begins.ensures ∙ c.if-begins-2.false) ∙ c.in-Some.ensures.read (level c.args.depth),
+  λ keep. c.in_ok-letters.ensures ∙ ap letters_of (c.in_ok-plain.ensures keep),
+)
 
 pub word_parts-returns-in_default-clause-read : goal.word_parts-returns-in_default-clause-read
 word_parts-returns-in_default-clause-read t c =
@@ -248,11 +256,13 @@ words-next_word-preserved t c =
       begun = omega (arith, c.next_word.invariant.begun, c.in_ok-word.ensures.within, c.gap_end-at.ensures.place);
       within = room;
       word = after_gap-word c.args.place text next room (c.gap_end-at.ensures.blank room) (c.gap_end-at.ensures.line room) unended;
-      read = (λ rest. gathered.0 (read.0 ∷ rest),
-          gathered.1
-          ∙ ap (mapped gathered.0) (words_at-more c.args.place (level c.args.depth) text c.next_word.at c.next_word.invariant.within read.0 c.in_ok-word.end next read.1 c.gap_end-at.ensures.place c.in_ok-word.ensures.within.0 unended)
-          ∙ mapped-mapped gathered.0 (λ rest. read.0 ∷ rest) _,
-          λ keep rest. gathered-word c.next_word.words.items _ c.in_ok-word.word read.0 rest (c.in_ok-push_word.ensures keep) (read.2 keep) ∙ gathered.2 keep (read.0 ∷ rest));
+      read = (
+        λ rest. gathered.0 (read.0 ∷ rest),
+        gathered.1
+            ∙ ap (mapped gathered.0) (words_at-more c.args.place (level c.args.depth) text c.next_word.at c.next_word.invariant.within read.0 c.in_ok-word.end next read.1 c.gap_end-at.ensures.place c.in_ok-word.ensures.within.0 unended)
+            ∙ mapped-mapped gathered.0 (λ rest. read.0 ∷ rest) _,
+        λ keep rest. gathered-word c.next_word.words.items _ c.in_ok-word.word read.0 rest (c.in_ok-push_word.ensures keep) (read.2 keep) ∙ gathered.2 keep (read.0 ∷ rest),
+      );
     }
 
 pub words-returns-in_err-word-clause-read : goal.words-returns-in_err-word-clause-read
@@ -263,11 +273,12 @@ words-returns-in_err-word-clause-read t c =
 pub words-returns-then-ends_command-clause-read : goal.words-returns-then-ends_command-clause-read
 words-returns-then-ends_command-clause-read t c =
     let read = c.in_ok-word.ensures.read in
-    let gathered = c.next_word.invariant.read in
-    (gathered.0 (read.0 ∷ []),
-    gathered.1
-    ∙ ap (mapped gathered.0) (words_at-last c.args.place (level c.args.depth) c.args.text.now c.next_word.at c.next_word.invariant.within read.0 c.in_ok-word.end c.gap_end-at.result read.1 c.gap_end-at.ensures.place (sym c.ends_command.ensures ∙ c.if-ends_command.true)),
-    λ keep. sym (append-nil _) ∙ gathered-word c.next_word.words.items _ c.in_ok-word.word read.0 [] (c.in_ok-push_word.ensures keep) (read.2 keep) ∙ gathered.2 keep (read.0 ∷ []))
+    let gathered = c.next_word.invariant.read in (
+      gathered.0 (read.0 ∷ []),
+      gathered.1
+          ∙ ap (mapped gathered.0) (words_at-last c.args.place (level c.args.depth) c.args.text.now c.next_word.at c.next_word.invariant.within read.0 c.in_ok-word.end c.gap_end-at.result read.1 c.gap_end-at.ensures.place (sym c.ends_command.ensures ∙ c.if-ends_command.true)),
+      λ keep. sym (append-nil _) ∙ gathered-word c.next_word.words.items _ c.in_ok-word.word read.0 [] (c.in_ok-push_word.ensures keep) (read.2 keep) ∙ gathered.2 keep (read.0 ∷ []),
+    )
 
 pub words-next_word-init : goal.words-next_word-init
 words-next_word-init t c = record {
@@ -293,7 +304,9 @@ parts-loop-at-preserved t c =
       begun = omega (arith, c.loop-at.invariant.begun, c.in_ok-at.ensures.within);
       within = c.in_ok-at.ensures.within.1;
       mode = c.in_ok-at.ensures.mode ∙ c.loop-at.invariant.mode;
-      read = (λ rest. reached.0 (step.0 rest),
-          reached.1 ∙ ap (mapped reached.0) step.1 ∙ mapped-mapped reached.0 step.0 _,
-          λ keep rest. step.2 (c.loop-at.invariant.mode ∙ keep) rest ∙ reached.2 keep (step.0 rest));
+      read = (
+        λ rest. reached.0 (step.0 rest),
+        reached.1 ∙ ap (mapped reached.0) step.1 ∙ mapped-mapped reached.0 step.0 _,
+        λ keep rest. step.2 (c.loop-at.invariant.mode ∙ keep) rest ∙ reached.2 keep (step.0 rest),
+      );
     }

@@ -6,10 +6,11 @@ use Rattle.tt_script.proofs.Readers.{braced_at-closed, braced_at-after, braced_a
 use Rattle.tt_script.proofs.parser.braced.Goals as goal
 
 pub returns-clause-read : goal.returns-clause-read
-returns-clause-read c =
-    (letters_of (joined_lines 0 (take (c.in-Some.closing.end - c.args.from) (drop c.args.from c.args.text.now))),
-    braced_at-closed c.args.place c.args.text.now c.args.from c.in-Some.closing.end c.in-Some.ensures.place (sym c.separates.ensures ∙ c.if-not-separates.false),
-    λ keep. c.in_ok-parts.ensures keep)
+returns-clause-read c = (
+  letters_of (joined_lines 0 (take (c.in-Some.closing.end - c.args.from) (drop c.args.from c.args.text.now))),
+  braced_at-closed c.args.place c.args.text.now c.args.from c.in-Some.closing.end c.in-Some.ensures.place (sym c.separates.ensures ∙ c.if-not-separates.false),
+  λ keep. c.in_ok-parts.ensures keep,
+)
 
 pub returns-in_default-clause-read : goal.returns-in_default-clause-read
 returns-in_default-clause-read c =
