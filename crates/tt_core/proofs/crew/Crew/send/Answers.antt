@@ -1,4 +1,4 @@
-use Rattle.std.proofs.Common.{◌≡◌, ◌<◌, ◌-◌, length, refl, arith}
+use Rattle.std.proofs.Common.{arith}
 use Rattle.tt_core.proofs.CrewLemmas.{never-refused, all-sent, past}
 use Rattle.tt_core.proofs.crew.Crew.send.Goals as goal
 use Rattle.tt_core.proofs.crew.Crew.send.Goals.{in-Some, in-None}
