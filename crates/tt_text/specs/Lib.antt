@@ -5,4 +5,5 @@ pub mod Characters
 pub mod Digits
 pub mod Glob
 pub mod GlobScan
+pub mod Kept
 pub mod ThreadNumbers
