@@ -1,11 +1,11 @@
 -- That the answer is one.
-use Rattle.std.proofs.Common.{◌≡◌, ◌≢◌, ◌⊎◌, ◌∙◌, ◌+◌, ℕ, suc, List, [], ◌∷◌, ◌++◌, length, Option, None, Some, IsNone, option_and_then, refl, sym, ap, subst, arith, inl, inr, append-nil, length-append}
-use Rattle.tt_devices.specs.Names.{Names, Tells}
+use Rattle.std.proofs.Common.{◌≡◌, ◌⊎◌, ◌∙◌, ℕ, List, [], ◌∷◌, ◌++◌, length, Option, None, Some, IsNone, option_and_then, refl, sym, ap, subst, arith, inl, inr, append-nil, length-append}
+use Rattle.tt_devices.specs.Names.{Names}
 use Rattle.tt_schedule.specs.ScheduleText.{IsFirstWrong, IsScheduleText}
 use Rattle.tt_schedule.proofs.LawLemmas.{one_list, one_place}
 use Rattle.tt_plain.specs.PlainScript.{IsPlain}
 use Rattle.tt_core.specs.Machine.{Beginning, Machine, run, run_from, start_machine, step}
-use Rattle.tclthread.specs.Answer.{Answers, AreThere, EndsAs, IsIdle, IsRefused, IsSettled, Left, OneAnswerLaw, Runs, beginning_of}
+use Rattle.tclthread.specs.Answer.{Answers, AreThere, EndsAs, IsRefused, IsSettled, Left, OneAnswerLaw, Runs, beginning_of}
 use Rattle.tclthread.specs.CommandLine.{Replay}
 use Rattle.tclthread.specs.declared.status.Place.TheVariants.{Byte, Entry}
 use Rattle.tclthread.specs.declared.status.Status.{Status}

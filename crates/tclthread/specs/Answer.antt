@@ -130,7 +130,7 @@ kept_by WriteFault = Some fault.WriteFault
 kept_by NoMemory = Some fault.NoMemory
 
 -- The steps follow the given list and have a run; the sinks got what the machine after them wrote, less at most a part of
--- the last entry's piece where a write failed; and that machine is at this end.
+-- the last entry's piece where a write failed; that machine is at this end; and without a step the output is as it was.
 pub record HasRun {K E : Type 0} (status : Status) (beginning : Beginning) (given : List ℕ) (left : Left K E) : Type 0 where
   pub machine : Machine
   pub follows : Follows Replaying given beginning left.schedule
@@ -138,6 +138,7 @@ pub record HasRun {K E : Type 0} (status : Status) (beginning : Beginning) (give
   pub out : HasWritten (kept_by status) beginning left.schedule (left.got_out left.old_output) (left.got_out left.new_output) (λ m. m.shared.out) machine
   pub err : HasWritten (kept_by status) beginning left.schedule (left.got_err left.old_errors) (left.got_err left.new_errors) (λ m. m.shared.err) machine
   pub ends : EndsAs status machine left.schedule given
+  pub untouched : left.schedule ≡ [] → left.new_output ≡ left.old_output
 
 -- a run that the words and the files ask for
 pub record Runs {K E : Type 0} (status : Status) (words : Option Replay) (names : Option Names) (left : Left K E) : Type 0 where

@@ -1,5 +1,5 @@
 -- What is ready before the first step, or why there is no run: words of the contracts inside the crate.
-use Rattle.std.specs.Prelude.{◌≡◌, ◌⊎◌, ℕ, List, Option, Some, None}
+use Rattle.std.specs.Prelude.{◌≡◌, ◌⊎◌, ℕ, List, Option, None}
 use Rattle.tt_devices.specs.Names.{Names, Tells}
 use Rattle.tt_core.specs.Machine.{Beginning}
 use Rattle.tt_core.specs.declared.setup.Setup.{Setup}

@@ -118,6 +118,7 @@ fn follow<S: Source, K: Sink, E: Sink>(system: &mut System<S, K, E>, given: &Sch
     requires going { system.old.kept ≡ None }
     ensures follows { IsFirstPart system.new.schedule given.now.threads }
     ensures ends { (machine : Machine) → machine_of system.new ≡ Some machine → EndsAs result machine system.new.schedule given.now.threads }
+    ensures untouched { system.new.schedule ≡ [] → system.new.output ≡ system.old.output }
     ensures kept { system.new.kept ≡ kept_by result }
     ensures no_read { result ≢ Status.ReadFault }
     ensures write_fault { result ≡ Status.WriteFault → Rises (K.fault_count system.old.output) (K.fault_count system.new.output) }

@@ -121,8 +121,22 @@ fn scripts_are_replayed_as_far_as_their_schedules_go(rt: HostRuntime) -> Result<
             0,
             b"",
         ),
-        (b"puts $x", b"schedule 1\n1 2", "bad schedule at 11", 108, 0, b""),
-        (b"puts a", b"schedule 1\n1 2\n1 1\n", "bad schedule at 15", 108, 0, b""),
+        (
+            b"puts $x",
+            b"schedule 1\n1 2",
+            "bad schedule at 11",
+            108,
+            0,
+            b"",
+        ),
+        (
+            b"puts a",
+            b"schedule 1\n1 2\n1 1\n",
+            "bad schedule at 15",
+            108,
+            0,
+            b"",
+        ),
         (b"puts a", b"", "bad schedule at 0", 108, 0, b""),
     ];
     for (script, schedule, status, exit, steps, output) in rows {
@@ -401,7 +415,9 @@ fn a_word_that_is_no_text_is_wrong_words(rt: HostRuntime) {
     for (all, wanted) in rows {
         let found = words(&(Arguments { all }, rt.alloc()));
         assert_eq!(rt;
-            found.map(|words| words.len()).map_err(|status| status.exit()),
+            found
+                .map(|words| words.len())
+                .map_err(|status| status.exit()),
             wanted
         );
     }
