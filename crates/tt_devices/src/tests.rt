@@ -3,10 +3,9 @@ use crate::{
     Sink, Slice, Source, StdSink, StdSource,
 };
 use std::alloc::Global;
-use std::fs;
-use std::io;
 use std::io::{ErrorKind, Read, Write};
 use std::test::Fail;
+use std::{fs, io};
 
 fn numbers(alloc: Global, calls: &[u64]) -> Result<Vec<u64>, Fail> {
     Ok(Vec::from_slice(alloc, calls)?)
