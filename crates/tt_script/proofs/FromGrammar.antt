@@ -82,7 +82,7 @@ position-more : (p : ℕ → Bool) (b : ℕ) (text : List ℕ) → p b ≡ false
 position-more p b text e = rw e
 
 -- the first byte that passes stands after the bytes that don't
-position_at : (p : ℕ → Bool) (xs : List ℕ) (d : ℕ) (rest : List ℕ) → position_or_len p xs ≡ length xs → p d ≡ true → position_or_len p (xs ++ (d ∷ rest)) ≡ length xs
+pub position_at : (p : ℕ → Bool) (xs : List ℕ) (d : ℕ) (rest : List ℕ) → position_or_len p xs ≡ length xs → p d ≡ true → position_or_len p (xs ++ (d ∷ rest)) ≡ length xs
 position_at p [] d rest e f = position-none p d rest f
 position_at p (x ∷ xs) d rest e f = go (p x) refl (position_at p xs d rest)
   where

@@ -182,7 +182,7 @@ begins_at-get c text i e =
 differs : {m n : ℕ} → m ≡ n → m ≡ 40 → n ≡ 41 → ⊥
 differs p q r = omega arith
 
-start_within : (name : List ℕ) (start : ℕ) → index_start name ≡ Some start → start + 1 < length name
+pub start_within : (name : List ℕ) (start : ℕ) → index_start name ≡ Some start → start + 1 < length name
 start_within name start e = go (begins 41 (drop (length name - 1) name)) refl e
   where
     go : (c : Bool) → begins 41 (drop (length name - 1) name) ≡ c → (if c then position (λ b. b == 40) name else None) ≡ Some start → start + 1 < length name

@@ -2,6 +2,7 @@ pub mod Bracing
 pub mod Builds
 pub mod CommandSteps
 pub mod Cuts
+pub mod ElementNames
 pub mod Escapes
 pub mod Exits
 pub mod FaultLaw

@@ -1,5 +1,6 @@
 //! What the definitions that other crates cite say together. Nothing runs here.
 ghost use Rattle.tt_script.specs.ByteClasses.{ByteClassLaw};
+ghost use Rattle.tt_script.specs.Names.{ElementNameLaw};
 ghost use Rattle.tt_script.specs.Law.{CommandLaw, NothingLaw, FaultLaw, FirstFaultLaw};
 
 /// The function that `first_command` answers by is the command grammar of Tcl(n): it has a command
@@ -16,4 +17,9 @@ pub fn grammar_law()
 /// as for the texts of `tt_text`, of which neither stands on the other.
 pub fn byte_class_law()
     ensures { ByteClassLaw }
+{}
+
+/// A name is split by `split_name` exactly where it is an element's.
+pub fn element_name_law()
+    ensures { ElementNameLaw }
 {}
