@@ -1,4 +1,6 @@
-use crate::{blank_run, count_chars, count_newlines, next_brace, next_in_index, next_in_quotes, next_special};
+use crate::{
+    blank_run, count_chars, count_newlines, next_brace, next_in_index, next_in_quotes, next_special,
+};
 
 #[test]
 fn kernels_answer_past_their_lanes(rt: HostRuntime) {

@@ -1,5 +1,5 @@
 -- A name is split as commands read it.
-use Rattle.std.proofs.Common.{◌≡◌, ℕ, ◌+◌, ◌-◌, ◌<◌, ◌≤◌, Bool, true, false, cond, ◌==◌, List, [], ◌∷◌, ◌++◌, length, get_or, take, drop, Option, Some, None, refl, ap, sym, subst, ◌∙◌, arith}
+use Rattle.std.proofs.Common.{◌≡◌, ℕ, ◌+◌, ◌-◌, ◌<◌, Bool, true, false, cond, ◌==◌, List, [], ◌∷◌, ◌++◌, length, get_or, take, drop, Option, Some, None, refl, ap, sym, subst, ◌∙◌, arith}
 use Rattle.std.specs.Prelude.{nat_lt, position, slice_range, if◌then◌else◌}
 use Rattle.std.specs.List.{position_or_len}
 use Rattle.std.specs.Option.{option_map}
@@ -37,11 +37,11 @@ split_so name start e =
     let m : ℕ = length name - 1 - (start + 1) in
     let place : start + 1 + m ≡ length name - 1 = omega arith in
     let end : drop m (drop (start + 1) name) ≡ 41 ∷ [] =
-        drop-drop m (start + 1) name ∙ ap (λ k. drop k name) place ∙ drop_more name (length name - 1) 0 (omega arith)
-        ∙ ap (λ b. b ∷ drop (length name - 1 + 1) name) closing ∙ ap (λ r. 41 ∷ r) (drop_all (length name - 1 + 1) name (omega arith)) in
+    drop-drop m (start + 1) name ∙ ap (λ k. drop k name) place ∙ drop_more name (length name - 1) 0 (omega arith)
+    ∙ ap (λ b. b ∷ drop (length name - 1 + 1) name) closing ∙ ap (λ r. 41 ∷ r) (drop_all (length name - 1 + 1) name (omega arith)) in
     let rest : drop start name ≡ 40 ∷ (take m (drop (start + 1) name) ++ (41 ∷ [])) =
-        drop_more name start 0 (omega arith) ∙ ap (λ b. b ∷ drop (start + 1) name) opening
-        ∙ ap (λ r. 40 ∷ r) (sym (take-append-drop m (drop (start + 1) name)) ∙ ap (λ r. take m (drop (start + 1) name) ++ r) end) in
+    drop_more name start 0 (omega arith) ∙ ap (λ b. b ∷ drop (start + 1) name) opening
+    ∙ ap (λ r. 40 ∷ r) (sym (take-append-drop m (drop (start + 1) name)) ∙ ap (λ r. take m (drop (start + 1) name) ++ r) end) in
     let size : length (take start name) ≡ start = length-take-le start name (omega arith) in
     record {
       spelled = sym (take-append-drop start name) ∙ ap (λ r. take start name ++ r) rest;
@@ -65,7 +65,7 @@ joined_so name array index h =
     let after : drop (n + 1) name ≡ tail = sym (drop-drop 1 n name) ∙ ap (drop 1) (ap (drop n) h.spelled ∙ drop-append_seam array (40 ∷ tail)) in
     let long : length name - 1 - (n + 1) ≡ length index = omega arith in
     let inner : slice_range name (n + 1) (length name - 1) ≡ index =
-        ap (take (length name - 1 - (n + 1))) after ∙ ap (λ k. take k tail) long ∙ take-append_seam index (41 ∷ []) in
+    ap (take (length name - 1 - (n + 1))) after ∙ ap (λ k. take k tail) long ∙ take-append_seam index (41 ∷ []) in
     ap (λ (o : Option ℕ). option_map (cut_at name) o) start
     ∙ ap (λ a. Some (a, slice_range name (n + 1) (length name - 1))) first
     ∙ ap (λ i. Some (array, i)) inner

@@ -1,4 +1,4 @@
-use Rattle.std.proofs.Common.{sym, ◌∙◌}
+use Rattle.std.proofs.Common.{◌∙◌}
 use Rattle.tt_script.specs.Reading.{level, most_open, dollar}
 use Rattle.tt_script.proofs.Readers.{after-zero}
 use Rattle.tt_script.specs.Plain.{plain_part}

@@ -1,4 +1,4 @@
-use Rattle.std.proofs.Common.{◌+◌, ◌-◌, ◌∙◌, sym, ap, take, drop, Option}
+use Rattle.std.proofs.Common.{◌-◌, ◌∙◌, sym, ap, take, drop, Option}
 use Rattle.std.specs.Option.{option_map}
 use Rattle.tt_script.specs.Reading.{letters_of, joined_lines}
 use Rattle.tt_script.specs.declared.braces.Closing.{Closing}
