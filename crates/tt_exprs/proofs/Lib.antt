@@ -4,7 +4,17 @@ pub mod ExprReads
 pub mod ExprSpells
 pub mod ExprTables
 pub mod Extremes
+pub mod NumberForms
+pub mod NumberFound
+pub mod NumberLength
+pub mod OperandLaw
 pub mod ParseSteps
 pub mod Rows
+pub mod Runs
+pub mod SignLaw
+pub mod Spellings
 pub mod StackSteps
+pub mod TextTree
+pub mod TokenLaw
 pub mod TokenSteps
+pub mod WordLaw

@@ -31,7 +31,7 @@ pub token-number : (b : ℕ) (text : List ℕ) → begins_word b ≡ false → n
 unfolding token
 token-number b text e f = rw (e, token, f)
 
-pub token-other : (b : ℕ) (text : List ℕ) → begins_word b ≡ false → nat_lt 0 (number_length (b ∷ text)) ≡ false → token b text ≡ other b text
+pub token-other : (b : ℕ) (text : List ℕ) → begins_word b ≡ false → nat_lt 0 (number_length (b ∷ text)) ≡ false → token b text ≡ other (b ∷ text)
 unfolding token
 token-other b text e f = rw (e, token, f)
 
@@ -44,11 +44,11 @@ number-read text b n spelled h first e count room is =
     ∙ ap (λ t. number t (number_length t)) (sym same)
     ∙ sym (token-number b (drop 1 text) e some)
 
-pub other-read : (text : List ℕ) (b n : ℕ) → 0 < length text → b ≡ get_or text 0 0 → begins_word b ≡ false → n ≡ number_length text → n ≡ 0 → other b (drop 1 text) ≡ token b (drop 1 text)
+pub other-read : (text : List ℕ) (b n : ℕ) → 0 < length text → b ≡ get_or text 0 0 → begins_word b ≡ false → n ≡ number_length text → n ≡ 0 → other text ≡ token b (drop 1 text)
 other-read text b n h first e count zero_is =
     let same : b ∷ drop 1 text ≡ text = begun b text h first in
     let nothing : nat_lt 0 (number_length (b ∷ drop 1 text)) ≡ false = ap (λ t. nat_lt 0 (number_length t)) same ∙ ap (nat_lt 0) (sym count ∙ zero_is) in
-    sym (token-other b (drop 1 text) e nothing)
+    ap other (sym same) ∙ sym (token-other b (drop 1 text) e nothing)
 
 pub tokens-passes : (k : ℕ) (text : List ℕ) → tokens k text ≡ tokens 0 (drop k text)
 unfolding tokens

@@ -1,11 +1,10 @@
 -- What operators and functions give on the texts of their operands (expr(n), Operators; mathfunc(n)).
-use Rattle.std.specs.Prelude.{ℕ, nat_lt, Bool, true, false, not, ◌||◌, if◌then◌else◌, ◌==◌, ℤ, pos, List, [], ◌∷◌, fold, length, bytes_eq, codes, Option, Some, None, Result, Ok, Err}
+use Rattle.std.specs.Prelude.{ℕ, Bool, true, false, not, ◌==◌, ℤ, pos, List, [], ◌∷◌, fold, bytes_eq, Option, Some, None, Result, Ok, Err}
 use Rattle.std.specs.Cmp.Lexicographic.{slice_cmp}
 use Rattle.std.specs.Fmt.{signed_decimal}
 use Rattle.std.specs.Int.RustNames.{unsigned_abs}
 use Rattle.std.specs.List.{list_any}
 use Rattle.std.specs.Ordering.{int_cmp, nat_cmp, is_eq, is_ne, is_lt, is_gt, is_le, is_ge, ord_max, ord_min}
-use Rattle.std.specs.Str.{str_eq_ignore_ascii_case}
 use Rattle.std.specs.declared.cmp.Ordering.{Ordering}
 use Rattle.tt_calls.specs.declared.Code.TheVariants.{Fine, Failed}
 use Rattle.tt_calls.specs.declared.outcome.Outcome.{Outcome}
@@ -22,6 +21,7 @@ use Rattle.tt_number.specs.declared.operators.NumOp.TheVariants as two
 use Rattle.tt_number.specs.declared.operators.OneOp.{OneOp}
 use Rattle.tt_number.specs.declared.operators.OneOp.TheVariants as one
 use Rattle.tt_exprs.specs.ApplyMessages.{message_of}
+use Rattle.tt_exprs.specs.Operators.{boolean_word}
 use Rattle.tt_exprs.specs.declared.op.Op.{Op}
 use Rattle.tt_exprs.specs.declared.op.Op.TheVariants.{Neg, Plus, BitNot, Not, Pow, Mul, Div, Mod, Add, Sub, Shl, Shr, Less, Greater, LessEqual, GreaterEqual, Equal, NotEqual, TextEqual, TextNotEqual, Member, NotMember, BitAnd, BitXor, BitOr, And, Or, Choose, Abs, Int, Max, Min}
 use Rattle.tt_exprs.specs.declared.applying.refusal.Refusal.{Refusal}
@@ -35,19 +35,6 @@ is_lazy And = true
 is_lazy Or = true
 is_lazy Choose = true
 is_lazy op = false
-
--- the operator has so many operands
-abbrev pub takes : Op → ℕ → Bool
-takes Neg count = count == 1
-takes Plus count = count == 1
-takes BitNot count = count == 1
-takes Not count = count == 1
-takes Choose count = count == 3
-takes Abs count = count == 1
-takes Int count = count == 1
-takes Max count = nat_lt 0 count
-takes Min count = nat_lt 0 count
-takes op count = count == 2
 
 -- the first operand
 abbrev pub first : List (List ℕ) → List ℕ
@@ -95,7 +82,8 @@ on_one_of op operator operands = with_one operator (whole_operand op (first oper
 
 -- the operators `** * / % + - << >> & ^ |`
 abbrev pub on_two_of : Op → NumOp → List (List ℕ) → Result ℤ Refusal
-on_two_of op operator operands = with_two operator (whole_operand op (first operands)) (whole_operand op (second operands))
+on_two_of op operator operands =
+    with_two operator (whole_operand op (first operands)) (whole_operand op (second operands))
 
 -- ---- max and min
 
@@ -163,7 +151,8 @@ order_with (Ok a) (Ok b) texts = Ok (order_by a b texts)
 
 -- how two operands compare
 abbrev pub order_of : List (List ℕ) → Result Ordering Refusal
-order_of operands = order_with (comparand (first operands)) (comparand (second operands)) (slice_cmp nat_cmp (first operands) (second operands))
+order_of operands =
+    order_with (comparand (first operands)) (comparand (second operands)) (slice_cmp nat_cmp (first operands) (second operands))
 
 -- one of `< > <= >= == !=`, by the orders at which it holds
 abbrev pub test_order : (Ordering → Bool) → Result Ordering Refusal → Result ℤ Refusal
@@ -188,16 +177,6 @@ abbrev pub is_member_of : List (List ℕ) → Result Bool Refusal
 is_member_of operands = is_member_by (first operands) (split_of (second operands))
 
 -- ---- boolean values
-
--- whether a text is this word, in any ASCII case
-abbrev pub is_word : List ℕ → List ℕ → Bool
-is_word text word = str_eq_ignore_ascii_case text word
-
--- a boolean word, in any ASCII case
-abbrev pub boolean_word : List ℕ → Option Bool
-boolean_word text =
-    if is_word text (codes "true") || is_word text (codes "yes") || is_word text (codes "on") then Some true else
-    if is_word text (codes "false") || is_word text (codes "no") || is_word text (codes "off") then Some false else None
 
 -- by what a text is read as as a number
 abbrev pub boolean_by : List ℕ → Result ℤ NumberFault → Option Bool

@@ -1,6 +1,7 @@
 ghost use Rattle.std.specs.Prelude.{◌≡◌, length, IfOk, IsFalse, IsTrue};
 ghost use Rattle.std.specs.Prelude.{Ok, Err};
-ghost use Rattle.tt_exprs.specs.Apply.{answer_of, applied, is_lazy, outcome_of, takes};
+ghost use Rattle.tt_exprs.specs.Apply.{answer_of, applied, is_lazy, outcome_of};
+ghost use Rattle.tt_exprs.specs.Operators.{takes};
 
 mod comparison;
 mod numbers;

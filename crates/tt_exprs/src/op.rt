@@ -1,5 +1,7 @@
 //! The operators and functions of an expression.
 
+use crate::operators::takes;
+
 /// An operator or a function of an expression, as expr(n) names them.
 #[derive(Clone, Copy, Debug, PartialEq, Eq)]
 pub enum Op {
@@ -71,7 +73,8 @@ pub enum Op {
 
 impl Op {
     ghost use Rattle.std.specs.Prelude.{◌≡◌};
-    ghost use Rattle.tt_exprs.specs.Apply.{is_lazy, takes};
+    ghost use Rattle.tt_exprs.specs.Apply.{is_lazy};
+    ghost use Rattle.tt_exprs.specs.Operators as operators;
 
     /// Whether it evaluates only those of its operands that it needs: `&&`, `||` and `? :`.
     pub fn is_lazy(self) -> bool
@@ -82,13 +85,8 @@ impl Op {
 
     /// Whether it has this number of operands.
     pub fn takes(self, count: usize) -> bool
-        ensures { result ≡ takes self count }
+        ensures { result ≡ operators.takes self count }
     {
-        match self {
-            Op::Neg | Op::Plus | Op::BitNot | Op::Not | Op::Abs | Op::Int => count == 1,
-            Op::Choose => count == 3,
-            Op::Max | Op::Min => count > 0,
-            _ => count == 2,
-        }
+        takes(self, count)
     }
 }

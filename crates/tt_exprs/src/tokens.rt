@@ -119,18 +119,20 @@ fn script(alloc: Global, text: &[u8]) -> Result<Cut, NoMemory>
     }
 }
 
-/// A token whose first byte, this one, begins neither a number nor a word.
-fn other(alloc: Global, first: u8, text: &[u8]) -> Result<Cut, NoMemory>
-    requires { length text.now < usize.MAX }
-    ensures read { IfOk result (λ cut. plain_cut cut ≡ tokens.other first text.now) }
-    ensures within { IfOk result (λ cut. TakesWithin cut (length text.now + 1)) }
+/// The token that a text begins with, whose first byte begins neither a number nor a word.
+fn other(alloc: Global, text: &[u8]) -> Result<Cut, NoMemory>
+    ensures read { IfOk result (λ cut. plain_cut cut ≡ tokens.other text.now) }
+    ensures within { IfOk result (λ cut. TakesWithin cut (length text.now)) }
 {
-    match first {
-        b'"' => quoted(alloc, text),
-        b'{' => in_braces(alloc, text),
-        b'$' => variable(alloc, text),
-        b'[' => script(alloc, text),
-        _ => Ok(sign(first, text)),
+    let [first, rest @ ..] = text else {
+        return Ok(Cut::NoneHere);
+    };
+    match *first {
+        b'"' => quoted(alloc, rest),
+        b'{' => in_braces(alloc, rest),
+        b'$' => variable(alloc, rest),
+        b'[' => script(alloc, rest),
+        _ => Ok(sign(text)),
     }
 }
 
@@ -149,13 +151,14 @@ fn first_token(alloc: Global, first: u8, text: &[u8]) -> Result<Cut, NoMemory>
         let number = Text::from_bytes(alloc, &text[..digits])?;
         return Ok(Cut::One(Token::Operand(Expr::Leaf(number)), digits));
     }
-    other(alloc, first, &text[1..])
+    other(alloc, text)
 }
 
 /// The token that begins here.
 fn token_at(alloc: Global, text: &[u8], at: usize) -> Result<Cut, NoMemory>
     requires { at < length text.now }
-    ensures read { IfOk result (λ cut. plain_cut cut ≡ tokens.token (slice_index text.now at) (drop (at + 1) text.now)) }
+    ensures read { IfOk result
+        (λ cut. plain_cut cut ≡ tokens.token (slice_index text.now at) (drop (at + 1) text.now)) }
     ensures within { IfOk result (λ cut. TakesWithin cut (length text.now - at)) }
 {
     let cut = first_token(alloc, text[at], &text[at..])?;

@@ -1,8 +1,9 @@
 //! Why an operator gives nothing, and how that is told.
 ghost use Rattle.std.specs.Prelude.{◌≡◌, ◌++◌, IfOk};
-ghost use Rattle.tt_exprs.specs.ApplyMessages.{arith_message, list_message, message_of, sign_of};
+ghost use Rattle.tt_exprs.specs.ApplyMessages.{arith_message, list_message, message_of};
 
 use crate::op::Op;
+use crate::operators::spelling;
 use std::alloc::Global;
 use tt_lists::ListFault;
 use tt_number::ArithFault;
@@ -33,7 +34,7 @@ pub(super) fn message(alloc: Global, refusal: &Refusal) -> Result<Text, NoMemory
         Refusal::NotNumeric(op) => around(
             alloc,
             b"can't use non-numeric string as operand of \"",
-            sign(*op),
+            spelling(*op),
             b"\"",
         ),
         Refusal::TooLarge => Text::from_bytes(alloc, b"integer overflow"),
@@ -88,42 +89,4 @@ fn around(alloc: Global, before: &[u8], told: &[u8], after: &[u8]) -> Result<Tex
     text.push_bytes(told)?;
     text.push_bytes(after)?;
     Ok(text)
-}
-
-// As it stands in an expression.
-fn sign(op: Op) -> &'static [u8]
-    ensures { result.now ≡ sign_of op }
-{
-    match op {
-        Op::Neg | Op::Sub => b"-",
-        Op::Plus | Op::Add => b"+",
-        Op::BitNot => b"~",
-        Op::Not => b"!",
-        Op::Pow => b"**",
-        Op::Mul => b"*",
-        Op::Div => b"/",
-        Op::Mod => b"%",
-        Op::Shl => b"<<",
-        Op::Shr => b">>",
-        Op::Less => b"<",
-        Op::Greater => b">",
-        Op::LessEqual => b"<=",
-        Op::GreaterEqual => b">=",
-        Op::Equal => b"==",
-        Op::NotEqual => b"!=",
-        Op::TextEqual => b"eq",
-        Op::TextNotEqual => b"ne",
-        Op::Member => b"in",
-        Op::NotMember => b"ni",
-        Op::BitAnd => b"&",
-        Op::BitXor => b"^",
-        Op::BitOr => b"|",
-        Op::And => b"&&",
-        Op::Or => b"||",
-        Op::Choose => b"?",
-        Op::Abs => b"abs",
-        Op::Int => b"int",
-        Op::Max => b"max",
-        Op::Min => b"min",
-    }
 }

@@ -1,9 +1,9 @@
 //! Boolean values.
 ghost use Rattle.std.specs.Prelude.{◌≡◌, length, IfOk};
-ghost use Rattle.std.specs.Str.{str_eq_ignore_ascii_case};
-ghost use Rattle.tt_exprs.specs.Apply.{boolean_of, boolean_word, negation_of};
+ghost use Rattle.tt_exprs.specs.Apply.{boolean_of, negation_of};
 
 use super::refusal::Refusal;
+use crate::words::boolean_word;
 use std::alloc::Global;
 use tt_number::read_whole;
 use tt_text::{NoMemory, Text};
@@ -20,24 +20,6 @@ pub fn boolean(text: &[u8]) -> Option<bool>
         Ok(number) => Some(number != 0),
         Err(_) => boolean_word(text),
     }
-}
-
-fn boolean_word(text: &[u8]) -> Option<bool>
-    ensures { result ≡ boolean_word text.now }
-{
-    if is_word(text, b"true") || is_word(text, b"yes") || is_word(text, b"on") {
-        Some(true)
-    } else if is_word(text, b"false") || is_word(text, b"no") || is_word(text, b"off") {
-        Some(false)
-    } else {
-        None
-    }
-}
-
-fn is_word(text: &[u8], word: &[u8]) -> bool
-    ensures { result ≡ str_eq_ignore_ascii_case text.now word.now }
-{
-    text.eq_ignore_ascii_case(word)
 }
 
 pub(super) fn negation(alloc: Global, operands: &[Text]) -> Result<Result<i64, Refusal>, NoMemory>
