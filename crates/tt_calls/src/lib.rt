@@ -4,3 +4,6 @@
 mod outcome;
 
 pub use outcome::{Code, Outcome};
+
+#[cfg(test)]
+mod tests;

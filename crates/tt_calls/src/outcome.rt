@@ -1,4 +1,8 @@
-use tt_text::Text;
+ghost use Rattle.std.specs.Prelude.{◌≡◌, IfOk};
+ghost use Rattle.tt_calls.specs.Outcomes.{failed, fine};
+
+use std::alloc::Global;
+use tt_text::{NoMemory, Text};
 
 /// How a script ended: the completion codes of return(n), which catch(n) answers as 0 to 4 in this
 /// order.
@@ -29,4 +33,33 @@ pub struct Outcome {
     /// Where `code` is `Returned`, the code that `return -code` of return(n) gave, with which the
     /// procedure ends; `Fine` else.
     pub kept: Code,
+}
+
+impl Outcome {
+    /// An evaluation that ran to its end, with this result.
+    pub fn fine(alloc: Global, value: Text) -> Self
+        ensures fine { result ≡ fine value }
+    {
+        Outcome {
+            code: Code::Fine,
+            value,
+            trace: Text::new(alloc),
+            kept: Code::Fine,
+        }
+    }
+
+    /// An evaluation that ended with this error, whose trace begins with its message.
+    ///
+    /// `NoMemory` where the memory for the trace is refused.
+    pub fn failed(message: Text) -> Result<Self, NoMemory>
+        ensures failed { IfOk result (λ outcome. outcome ≡ failed message) }
+    {
+        let trace = message.copy()?;
+        Ok(Outcome {
+            code: Code::Failed,
+            value: message,
+            trace,
+            kept: Code::Fine,
+        })
+    }
 }

@@ -1,5 +1,6 @@
 pub mod IndexLaw
 pub mod Joining
+pub mod Longer
 pub mod Places
 pub mod RunLaw
 pub mod Runs

@@ -11,7 +11,7 @@ use Rattle.tt_lists.specs.declared.place.Index.TheVariants.{At, FromEnd}
 abbrev pub is_decimal : ℕ → Bool
 is_decimal b = is_digit b 10
 
--- one decimal digit or more, which write a number below 2 ^ 64
+-- a number of an index: one decimal digit or more, which write a number below 2 ^ 64
 abbrev pub is_number : List ℕ → Bool
 is_number digits = nat_lt 0 (length digits) && list_all is_decimal digits && nat_lt (digits_value 10 digits) (2 ^ 64)
 
@@ -20,17 +20,33 @@ is_number digits = nat_lt 0 (length digits) && list_all is_decimal digits && nat
 -- nothing, `+` and a number, or `-` and a number: what is added to the place before it
 pub data IsOffset : List ℕ → ℤ → Type 0 where
   none : IsOffset [] (pos 0)
-  plus : {digits : List ℕ} → IsTrue (is_number digits) → IsOffset (43 ∷ digits) (pos (digits_value 10 digits))
-  minus : {digits : List ℕ} → IsTrue (is_number digits) → IsOffset (45 ∷ digits) (neg_ℤ (pos (digits_value 10 digits)))
+  plus : {digits : List ℕ} →
+      IsTrue (is_number digits) →
+      IsOffset (43 ∷ digits) (pos (digits_value 10 digits))
+  minus : {digits : List ℕ} →
+      IsTrue (is_number digits) →
+      IsOffset (45 ∷ digits) (neg_ℤ (pos (digits_value 10 digits)))
 
--- a text is this index, whose value lies in signed 64 bits
+-- a text is this index: each number in it is below 2 ^ 64, and its value lies in signed 64 bits
 pub data IsIndex : List ℕ → Index → Type 0 where
   -- `M`, `M+N` and `M-N`
-  from_first : {text : List ℕ} {place : ℤ} (digits offset : List ℕ) (number : ℤ) → text ≡ digits ++ offset → IsTrue (is_number digits) → IsOffset offset number → place ≡ pos (digits_value 10 digits) +ℤ number → FitsSigned w64 place → IsIndex text (At place)
+  from_first : {text : List ℕ} {place : ℤ} (digits offset : List ℕ) (number : ℤ) →
+      text ≡ digits ++ offset →
+      IsTrue (is_number digits) →
+      IsOffset offset number →
+      place ≡ pos (digits_value 10 digits) +ℤ number →
+      FitsSigned w64 place →
+      IsIndex text (At place)
   -- `+N` and `-N`
-  signed : {b : ℕ} {digits : List ℕ} {number : ℤ} → IsOffset (b ∷ digits) number → FitsSigned w64 number → IsIndex (b ∷ digits) (At number)
+  signed : {b : ℕ} {digits : List ℕ} {number : ℤ} →
+      IsOffset (b ∷ digits) number →
+      FitsSigned w64 number →
+      IsIndex (b ∷ digits) (At number)
   -- `end`, `end+N` and `end-N`
-  from_end : {offset : List ℕ} {number : ℤ} → IsOffset offset number → FitsSigned w64 number → IsIndex (101 ∷ 110 ∷ 100 ∷ offset) (FromEnd number)
+  from_end : {offset : List ℕ} {number : ℤ} →
+      IsOffset offset number →
+      FitsSigned w64 number →
+      IsIndex (101 ∷ 110 ∷ 100 ∷ offset) (FromEnd number)
 
 -- ---- the function
 
@@ -64,7 +80,8 @@ sum_of (Some number) (Some offset) = Some (pos number +ℤ offset)
 
 -- the digits at the front, and what follows them
 abbrev pub from_first_of : List ℕ → Option Index
-from_first_of text = place_of At (sum_of (number_of (take_while is_decimal text)) (offset_of (drop (prefix_len is_decimal text) text)))
+from_first_of text =
+    place_of At (sum_of (number_of (take_while is_decimal text)) (offset_of (drop (prefix_len is_decimal text) text)))
 
 abbrev pub is_end_first : List ℕ → Bool
 is_end_first [] = false

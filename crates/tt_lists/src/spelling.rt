@@ -69,7 +69,7 @@ fn push_later(text: &mut Text, items: &[Text]) -> Result<(), NoMemory>
     Ok(())
 }
 
-fn push_later_item(text: &mut Text, item: &[u8]) -> Result<(), NoMemory>
+pub(crate) fn push_later_item(text: &mut Text, item: &[u8]) -> Result<(), NoMemory>
     ensures { OnOk result (text.new ≡ text.old ++ later_item item.now) }
 {
     text.push_bytes(b" ")?;
@@ -78,7 +78,7 @@ fn push_later_item(text: &mut Text, item: &[u8]) -> Result<(), NoMemory>
 }
 
 #[tactic(auto, unfolding(crate::specs::Spelling::spelling))]
-fn push_spelling(text: &mut Text, place: Place, item: &[u8]) -> Result<(), NoMemory>
+pub(crate) fn push_spelling(text: &mut Text, place: Place, item: &[u8]) -> Result<(), NoMemory>
     ensures { OnOk result (text.new ≡ text.old ++ spelling place item.now) }
 {
     match style_of(place, item) {

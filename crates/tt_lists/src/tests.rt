@@ -1,6 +1,6 @@
 mod vectors;
 
-use crate::{Index, ListFault, Split, element, index, join_list, split};
+use crate::{Index, Split, bad_index, element, index, join_list, push_item, split};
 use std::alloc::Global;
 use std::process::Abort;
 use std::test::Fail;
@@ -11,25 +11,8 @@ use vectors::{FAULTY, LISTED, SPELLED};
 fn outcome(alloc: Global, text: &[u8]) -> Result<Text, NoMemory> {
     match split(alloc, text)? {
         Split::Items(items) => join_list(alloc, items.as_slice()),
-        Split::Bad(fault) => message(alloc, fault),
+        Split::Bad(fault) => fault.message(alloc),
     }
-}
-
-fn message(alloc: Global, fault: ListFault) -> Result<Text, NoMemory> {
-    match fault {
-        ListFault::OpenBrace => Text::from_bytes(alloc, b"unmatched open brace in list"),
-        ListFault::OpenQuote => Text::from_bytes(alloc, b"unmatched open quote in list"),
-        ListFault::AfterBrace(told) => told_after(alloc, b"list element in braces", &told),
-        ListFault::AfterQuote(told) => told_after(alloc, b"list element in quotes", &told),
-    }
-}
-
-fn told_after(alloc: Global, what: &[u8], told: &Text) -> Result<Text, NoMemory> {
-    let mut text = Text::from_bytes(alloc, what)?;
-    text.push_bytes(b" followed by \"")?;
-    text.push_bytes(told.as_bytes())?;
-    text.push_bytes(b"\" instead of space")?;
-    Ok(text)
 }
 
 fn fields(row: &[u8]) -> (&[u8], &[u8]) {
@@ -55,19 +38,14 @@ fn texts_are_split(rt: HostRuntime) -> Result<(), Fail> {
     Ok(())
 }
 
-fn after_a(alloc: Global, item: &[u8]) -> Result<Text, NoMemory> {
-    let first = Text::from_bytes(alloc, b"a")?;
-    let second = Text::from_bytes(alloc, item)?;
-    join_list(alloc, &[first, second])
-}
-
 fn expect_spellings(rt: &impl Abort, alloc: Global, table: &[u8]) -> Result<(), NoMemory> {
     for row in table.split(|&b| b == 0x1e) {
         let (item, spellings) = fields(row);
         let (first, later) = fields(spellings);
         let alone = element(alloc, item)?;
         assert!(rt; alone.as_bytes() == first);
-        let together = after_a(alloc, item)?;
+        let mut together = Text::from_bytes(alloc, b"a")?;
+        push_item(alloc, &mut together, item)?;
         assert!(rt; together.as_bytes() == later);
     }
     Ok(())
@@ -107,4 +85,24 @@ fn indices_are_read(rt: HostRuntime) {
     for (text, wanted) in &INDICES {
         assert!(rt; index(text) == *wanted);
     }
+}
+
+// Places in a list of three items.
+const PLACES: [(Index, i128); 5] = [
+    (Index::At(0), 0),
+    (Index::At(-1), -1),
+    (Index::FromEnd(0), 2),
+    (Index::FromEnd(1), 3),
+    (Index::FromEnd(-3), -1),
+];
+
+#[test]
+fn indices_name_places(rt: HostRuntime) -> Result<(), Fail> {
+    for (index, place) in &PLACES {
+        assert!(rt; index.place(3) == *place);
+    }
+    let told = bad_index(rt.alloc(), b"x")?;
+    let wanted = b"bad index \"x\": must be integer?[+-]integer? or end?[+-]integer?";
+    assert!(rt; told.as_bytes() == wanted.as_slice());
+    Ok(())
 }

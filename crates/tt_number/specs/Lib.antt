@@ -1,3 +1,4 @@
 pub mod Division
+pub mod Messages
 pub mod Numerals
 pub mod Operators

@@ -38,13 +38,27 @@ is_binary_mark b = b == 98 || b == 66
 
 -- an unsigned whole number, with its base and its digits
 pub data IsUnsigned : List ℕ → ℕ → List ℕ → Type 0 where
-  hexadecimal : {mark : ℕ} {digits : List ℕ} → IsTrue (is_hexadecimal_mark mark) → IsTrue (is_numeral 16 digits) → IsUnsigned (48 ∷ mark ∷ digits) 16 digits
-  octal : {mark : ℕ} {digits : List ℕ} → IsTrue (is_octal_mark mark) → IsTrue (is_numeral 8 digits) → IsUnsigned (48 ∷ mark ∷ digits) 8 digits
-  binary : {mark : ℕ} {digits : List ℕ} → IsTrue (is_binary_mark mark) → IsTrue (is_numeral 2 digits) → IsUnsigned (48 ∷ mark ∷ digits) 2 digits
+  hexadecimal : {mark : ℕ} {digits : List ℕ} →
+      IsTrue (is_hexadecimal_mark mark) →
+      IsTrue (is_numeral 16 digits) →
+      IsUnsigned (48 ∷ mark ∷ digits) 16 digits
+  octal : {mark : ℕ} {digits : List ℕ} →
+      IsTrue (is_octal_mark mark) →
+      IsTrue (is_numeral 8 digits) →
+      IsUnsigned (48 ∷ mark ∷ digits) 8 digits
+  binary : {mark : ℕ} {digits : List ℕ} →
+      IsTrue (is_binary_mark mark) →
+      IsTrue (is_numeral 2 digits) →
+      IsUnsigned (48 ∷ mark ∷ digits) 2 digits
   -- a first `0` with octal digits after it
-  leading_zero : {digits : List ℕ} → IsTrue (is_numeral 8 digits) → IsUnsigned (48 ∷ digits) 8 digits
+  leading_zero : {digits : List ℕ} →
+      IsTrue (is_numeral 8 digits) →
+      IsUnsigned (48 ∷ digits) 8 digits
   -- decimal digits, of which the first is no `0` where others follow
-  decimal : {digit : ℕ} {digits : List ℕ} → IsTrue (is_numeral 10 (digit ∷ digits)) → (digit ≡ 48 → digits ≡ []) → IsUnsigned (digit ∷ digits) 10 (digit ∷ digits)
+  decimal : {digit : ℕ} {digits : List ℕ} →
+      IsTrue (is_numeral 10 (digit ∷ digits)) →
+      (digit ≡ 48 → digits ≡ []) →
+      IsUnsigned (digit ∷ digits) 10 (digit ∷ digits)
 
 -- a sign or none, and what it makes of a number
 pub data IsSign : List ℕ → (ℕ → ℤ) → Type 0 where
@@ -66,7 +80,13 @@ is_exponent_mark b = b == 101 || b == 69
 -- an unsigned floating-point number: digits with a point, an exponent or both
 pub data IsFloat : List ℕ → Type 0 where
   pointed : {text : List ℕ} → IsPointed text → IsFloat text
-  scaled : {text : List ℕ} (front sign digits : List ℕ) (mark : ℕ) (signed : ℕ → ℤ) → text ≡ front ++ (mark ∷ (sign ++ digits)) → IsTrue (is_numeral 10 front) ⊎ IsPointed front → IsTrue (is_exponent_mark mark) → IsSign sign signed → IsTrue (is_numeral 10 digits) → IsFloat text
+  scaled : {text : List ℕ} (front sign digits : List ℕ) (mark : ℕ) (signed : ℕ → ℤ) →
+      text ≡ front ++ (mark ∷ (sign ++ digits)) →
+      IsTrue (is_numeral 10 front) ⊎ IsPointed front →
+      IsTrue (is_exponent_mark mark) →
+      IsSign sign signed →
+      IsTrue (is_numeral 10 digits) →
+      IsFloat text
 
 -- a text is a sign and what follows it, with white space around them
 pub record IsSigned (text sign unsigned : List ℕ) : Type 0 where
@@ -138,7 +158,8 @@ after_zero None digit digits = (8, digit ∷ digits)
 abbrev pub base_and_digits : List ℕ → ℕ × List ℕ
 base_and_digits [] = (10, [])
 base_and_digits (digit ∷ []) = (10, digit ∷ [])
-base_and_digits (digit ∷ mark ∷ digits) = if digit == 48 then after_zero (base_of_mark mark) mark digits else (10, digit ∷ mark ∷ digits)
+base_and_digits (digit ∷ mark ∷ digits) =
+    if digit == 48 then after_zero (base_of_mark mark) mark digits else (10, digit ∷ mark ∷ digits)
 
 -- the number that digits write, where they are digits
 abbrev pub number_of : ℕ × List ℕ → Option ℕ
@@ -150,7 +171,8 @@ is_point b = b == 46
 -- the place of the point divides digits, of which there is one at least
 abbrev pub divides_digits : List ℕ → Option ℕ → Bool
 divides_digits text None = false
-divides_digits text (Some at) = nat_lt 1 (length text) && all_digits 10 (take at text) && all_digits 10 (drop (at + 1) text)
+divides_digits text (Some at) =
+    nat_lt 1 (length text) && all_digits 10 (take at text) && all_digits 10 (drop (at + 1) text)
 
 abbrev pub is_pointed : List ℕ → Bool
 is_pointed text = divides_digits text (position is_point text)
@@ -186,7 +208,8 @@ whole_of text = reading_of (trimmed text)
 
 -- the function answers what the grammar says, and nothing else
 abbrev pub ReadingLaw : Type 0
-ReadingLaw = (text : List ℕ) (reading : Result ℤ NumberFault) → (whole_of text ≡ reading) ↔ IsReading text reading
+ReadingLaw =
+    (text : List ℕ) (reading : Result ℤ NumberFault) → (whole_of text ≡ reading) ↔ IsReading text reading
 
 -- the decimal text of a number is read as that number
 abbrev pub DecimalLaw : Type 0

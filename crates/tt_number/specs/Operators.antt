@@ -1,4 +1,5 @@
--- The operators on whole numbers, by expr(n), OPERATORS: on integers without a bound, whose result is cut at signed 64 bits.
+-- The operators on whole numbers (expr(n), OPERATORS): on integers without a bound, whose result is cut at
+-- signed 64 bits.
 use Rattle.std.specs.Prelude.{ℕ, Bool, suc, ◌^◌, nat_lt, if◌then◌else◌, ◌==◌, ℤ, pos, negsuc, neg_ℤ, ◌+ℤ◌, ◌-ℤ◌, ◌*ℤ◌, Result, Ok, Err}
 use Rattle.std.specs.Int.{w64, int_div_euclid, int_rem_euclid, int_pow, int_bit_and, int_bit_or, int_bit_xor, int_bit_not}
 use Rattle.std.specs.Int.RustNames.{unsigned_abs}

@@ -4,6 +4,7 @@
 
 mod decimal;
 pub mod laws;
+mod messages;
 mod numeral;
 mod operators;
 

@@ -2,16 +2,20 @@ ghost use Rattle.std.specs.Prelude.{◌≡◌, ◌≤◌, ◌<◌, ◌^◌, ◌-
 ghost use Rattle.std.specs.Option.{option_map};
 ghost use Rattle.tt_number.specs.Numerals.{trimmed, without_white_back, whole_of, is_minus_first, unsigned_part, number_of, base_and_digits, is_float, is_scaled, is_pointed, is_exponent_mark, is_point, is_numeral, all_digits, cut};
 
+use thiserror::Error;
 use tt_text::{is_white_space, without_white_front};
 
 /// Why a text is read as no whole number.
-#[derive(Clone, Copy, Debug, PartialEq, Eq)]
+#[derive(Clone, Copy, Debug, PartialEq, Eq, Error)]
 pub enum NumberFault {
     /// It spells no number.
+    #[error("not a whole number")]
     NotWhole,
     /// It spells a whole number that does not lie in signed 64 bits.
+    #[error("whole number of more than 64 bits")]
     TooLarge,
     /// It spells a floating-point number.
+    #[error("floating-point number")]
     Float,
 }
 

@@ -3,16 +3,22 @@ ghost use Rattle.std.specs.Int.{w64, int_pow};
 ghost use Rattle.std.specs.Int.RustNames.{unsigned_abs};
 ghost use Rattle.tt_number.specs.Operators.{fitted, quotient_down, remainder_down, power, inverse_power, shifted_left, shifted_right, binary_of, unary_of, unless_zero};
 
+use thiserror::Error;
+
 /// Why an operator has no answer, by expr(n).
-#[derive(Clone, Copy, Debug, PartialEq, Eq)]
+#[derive(Clone, Copy, Debug, PartialEq, Eq, Error)]
 pub enum ArithFault {
     /// The result does not lie in signed 64 bits.
+    #[error("result of more than 64 bits")]
     Overflow,
     /// The divisor is 0.
+    #[error("division by zero")]
     DivideByZero,
     /// A shift by less than 0 places.
+    #[error("shift by less than 0 places")]
     NegativeShift,
     /// 0 to a negative power.
+    #[error("negative power of zero")]
     ZeroPower,
 }
 

@@ -120,3 +120,21 @@ fn numbers_are_written(rt: HostRuntime) -> Result<(), Fail> {
     );
     Ok(())
 }
+
+#[test]
+fn faults_are_told(rt: HostRuntime) -> Result<(), Fail> {
+    let told: [(NumberFault, &[u8]); 3] = [
+        (NotWhole, b"expected integer but got \"x\""),
+        (TooLarge, b"integer overflow"),
+        (Float, b"floating-point number refused"),
+    ];
+    for (fault, message) in &told {
+        assert_eq!(rt; fault.message(rt.alloc(), b"x")?.as_bytes(), *message);
+    }
+    let shown = format!(in rt.alloc(); "{}; {}", TooLarge, ArithFault::ZeroPower)?;
+    assert_eq!(rt;
+        shown.as_str(),
+        "whole number of more than 64 bits; negative power of zero"
+    );
+    Ok(())
+}

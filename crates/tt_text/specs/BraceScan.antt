@@ -6,5 +6,8 @@ use Rattle.tt_text.specs.declared.braces.Scan.TheVariants.{Closes, Ends}
 
 -- whatever follows the text, the search has ended in it, or goes on so after it
 abbrev pub IsScan : List ℕ → Scan → Type 0
-IsScan text (Closes place) = (place < length text) × ((more : List ℕ) → matching_brace (text ++ more) ≡ Some place)
-IsScan text (Ends depth at) = (length text ≤ at) × (at ≤ length text + 1) × ((more : List ℕ) → matching_brace (text ++ more) ≡ further at (closing_brace false depth (drop at (text ++ more))))
+IsScan text (Closes place) =
+    (place < length text) × ((more : List ℕ) → matching_brace (text ++ more) ≡ Some place)
+IsScan text (Ends depth at) =
+    (length text ≤ at) × (at ≤ length text + 1) ×
+    ((more : List ℕ) → matching_brace (text ++ more) ≡ further at (closing_brace false depth (drop at (text ++ more))))

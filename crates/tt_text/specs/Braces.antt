@@ -5,11 +5,23 @@ use Rattle.std.specs.Prelude.{◌≡◌, ◌≢◌, ℕ, zero, suc, ◌+◌, Boo
 pub data IsBalanced : List ℕ → Type 0 where
   empty : IsBalanced []
   -- a byte that is no brace and no backslash
-  other : {b : ℕ} {text : List ℕ} → b ≢ 123 → b ≢ 125 → b ≢ 92 → IsBalanced text → IsBalanced (b ∷ text)
+  other : {b : ℕ} {text : List ℕ} →
+      b ≢ 123 →
+      b ≢ 125 →
+      b ≢ 92 →
+      IsBalanced text →
+      IsBalanced (b ∷ text)
   -- a backslash with the byte after it
-  escaped : {b next : ℕ} {text : List ℕ} → b ≡ 92 → IsBalanced text → IsBalanced (b ∷ next ∷ text)
+  escaped : {b next : ℕ} {text : List ℕ} →
+      b ≡ 92 →
+      IsBalanced text →
+      IsBalanced (b ∷ next ∷ text)
   -- a group in braces
-  group : {text inner rest : List ℕ} → text ≡ 123 ∷ (inner ++ (125 ∷ rest)) → IsBalanced inner → IsBalanced rest → IsBalanced text
+  group : {text inner rest : List ℕ} →
+      text ≡ 123 ∷ (inner ++ (125 ∷ rest)) →
+      IsBalanced inner →
+      IsBalanced rest →
+      IsBalanced text
 
 -- what a byte does to the count of open braces
 pub data Mark : Type 0 where

@@ -16,7 +16,8 @@ pub record Range : Type 0 where
 
 -- c lies between the ends of a range, whichever of them comes first
 abbrev pub is_between : Range → Character → Bool
-is_between range c = (is_at_most range.from c && is_at_most c range.to) || (is_at_most range.to c && is_at_most c range.from)
+is_between range c =
+    (is_at_most range.from c && is_at_most c range.to) || (is_at_most range.to c && is_at_most c range.from)
 
 -- the ranges that the members of a set list: `a-z` is one, and so is each character by itself
 abbrev pub ranges : List Character → List Range
@@ -55,17 +56,32 @@ pub data Matches : List Character → List Character → Type 0 where
   -- the empty pattern matches the empty text
   empty : Matches [] []
   -- `*` matches any run of characters
-  run : {p : Character} {pattern text rest : List Character} (skipped : List Character)
-      → p ≡ codes "*" → text ≡ skipped ++ rest → Matches pattern rest → Matches (p ∷ pattern) text
+  run : {p : Character} {pattern text rest : List Character} (skipped : List Character) →
+      p ≡ codes "*" →
+      text ≡ skipped ++ rest →
+      Matches pattern rest →
+      Matches (p ∷ pattern) text
   -- `?` matches one character
-  any : {p c : Character} {pattern text : List Character} → p ≡ codes "?" → Matches pattern text → Matches (p ∷ pattern) (c ∷ text)
+  any : {p c : Character} {pattern text : List Character} →
+      p ≡ codes "?" →
+      Matches pattern text →
+      Matches (p ∷ pattern) (c ∷ text)
   -- `[..]` matches one character that it lists
-  set : {p c : Character} {pattern after text : List Character}
-      → p ≡ codes "[" → after_set pattern ≡ Some after → IsTrue (is_listed (set_members pattern) c) → Matches after text
-      → Matches (p ∷ pattern) (c ∷ text)
+  set : {p c : Character} {pattern after text : List Character} →
+      p ≡ codes "[" →
+      after_set pattern ≡ Some after →
+      IsTrue (is_listed (set_members pattern) c) →
+      Matches after text →
+      Matches (p ∷ pattern) (c ∷ text)
   -- a backslash and a character match that character
-  escape : {p c : Character} {pattern text : List Character} → p ≡ codes "\\" → Matches pattern text → Matches (p ∷ c ∷ pattern) (c ∷ text)
+  escape : {p c : Character} {pattern text : List Character} →
+      p ≡ codes "\\" →
+      Matches pattern text →
+      Matches (p ∷ c ∷ pattern) (c ∷ text)
   -- a last backslash matches itself
   last_backslash : {p : Character} → p ≡ codes "\\" → Matches (p ∷ []) (p ∷ [])
   -- any other character matches itself
-  itself : {c : Character} {pattern text : List Character} → IsOrdinary c → Matches pattern text → Matches (c ∷ pattern) (c ∷ text)
+  itself : {c : Character} {pattern text : List Character} →
+      IsOrdinary c →
+      Matches pattern text →
+      Matches (c ∷ pattern) (c ∷ text)

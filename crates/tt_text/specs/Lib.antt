@@ -4,3 +4,4 @@ pub mod BraceScan
 pub mod Characters
 pub mod Glob
 pub mod GlobScan
+pub mod Kept

@@ -2,6 +2,8 @@
 ghost use Rattle.tt_text.specs.Braces.{BalancedLaw, MatchingBraceLaw};
 ghost use Rattle.tt_text.specs.Characters.{CharacterLaws};
 
+use crate::{Text, Texts};
+
 /// The matching brace is the one up to which the text is balanced (Tcl(n), rule 6).
 pub fn matching_brace_law()
     ensures law { MatchingBraceLaw }
@@ -12,3 +14,11 @@ pub fn matching_brace_law()
 pub fn character_law()
     ensures { CharacterLaws }
 {}
+
+/// A text, and a list of them, may move to another thread and be shared by threads.
+pub fn texts_cross_threads() {
+    crosses_threads::<Text>();
+    crosses_threads::<Texts>();
+}
+
+fn crosses_threads<T: Send + Sync>() {}

@@ -4,6 +4,8 @@
 mod backslashes;
 mod braces;
 mod characters;
+mod comparing;
+mod few;
 mod glob_set;
 pub mod laws;
 mod no_memory;

@@ -2,7 +2,7 @@ ghost use Rattle.std.specs.Prelude.{◌≡◌, ◌∷◌, [], ◌<◌, ◌≤◌
 ghost use Rattle.tt_text.specs.Backslash.{character_of};
 
 /// A backslash sequence (Tcl(n), rule 9): what it stands for, and where the text goes on.
-#[derive(Clone, Copy, Debug, PartialEq, Eq)]
+#[derive(Clone, Copy, Debug)]
 pub struct Backslash {
     /// The first `len` of them are what it stands for.
     pub bytes: [u8; 4],

@@ -1,13 +1,36 @@
 use crate::{Text, is_balanced, is_white_space, matching_brace, without_white_front};
 use std::test::Fail;
 
+// A text, what is added to a copy of it, and both together: kept in place, moved behind a pointer, and kept there.
+static GROWING: [(&[u8], &[u8], &[u8]); 4] = [
+    (b"ab", b"c", b"abc"),
+    (b"0123456789abc", b"d", b"0123456789abcd"),
+    (b"0123456789abc", b"de", b"0123456789abcde"),
+    (b"0123456789abcdef", b"gh", b"0123456789abcdefgh"),
+];
+
 #[test]
-fn a_text_grows_and_is_copied(rt: HostRuntime) -> Result<(), Fail> {
-    let mut text = Text::from_bytes(rt.alloc(), b"ab")?;
-    text.push_bytes(b"c")?;
-    let copy = text.copy()?;
-    assert_eq!(rt; text.as_bytes(), b"abc".as_slice());
-    assert_eq!(rt; copy.as_bytes(), b"abc".as_slice());
+fn a_copy_grows_alone(rt: HostRuntime) -> Result<(), Fail> {
+    for (front, back, both) in &GROWING {
+        let text = Text::from_bytes(rt.alloc(), front)?;
+        let mut copy = text.copy()?;
+        copy.push_bytes(back)?;
+        assert_eq!(rt; text.as_bytes(), *front);
+        assert_eq!(rt; copy.as_bytes(), *both);
+        assert_eq!(rt; copy.len(), both.len());
+        assert!(rt; text < copy && text != copy);
+    }
+    Ok(())
+}
+
+#[test]
+fn a_text_is_a_vector_and_back(rt: HostRuntime) -> Result<(), Fail> {
+    for (_, _, both) in &GROWING {
+        let text = Text::from_vec(rt.alloc(), Vec::from_slice(rt.alloc(), both)?)?;
+        let copy = text.copy()?;
+        assert_eq!(rt; text.into_vec()?.as_slice(), *both);
+        assert_eq!(rt; copy.into_vec()?.as_slice(), *both);
+    }
     Ok(())
 }
 
@@ -25,6 +48,8 @@ fn texts_are_kept_in_order(rt: HostRuntime) -> Result<(), Fail> {
     texts.push(Text::from_bytes(rt.alloc(), b"b")?)?;
     assert_eq!(rt; texts.as_slice().len(), 2);
     assert_eq!(rt; texts.as_slice()[1].as_bytes(), b"b".as_slice());
+    let again = crate::Texts::from(texts.into_vec());
+    assert_eq!(rt; again.as_slice().len(), 2);
     Ok(())
 }
 

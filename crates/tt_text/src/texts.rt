@@ -45,4 +45,20 @@ impl Texts {
         self.items.push(text)?;
         Ok(())
     }
+
+    /// The texts as a vector. None is copied.
+    pub fn into_vec(self) -> Vec<Text>
+        ensures items { result.items ≡ self }
+    {
+        let Texts { items } = self;
+        items
+    }
+}
+
+impl From<Vec<Text>> for Texts {
+    ghost from_gives = { λ items texts. texts ≡ items.items };
+
+    fn from(items: Vec<Text>) -> Self {
+        Texts { items }
+    }
 }

@@ -1,0 +1,74 @@
+ghost use Rattle.std.specs.Prelude.{◌≡◌, ◌+◌, ◌≤◌, ◌++◌, [], length, take};
+
+use std::marker::Model;
+
+/// How many bytes a text keeps in place.
+pub(crate) const ROOM: usize = 14;
+
+/// At most 14 bytes, in place. Contracts see the list.
+#[derive(Debug, Drop)]
+pub(crate) struct Few {
+    len: u8,
+    room: [u8; ROOM],
+}
+
+impl Model for Few {
+    ghost use Rattle.std.specs.Prelude.{ℕ, List, take, ◌≤◌};
+
+    ghost Value = { List ℕ };
+
+    ghost view = { λ few. take few.len few.room };
+
+    ghost invariant = { λ few. few.len ≤ 14 };
+}
+
+impl Few {
+    pub(crate) fn new() -> Self
+        ensures empty { result ≡ [] }
+    {
+        Few {
+            len: 0,
+            room: [0; ROOM],
+        }
+    }
+
+    pub(crate) fn as_slice(&self) -> &[u8]
+        ensures bytes { result.now ≡ self.now }
+    {
+        &self.room[..usize::from(self.len)]
+    }
+
+    pub(crate) fn copy(&self) -> Self
+        ensures copied { result ≡ self.now }
+    {
+        Few {
+            len: self.len,
+            room: self.room,
+        }
+    }
+
+    // How many bytes more there is room for.
+    pub(crate) fn spare(&self) -> usize
+        ensures spare { result + length self.now ≡ ROOM }
+    {
+        ROOM - usize::from(self.len)
+    }
+
+    pub(crate) fn push(&mut self, bytes: &[u8])
+        requires fits { length self.old + length bytes.now ≤ ROOM }
+        ensures pushed { self.new ≡ self.old ++ bytes.now }
+    {
+        let start = usize::from(self.len);
+        write_at(&mut self.room, start, bytes);
+        self.len += bytes.len() as u8;
+    }
+}
+
+// Writes the bytes from a place on.
+fn write_at(room: &mut [u8], start: usize, bytes: &[u8])
+    requires within { start + length bytes.now ≤ length room.old }
+    ensures written { take (start + length bytes.now) room.new ≡ take start room.old ++ bytes.now }
+    ensures len { length room.new ≡ length room.old }
+{
+    room[start..start + bytes.len()].copy_from_slice(bytes);
+}
