@@ -7,6 +7,7 @@ pub mod Extremes
 pub mod NumberForms
 pub mod NumberFound
 pub mod NumberLength
+pub mod OnNumbers
 pub mod OperandLaw
 pub mod ParseSteps
 pub mod Rows

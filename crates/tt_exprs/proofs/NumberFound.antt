@@ -1,23 +1,18 @@
 -- What the function takes as a number is one.
-use Rattle.std.proofs.Common.{◌≡◌, ◌≢◌, ℕ, zero, suc, ◌+◌, ◌-◌, ◌<◌, ◌≤◌, Bool, true, false, ◌&&◌, ◌||◌, ◌==◌, List, [], ◌∷◌, ◌++◌, length, take, drop, Option, Some, None, refl, sym, ap, subst, ◌∙◌, inl, inr, ◌⊎◌, append_assoc, arith, length-append, ℤ, pos}
+use Rattle.std.proofs.Common.{◌≡◌, ◌≢◌, ℕ, zero, suc, ◌+◌, ◌<◌, true, false, ◌||◌, ◌==◌, List, [], ◌∷◌, ◌++◌, length, take, drop, Option, Some, None, refl, sym, ap, subst, ◌∙◌, inl, inr, ◌⊎◌, append_assoc, arith, length-append, ℤ, pos}
 use Rattle.std.specs.Prelude.{nat_lt}
 use Rattle.std.specs.Char.{is_digit}
-use Rattle.std.specs.List.{list_all, prefix_len}
-use Rattle.std.proofs.Math.Numerals.{one-add}
-use Rattle.std.proofs.Math.Seq.{take-append_seam}
-use Rattle.std.proofs.lemmas.Bool.{cases_Bool, and_parts, and_from, or_cases, or_parts, both_ways, lt-ltb, le-ltb, ltb-true, ltb-false, eqb-true, eqb-false, ne_eqb, eq-eqb}
+use Rattle.std.proofs.lemmas.Bool.{cases_Bool, and_from, or_cases, lt-ltb, ltb-true, ltb-false, eqb-true, eqb-false}
 use Rattle.std.proofs.lemmas.List.Folds.{length-prefix_len, list_all-append}
-use Rattle.std.proofs.lemmas.List.{take_at, drop_at, take-append-drop}
-use Rattle.tt_script.specs.Reading.{begins}
-use Rattle.tt_number.specs.Numerals.{IsUnsigned, IsFloat, IsPointed, IsSign, all_digits, is_numeral, base_of_mark, is_exponent_mark, is_hexadecimal_mark, is_octal_mark, is_binary_mark}
+use Rattle.std.proofs.lemmas.List.{drop_at, take-append-drop}
+use Rattle.tt_number.specs.Numerals.{IsUnsigned, IsPointed, IsSign, all_digits, is_numeral, base_of_mark, is_exponent_mark, is_hexadecimal_mark, is_octal_mark, is_binary_mark}
 use Rattle.tt_number.specs.Numerals.IsUnsigned.{hexadecimal, octal, binary, leading_zero, decimal as decimal_digits}
 use Rattle.tt_number.specs.Numerals.IsFloat.{pointed, scaled as scaled_float}
 use Rattle.tt_number.specs.Numerals.IsSign.{none, plus, minus}
-use Rattle.tt_number.proofs.Reading.Numbers.{numeral_digits}
 use Rattle.tt_exprs.specs.Tokens.{run, with_digits, exponent_digits, exponent, fraction, decimal, longer, scaled, unmarked, marked, number_length}
 use Rattle.tt_exprs.proofs.Runs.{run-kind}
 use Rattle.tt_exprs.proofs.NumberForms.{IsNumeral, whole_numeral, float_numeral}
-use Rattle.tt_exprs.proofs.NumberLength.{digit_of, with_digits-some, scaled-on, longer-end, longer-digits, number-marked, number-zero, number-other, appended, numeral_some}
+use Rattle.tt_exprs.proofs.NumberLength.{digit_of, with_digits-some, scaled-on, longer-end, longer-digits, number-marked, number-zero, number-other, appended}
 
 -- the digits at the front are a numeral, where there are any
 run-numeral : (base : ℕ) (text : List ℕ) → 0 < run base text → is_numeral base (take (run base text) text) ≡ true

@@ -1,20 +1,18 @@
 -- The length that the function finds is that of the longest number.
-use Rattle.std.proofs.Common.{◌≡◌, ◌≢◌, ℕ, zero, suc, ◌+◌, ◌-◌, ◌<◌, ◌≤◌, Bool, true, false, ◌&&◌, ◌||◌, ◌==◌, List, [], ◌∷◌, ◌++◌, length, take, drop, Option, Some, None, refl, sym, ap, subst, ◌∙◌, inl, inr, ◌⊎◌, append_assoc, arith, length-append, ℤ, pos}
+use Rattle.std.proofs.Common.{◌≡◌, ◌≢◌, ℕ, suc, ◌+◌, ◌<◌, ◌≤◌, Bool, true, false, ◌==◌, List, [], ◌∷◌, ◌++◌, length, drop, Some, None, refl, sym, ap, subst, ◌∙◌, inl, inr, append_assoc, arith, length-append, ℤ}
 use Rattle.std.specs.Prelude.{nat_lt}
 use Rattle.std.specs.Char.{is_digit}
-use Rattle.std.specs.List.{list_all, prefix_len}
-use Rattle.std.proofs.lemmas.Bool.{cases_Bool, and_parts, and_from, or_cases, or_parts, both_ways, lt-ltb, le-ltb, ltb-true, ltb-false, eqb-true, eqb-false, ne_eqb, eq-eqb}
+use Rattle.std.proofs.lemmas.Bool.{cases_Bool, and_parts, or_cases, lt-ltb, le-ltb, ltb-true, ltb-false, eqb-true, eqb-false, ne_eqb}
 use Rattle.std.proofs.lemmas.Bool.Decides.{nat_tests}
-use Rattle.std.proofs.lemmas.List.{take_at, drop_at}
-use Rattle.tt_script.specs.Reading.{begins}
-use Rattle.tt_number.specs.Numerals.{IsUnsigned, IsFloat, IsPointed, IsSign, all_digits, is_numeral, base_of_mark, is_exponent_mark, is_hexadecimal_mark, is_octal_mark, is_binary_mark}
+use Rattle.std.proofs.lemmas.List.{drop_at}
+use Rattle.tt_number.specs.Numerals.{IsFloat, IsSign, all_digits, is_numeral, base_of_mark, is_exponent_mark, is_hexadecimal_mark, is_octal_mark, is_binary_mark}
 use Rattle.tt_number.specs.Numerals.IsUnsigned.{hexadecimal, octal, binary, leading_zero, decimal as decimal_digits}
 use Rattle.tt_number.specs.Numerals.IsFloat.{pointed, scaled as scaled_float}
 use Rattle.tt_number.specs.Numerals.IsSign.{none, plus, minus}
 use Rattle.tt_number.proofs.Reading.Trimming.{all_parts, all_from}
 use Rattle.tt_number.proofs.Reading.Numbers.{numeral_digits, digit_no_mark, digit_no_sign}
 use Rattle.tt_exprs.specs.Tokens.{run, with_digits, exponent_digits, exponent, fraction, decimal, longer, scaled, unmarked, marked, number_length}
-use Rattle.tt_exprs.proofs.Runs.{run-front, run-none, run-kind, run-end}
+use Rattle.tt_exprs.proofs.Runs.{run-front}
 use Rattle.tt_exprs.proofs.NumberForms.{IsNumeral, whole_numeral, float_numeral}
 
 -- ---- digits

@@ -1,19 +1,16 @@
 -- Quotes, braces, `$` forms and brackets are cut as the command grammar cuts them.
-use Rattle.std.proofs.Common.{◌≡◌, ◌≢◌, ℕ, zero, suc, ◌+◌, ◌<◌, ◌≤◌, Bool, true, false, List, [], ◌∷◌, ◌++◌, length, take, drop, Option, Some, None, refl, ap, sym, ◌∙◌, subst, arith, inl, inr, ◌⊎◌, add-one}
+use Rattle.std.proofs.Common.{◌≡◌, ℕ, ◌+◌, ◌<◌, true, List, ◌∷◌, ◌++◌, length, take, drop, Option, Some, None, refl, ap, sym, ◌∙◌, arith, ◌⊎◌, add-one}
 use Rattle.std.proofs.lemmas.List.{take_at, drop_at, drop-drop}
-use Rattle.tt_text.specs.Characters.{is_white_space}
 use Rattle.tt_text.specs.Braces.{IsBalanced, IsClosedAt, matching_brace}
 use Rattle.tt_text.proofs.BraceLemmas.{matching_brace_law}
 use Rattle.tt_script.specs.Words.{PlainPart, letters, variable, element, script, PlainParts, none, more}
-use Rattle.tt_script.specs.Reading.{Read, takes, fails, begins, joined_lines, most_open, part, level}
-use Rattle.tt_script.specs.Grammar.{IsParts}
+use Rattle.tt_script.specs.Reading.{Read, takes, fails, joined_lines, most_open}
 use Rattle.tt_script.specs.Operands.{quoted_text, outer_part, IsQuotedText, IsOuterPart}
-use Rattle.tt_script.specs.declared.command.ParseFault.{ParseFault}
-use Rattle.tt_script.proofs.FromGrammar.{part_read, parts_read, cut_one}
+use Rattle.tt_script.proofs.FromGrammar.{part_read, parts_read}
 use Rattle.tt_script.proofs.IntoGrammar.{sound, part_is, parts_is, parts_closed, byte_at}
 use Rattle.tt_exprs.specs.Trees.{leaf, words}
 use Rattle.tt_exprs.specs.Tokens.{PlainToken, operand, Cut, one, refused, none_here, quoted, of_quoted, in_braces, substituted, of_part, of_one_part, token}
-use Rattle.tt_exprs.specs.TokenGrammar.{first_is, is_substituted, IsToken, quoted_token, braced_token, substituted_token}
+use Rattle.tt_exprs.specs.TokenGrammar.{is_substituted, IsToken, quoted_token, braced_token, substituted_token}
 
 -- a cut that is the text's first token, or that says that no token is here
 abbrev pub TokenIs : List ℕ → Cut → Type 0

@@ -1,5 +1,5 @@
 -- Rows of the definitions, computed.
-use Rattle.std.proofs.Common.{◌≡◌, List, [], ◌∷◌, refl}
+use Rattle.std.proofs.Common.{◌≡◌, refl}
 use Rattle.std.specs.Prelude.{codes}
 use Rattle.tt_exprs.specs.Trees.{leaf, node, none, more, tree, bad}
 use Rattle.tt_exprs.specs.Tokens.{token, tokens, word, sign}

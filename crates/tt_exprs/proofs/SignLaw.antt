@@ -1,8 +1,8 @@
 -- The sign that the function cuts off is the longest one.
-use Rattle.std.proofs.Common.{rules, ◌≡◌, ℕ, zero, suc, ◌+◌, ◌<◌, ◌≤◌, Bool, true, false, cond, ◌&&◌, ◌==◌, List, [], ◌∷◌, ◌++◌, length, take, drop, get_or, Option, Some, None, refl, ap, sym, ◌∙◌, subst, arith, inl, inr, ◌⊎◌, length-append}
-use Rattle.std.specs.Prelude.{nat_eq, nat_le, find, Contains, slice_index_or}
-use Rattle.std.specs.List.{starts_with, list_all}
-use Rattle.std.proofs.lemmas.Bool.{cases_Bool, and_parts, both_ways, eqb-true}
+use Rattle.std.proofs.Common.{rules, ◌≡◌, ℕ, zero, suc, ◌<◌, ◌≤◌, Bool, true, false, ◌==◌, List, [], ◌∷◌, ◌++◌, length, take, drop, Option, Some, None, refl, ap, sym, ◌∙◌, subst, arith, inl, inr, ◌⊎◌}
+use Rattle.std.specs.Prelude.{nat_eq, find, Contains, slice_index_or}
+use Rattle.std.specs.List.{starts_with}
+use Rattle.std.proofs.lemmas.Bool.{cases_Bool, both_ways, eqb-true}
 use Rattle.std.proofs.lemmas.List.{take_at}
 use Rattle.tt_text.specs.Characters.{is_white_space}
 use Rattle.tt_exprs.specs.Operators.{spelling, sign_operators, first_spelled}

@@ -1,7 +1,7 @@
 -- The function cuts a text into the tokens that the grammar has, and no others.
-use Rattle.std.proofs.Common.{◌≡◌, ◌≢◌, ℕ, zero, suc, pred, ◌+◌, ◌<◌, ◌≤◌, Bool, true, false, not, ◌||◌, ◌==◌, nat_lt, List, [], ◌∷◌, ◌++◌, length, take, drop, refl, ap, sym, ◌∙◌, subst, arith, inl, inr, ◌⊎◌, length-append, length-drop}
-use Rattle.std.specs.List.{list_all, prefix_len}
-use Rattle.std.proofs.lemmas.Bool.{cases_Bool, and_parts, both_ways, or_cases, eqb-true, lt-ltb, ltb-false, ltb-true, false_from_ne_true}
+use Rattle.std.proofs.Common.{◌≡◌, ℕ, zero, suc, ◌<◌, ◌≤◌, Bool, true, false, not, ◌||◌, ◌==◌, nat_lt, List, [], ◌∷◌, ◌++◌, length, take, drop, refl, ap, sym, ◌∙◌, subst, arith, inl, inr, ◌⊎◌, length-append, length-drop}
+use Rattle.std.specs.List.{prefix_len}
+use Rattle.std.proofs.lemmas.Bool.{cases_Bool, and_parts, or_cases, eqb-true, lt-ltb, ltb-true}
 use Rattle.std.proofs.lemmas.List.{take_at, drop_at}
 use Rattle.tt_text.specs.Characters.{is_white_space}
 use Rattle.tt_script.specs.Words.{none, more}
@@ -11,14 +11,13 @@ use Rattle.tt_number.proofs.Reading.Trimming.{nonempty}
 use Rattle.tt_number.proofs.Reading.Numbers.{read_unsigned}
 use Rattle.tt_number.proofs.Reading.Floats.{read_float}
 use Rattle.tt_exprs.specs.Trees.{leaf, words}
-use Rattle.tt_exprs.specs.Tokens.{PlainToken, operand, Cut, one, refused, none_here, begins_word, is_word_byte, number_length, number, other, quoted, in_braces, substituted, sign, word, bare_word, token, Tokens, read, refused_word, stopped, with_token, tokens}
+use Rattle.tt_exprs.specs.Tokens.{PlainToken, operand, Cut, one, refused, none_here, begins_word, is_word_byte, number_length, number, other, quoted, in_braces, substituted, sign, bare_word, token, Tokens, read, refused_word, stopped, with_token, tokens}
 use Rattle.tt_exprs.specs.TokenGrammar.{first_is, IsNumber, IsLongestNumber, IsBareWord, SpellsWord, IsLongestSign, IsToken, number_token, word_token, sign_token, quoted_token, braced_token, substituted_token, BeginsNothing, HasTokens, at_end, after_white_space, after_token, at_refused, at_nothing}
 use Rattle.tt_exprs.specs.TextLaw.{TokenLaw}
-use Rattle.tt_exprs.proofs.Runs.{run-kind}
 use Rattle.tt_exprs.proofs.NumberForms.{IsNumeral, whole_numeral, float_numeral, number_numeral, numeral_number}
 use Rattle.tt_exprs.proofs.NumberLength.{longest_of}
 use Rattle.tt_exprs.proofs.NumberFound.{taken}
-use Rattle.tt_exprs.proofs.SignLaw.{token_of, IsSignText, sign_read, SignIs, sign_is}
+use Rattle.tt_exprs.proofs.SignLaw.{token_of, sign_read, SignIs, sign_is}
 use Rattle.tt_exprs.proofs.WordLaw.{word_not_white, word_no_number, word_cut, word_is, says_read, WordSays, word_says}
 use Rattle.tt_exprs.proofs.OperandLaw.{TokenIs, CutsOff, quoted_is, quoted_read, braces_is, braces_read, substituted_is, substituted_read}
 use Rattle.tt_exprs.proofs.TokenSteps.{token-word, token-number, token-other, tokens-white, tokens-one, tokens-refused, tokens-stopped}

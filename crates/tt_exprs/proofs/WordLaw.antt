@@ -1,23 +1,21 @@
 -- The bare word that the function cuts off is the longest one, and says what the function says.
-use Rattle.std.proofs.Common.{rules, ◌≡◌, ℕ, zero, suc, ◌+◌, ◌<◌, ◌≤◌, Bool, true, false, not, cond, ◌&&◌, ◌||◌, ◌==◌, List, [], ◌∷◌, ◌++◌, length, take, drop, Option, Some, None, refl, ap, sym, ◌∙◌, subst, arith, inl, inr, ◌⊎◌}
-use Rattle.std.specs.Prelude.{find, Contains}
+use Rattle.std.proofs.Common.{rules, ◌≡◌, ℕ, ◌+◌, Bool, true, false, ◌==◌, List, ◌∷◌, length, take, drop, Option, Some, None, refl, ap, sym, ◌∙◌, subst, arith}
 use Rattle.std.specs.Str.{bytes_eq}
 use Rattle.std.specs.Char.{is_digit}
-use Rattle.std.specs.List.{list_all, prefix_len}
-use Rattle.std.proofs.lemmas.Bool.{cases_Bool, and_parts, both_ways}
+use Rattle.std.specs.List.{prefix_len}
 use Rattle.std.proofs.lemmas.Bool.Decides.{nat_tests}
 use Rattle.std.proofs.Math.Numerals.{one-add}
-use Rattle.std.proofs.lemmas.List.{take_at, drop_at, take-append-drop}
+use Rattle.std.proofs.lemmas.List.{take_at, take-append-drop}
 use Rattle.std.proofs.lemmas.Slice.Eq.{bytes_eq-Decides}
 use Rattle.tt_text.specs.Characters.{is_white_space}
 use Rattle.tt_exprs.specs.Trees.{leaf}
 use Rattle.tt_exprs.specs.Operators.{spelling, word_operators, functions, spelled_so, boolean_word}
-use Rattle.tt_exprs.specs.Tokens.{PlainToken, operand, operator, function, Cut, one, refused, none_here, begins_word, is_word_byte, bare_word, word, run, fraction, scaled, unmarked, number_length}
+use Rattle.tt_exprs.specs.Tokens.{PlainToken, operand, operator, function, Cut, one, refused, none_here, begins_word, is_word_byte, bare_word, word, run, fraction, scaled, number_length}
 use Rattle.tt_exprs.specs.TokenGrammar.{first_is, IsBareWord, SpellsWord, truth_word, operator_word, function_word}
 use Rattle.tt_exprs.specs.declared.op.Op.{Op}
 use Rattle.tt_exprs.proofs.Runs.{run-front, run-none, run-kind, run-end}
 use Rattle.tt_exprs.proofs.Spellings.{find-passes}
-use Rattle.tt_exprs.proofs.SignLaw.{IsIn, contained, contains, Every, every_one, found_in, found_none}
+use Rattle.tt_exprs.proofs.SignLaw.{contained, contains, Every, every_one, found_in}
 
 -- ---- bytes that begin a word
 

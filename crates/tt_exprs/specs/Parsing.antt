@@ -1,6 +1,6 @@
 -- How the tokens of an expression make a tree (expr(n), OPERATORS): an operator waits for its right
 -- operand until something comes that binds less tightly.
-use Rattle.std.specs.Prelude.{ℕ, suc, ◌+◌, Bool, true, false, not, nat_lt, max, List, [], ◌∷◌, ◌++◌, fold, Option, Some, None, codes}
+use Rattle.std.specs.Prelude.{ℕ, ◌+◌, Bool, true, false, not, nat_lt, max, List, [], ◌∷◌, ◌++◌, fold, Option, Some, None, codes}
 use Rattle.tt_exprs.specs.Trees.{PlainExpr, node, PlainExprs, none, more, PlainParsed, tree, bad}
 use Rattle.tt_exprs.specs.Operators.{binding, level, left_level, takes_more}
 use Rattle.tt_exprs.specs.Tokens.{PlainToken, operand, operator, function, opening, closing, comma, colon, Tokens, read, refused_word, stopped, tokens}

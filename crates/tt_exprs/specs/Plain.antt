@@ -1,5 +1,5 @@
 -- The plain form of what the code answers: its trees and its state with lists in place of vectors.
-use Rattle.std.specs.Prelude.{◌≡◌, ◌≤◌, ◌<◌, ℕ, List, [], ◌∷◌, map, reverse}
+use Rattle.std.specs.Prelude.{◌≤◌, ◌<◌, ℕ, map}
 use Rattle.tt_script.specs.Plain.{plain_parts}
 use Rattle.tt_exprs.specs.Trees.{PlainExpr, leaf, words, node, PlainParsed, tree, bad}
 use Rattle.tt_exprs.specs.Tokens as tokens

@@ -1,5 +1,5 @@
 -- The plain form of what waits while tokens are read.
-use Rattle.std.specs.Prelude.{ℕ, List, [], ◌∷◌, map, reverse}
+use Rattle.std.specs.Prelude.{List, map, reverse}
 use Rattle.tt_exprs.specs.Plain.{plain_expr}
 use Rattle.tt_exprs.specs.Parsing.{PlainValue, nested, too_deep, PlainRow, row, too_deep_row, PlainPending, unary, binary, test, branch, parenthesis, arguments, PlainWaiting, PlainState, wants, calls, has, wrong, PlainOutcome, good, malformed, nested_too_deeply}
 use Rattle.tt_exprs.specs.declared.values.Value.{Value}

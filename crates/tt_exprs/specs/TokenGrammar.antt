@@ -2,7 +2,7 @@
 -- something and that `rest` follows it; what is read as a script reads it is cut by the command grammar.
 use Rattle.std.specs.Prelude.{◌≡◌, ◌≢◌, ℕ, ◌≤◌, Bool, true, false, not, ◌⊎◌, ℤ, List, [], ◌∷◌, ◌++◌, length, Contains, IsTrue}
 use Rattle.std.specs.List.{list_all}
-use Rattle.std.specs.Prelude.{Some, is_some}
+use Rattle.std.specs.Prelude.{Some}
 use Rattle.tt_text.specs.Characters.{is_white_space}
 use Rattle.tt_text.specs.Braces.{IsBalanced}
 use Rattle.tt_number.specs.Numerals.{Spells, SpellsFloat}

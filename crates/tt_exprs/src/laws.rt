@@ -1,4 +1,5 @@
 //! What the definitions that other crates cite say together. Nothing runs here.
+ghost use Rattle.tt_exprs.specs.Apply.{NumbersLaw};
 ghost use Rattle.tt_exprs.specs.ExprGrammar.{TreeLaw, DepthLaw, FormLaw};
 ghost use Rattle.tt_exprs.specs.TextLaw.{TokenLaw, TextTreeLaw, TextErrorLaw};
 
@@ -17,4 +18,9 @@ pub fn expression_text()
     ensures tokens { TokenLaw }
     ensures tree { TextTreeLaw }
     ensures error { TextErrorLaw }
+{}
+
+/// On numbers that were read already, an operator gives what it gives on their texts.
+pub fn operators_on_numbers()
+    ensures numbers { NumbersLaw }
 {}

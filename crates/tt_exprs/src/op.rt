@@ -73,7 +73,7 @@ pub enum Op {
 
 impl Op {
     ghost use Rattle.std.specs.Prelude.{◌≡◌};
-    ghost use Rattle.tt_exprs.specs.Apply.{is_lazy};
+    ghost use Rattle.tt_exprs.specs.Apply.{is_lazy, takes_numbers};
     ghost use Rattle.tt_exprs.specs.Operators as operators;
 
     /// Whether it evaluates only those of its operands that it needs: `&&`, `||` and `? :`.
@@ -81,6 +81,18 @@ impl Op {
         ensures { result ≡ is_lazy self }
     {
         matches!(self, Op::And | Op::Or | Op::Choose)
+    }
+
+    /// Whether it takes its operands as numbers where they are: all but those that evaluate what they
+    /// need alone, and `eq`, `ne`, `in` and `ni`, which take texts.
+    pub fn takes_numbers(self) -> bool
+        ensures { result ≡ takes_numbers self }
+    {
+        match self {
+            Op::And | Op::Or | Op::Choose => false,
+            Op::TextEqual | Op::TextNotEqual | Op::Member | Op::NotMember => false,
+            _ => true,
+        }
     }
 
     /// Whether it has this number of operands.

@@ -1,4 +1,4 @@
-use Rattle.std.proofs.Common.{◌≡◌, ◌<◌, ◌≤◌, length, get_or, refl, ap, sym, subst, ◌∙◌, arith}
+use Rattle.std.proofs.Common.{◌≡◌, length, get_or, refl, ap, sym, subst, ◌∙◌, arith}
 use Rattle.tt_exprs.specs.Operators.{spelling}
 use Rattle.tt_exprs.specs.Tokens.{one, operator, none_here, sign}
 use Rattle.tt_exprs.proofs.StackSteps.{length-zero}

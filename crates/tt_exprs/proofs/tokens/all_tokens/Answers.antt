@@ -1,4 +1,4 @@
-use Rattle.std.proofs.Common.{◌≡◌, ◌+◌, ◌-◌, length, map, drop, ap, sym, subst, ◌∙◌, arith}
+use Rattle.std.proofs.Common.{◌+◌, ◌-◌, length, map, drop, ap, sym, subst, ◌∙◌, arith}
 use Rattle.tt_exprs.specs.Cutting.{with_tokens}
 use Rattle.tt_exprs.specs.Plain.{plain_cut, plain_token, TakesWithin}
 use Rattle.tt_exprs.specs.Tokens.{tokens}

@@ -1,4 +1,4 @@
-use Rattle.std.proofs.Common.{◌≡◌, ◌∷◌, IfOk, drop, ap, sym, subst, ◌∙◌, arith}
+use Rattle.std.proofs.Common.{◌≡◌, IfOk, drop, ap, sym, subst, ◌∙◌, arith}
 use Rattle.tt_exprs.specs.Plain.{plain_cut}
 use Rattle.tt_exprs.specs.Tokens.{one, operand, word}
 use Rattle.tt_exprs.proofs.Builds.{plain_leaf}

@@ -1,8 +1,8 @@
 //! Boolean values.
 ghost use Rattle.std.specs.Prelude.{◌≡◌, length, IfOk};
-ghost use Rattle.tt_exprs.specs.Apply.{boolean_of, negation_of};
+ghost use Rattle.tt_exprs.specs.Apply.{boolean_of, negation_of, truth_of};
 
-use super::refusal::Refusal;
+use super::refusal::{Refusal, not_boolean};
 use crate::words::boolean_word;
 use std::alloc::Global;
 use tt_number::read_whole;
@@ -19,6 +19,20 @@ pub fn boolean(text: &[u8]) -> Option<bool>
     match read_whole(text) {
         Ok(number) => Some(number != 0),
         Err(_) => boolean_word(text),
+    }
+}
+
+/// The truth of a condition, or of an operand of `&&`, `||` or `? :`, as `boolean` reads it (expr(n),
+/// Operators); or the message `expected boolean value but got "x"` of its error.
+///
+/// `NoMemory` where the memory for the message is refused.
+#[tactic(auto, unfolding(crate::specs::Apply::truth_of))]
+pub fn truth(alloc: Global, text: &[u8]) -> Result<Result<bool, Text>, NoMemory>
+    ensures answer { IfOk result (λ truth. truth ≡ truth_of text.now) }
+{
+    match boolean(text) {
+        Some(truth) => Ok(Ok(truth)),
+        None => Ok(Err(not_boolean(alloc, text)?)),
     }
 }
 
