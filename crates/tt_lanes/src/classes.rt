@@ -3,7 +3,7 @@ ghost use Rattle.std.specs.Prelude.{◌≡◌, ℕ, ◌+◌, ◌≤◌, Bool, le
 ghost use Rattle.std.specs.Int.{trailing_zeros, w64};
 ghost use Rattle.std.specs.List.{position_or_len};
 ghost use Rattle.std.specs.Simd.Lanes.{chunk};
-ghost use Rattle.tt_lanes.specs.Classes.{begins_character, is_blank, is_newline, is_special};
+ghost use Rattle.tt_lanes.specs.Classes.{begins_character, is_blank, is_brace_or_backslash, is_newline, is_special, is_special_in_index, is_special_in_quotes};
 
 use std::simd::prelude::*;
 
@@ -64,6 +64,59 @@ impl Stop for Special {
             | lanes.simd_eq(u8x16::splat(b'"'))
             | lanes.simd_eq(u8x16::splat(b'\\'));
         first_set((controls | space_or_dollar | brackets | others).to_bitmask())
+    }
+}
+
+pub(crate) struct Brace;
+
+impl Stop for Brace {
+    ghost is_stop = { is_brace_or_backslash };
+
+    fn is_stop(byte: u8) -> bool {
+        matches!(byte, b'{' | b'}' | b'\\')
+    }
+
+    #[inline(always)]
+    fn run(bytes: &[u8], at: usize) -> usize {
+        let lanes = u8x16::from_slice(&bytes[at..]);
+        let braces = lanes.simd_eq(u8x16::splat(b'{')) | lanes.simd_eq(u8x16::splat(b'}'));
+        first_set((braces | lanes.simd_eq(u8x16::splat(b'\\'))).to_bitmask())
+    }
+}
+
+pub(crate) struct Quoted;
+
+impl Stop for Quoted {
+    ghost is_stop = { is_special_in_quotes };
+
+    fn is_stop(byte: u8) -> bool {
+        matches!(byte, b'"' | b'$' | b'[' | b'\\')
+    }
+
+    #[inline(always)]
+    fn run(bytes: &[u8], at: usize) -> usize {
+        let lanes = u8x16::from_slice(&bytes[at..]);
+        let others = lanes.simd_eq(u8x16::splat(b'"')) | lanes.simd_eq(u8x16::splat(b'$'));
+        let opens = lanes.simd_eq(u8x16::splat(b'[')) | lanes.simd_eq(u8x16::splat(b'\\'));
+        first_set((others | opens).to_bitmask())
+    }
+}
+
+pub(crate) struct Index;
+
+impl Stop for Index {
+    ghost is_stop = { is_special_in_index };
+
+    fn is_stop(byte: u8) -> bool {
+        matches!(byte, b')' | b'$' | b'[' | b'\\')
+    }
+
+    #[inline(always)]
+    fn run(bytes: &[u8], at: usize) -> usize {
+        let lanes = u8x16::from_slice(&bytes[at..]);
+        let others = lanes.simd_eq(u8x16::splat(b')')) | lanes.simd_eq(u8x16::splat(b'$'));
+        let opens = lanes.simd_eq(u8x16::splat(b'[')) | lanes.simd_eq(u8x16::splat(b'\\'));
+        first_set((others | opens).to_bitmask())
     }
 }
 

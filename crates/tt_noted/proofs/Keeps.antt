@@ -60,9 +60,9 @@ module _ {S N : Type 0} where
 no_both : {S : Type 0} (o : Option S) (x : S) → o ≡ None → o ≡ Some x → ⊥
 no_both o x a b = cc
 
--- a number that is odd and below 2 ^ 64 goes to an even one
-next_is_even : (n : ℕ) → n < 18446744073709551616 → n % 2 ≡ 1 → (n + 1) % 18446744073709551616 % 2 ≡ 0
-next_is_even n small odd = omega arith
+-- a number that is odd goes to an even one, by an odd number
+next_is_even : (n more : ℕ) → n % 2 ≡ 1 → more % 2 ≡ 1 → (n + more) % 18446744073709551616 % 2 ≡ 0
+next_is_even n more odd odd_more = omega arith
 
 module _ {S N : Type 0} (fits : S → List N → Type 0) (count : ℕ) where
   abbrev Rule : Board S N → Type 0
@@ -144,10 +144,10 @@ module _ {S N : Type 0} (fits : S → List N → Type 0) (count : ℕ) where
         held = λ z. absurd (omega arith);
       }
 
-  note_steps : (slots id n place : ℕ) (old note : N) (entered state : S) → 0 < slots
+  note_steps : (slots id n place more : ℕ) (old note : N) (entered state : S) → 0 < slots → more % 2 ≡ 1
       → ((all : List N) → length all ≡ n → slice_get all place ≡ Some old → fits entered all → fits state (set all place note))
-      → Allows Rule slots id (view n ((place, old) ∷ []) (Some entered), (0, Some state) ∷ []) 0 (λ x. (x + 1) % 18446744073709551616) (noted (Some note) (step slots 0 1 0 none) (view n ((place, old) ∷ []) (Some entered), (0, Some state) ∷ []))
-  note_steps slots id n place old note entered state some_slot keeps_fit s r deep at small = let v : View S N = view n ((place, old) ∷ []) (Some entered) in let x : ℕ = get_or s.words 0 0 in
+      → Allows Rule slots id (view n ((place, old) ∷ []) (Some entered), (0, Some state) ∷ []) 0 (λ x. (x + more) % 18446744073709551616) (noted (Some note) (step slots 0 more 0 none) (view n ((place, old) ∷ []) (Some entered), (0, Some state) ∷ []))
+  note_steps slots id n place more old note entered state some_slot odd_more keeps_fit s r deep at small = let v : View S N = view n ((place, old) ∷ []) (Some entered) in let x : ℕ = get_or s.words 0 0 in
       let odd : x % 2 ≡ 1 = dite (ℕ_discrete (x % 2) 0) (λ even. absurd (no_both v.turn entered ((r.free even).no_turn id v at) refl)) (λ ne. omega arith) in
       let h = r.held odd in
       let same : h.holder ≡ id = dite (ℕ_discrete id h.holder) (λ e. sym e) (λ other. absurd (no_both v.turn entered (h.no_other id v other at) refl)) in
@@ -157,19 +157,19 @@ module _ {S N : Type 0} (fits : S → List N → Type 0) (count : ℕ) where
         view n ((place, note) ∷ []) None,
         gives,
         tt,
-        noted_to s r id place ((x + 1) % 18446744073709551616) old note n entered state (omega arith) at (next_is_even x small odd)
+        noted_to s r id place ((x + more) % 18446744073709551616) old note n entered state (omega arith) at (next_is_even x more odd odd_more)
             (keeps_fit r.notes (r.all ∙ sym mine.counted) mine.stands (subst (λ (y : S). fits y r.notes) taken h.fit))
             (λ at' u other there. h.no_other at' u (λ e. other (e ∙ same)) there),
         refl,
       )
 
-  pub note_keeps : (slots id place : ℕ) (me : Sat S N) (old note : N) (entered state : S) → 0 < slots
+  pub note_keeps : (slots id place more : ℕ) (me : Sat S N) (old note : N) (entered state : S) → 0 < slots → more % 2 ≡ 1
       → me.0.notes ≡ (place, old) ∷ [] → me.0.turn ≡ Some entered → me.1 ≡ (0, Some state) ∷ []
       → ((all : List N) → length all ≡ me.0.count → slice_get all place ≡ Some old → fits entered all → fits state (set all place note))
-      → Allows Rule slots id me 0 (λ x. (x + 1) % 18446744073709551616) (noted (Some note) (step slots 0 1 0 none) me)
-  note_keeps slots id place me old note entered state some_slot notes turn held keeps_fit =
-      subst (λ (m : Sat S N). Allows Rule slots id m 0 (λ x. (x + 1) % 18446744073709551616) (noted (Some note) (step slots 0 1 0 none) m)) (λ i. (view me.0.count (sym notes i) (sym turn i), sym held i))
-      (note_steps slots id me.0.count place old note entered state some_slot keeps_fit)
+      → Allows Rule slots id me 0 (λ x. (x + more) % 18446744073709551616) (noted (Some note) (step slots 0 more 0 none) me)
+  note_keeps slots id place more me old note entered state some_slot odd_more notes turn held keeps_fit =
+      subst (λ (m : Sat S N). Allows Rule slots id m 0 (λ x. (x + more) % 18446744073709551616) (noted (Some note) (step slots 0 more 0 none) m)) (λ i. (view me.0.count (sym notes i) (sym turn i), sym held i))
+      (note_steps slots id me.0.count place more old note entered state some_slot odd_more keeps_fit)
 
   pub split_keeps : (id : ℕ) (v : View S N) → v.turn ≡ None → Splits Rule id v (rest_of v) (first_of v)
   split_keeps id v no_turn s r at = let new : ℕ = length s.views in let vs : List (View S N) = set s.views id (rest_of v) in

@@ -4,8 +4,10 @@
 //! it finds fits the notes of all passes, and it leaves with a new note. The state is moved in and out, and never copied.
 #![tactic(auto)]
 
+pub mod counting;
 mod noted;
 mod pass;
+pub mod sharing;
 mod table;
 mod tie;
 

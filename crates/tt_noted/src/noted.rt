@@ -1,5 +1,5 @@
 //! The lock.
-ghost use Rattle.std.specs.Prelude.{◌≡◌, ◌-◌, ◌<◌, ◌≤◌, [], ◌∷◌, ◌++◌, length, replicate, slice_get, Some, None, IfOk, IfErr, vec_len, vec_capacity};
+ghost use Rattle.std.specs.Prelude.{◌≡◌, ◌%◌, ◌-◌, ◌<◌, ◌≤◌, [], ◌∷◌, ◌++◌, length, replicate, slice_get, Some, None, IfOk, IfErr, vec_len, vec_capacity};
 ghost use Rattle.std.specs.List.{enumerate_from};
 
 use crate::pass::{Pass, Turn};
@@ -15,14 +15,41 @@ use std::sync::atomic::AtomicU64;
 use std::sync::atomic::Ordering::SeqCst;
 use std::thread::yield_now;
 
-// Tries to take the lock before the thread begins to yield.
+// Tries to take the lock before the thread begins to yield, and before it begins to sleep.
 const SPINS: u32 = 16;
+
+const YIELDS: u32 = 32;
+
+/// How a pass leaves: with news for those that rest, or without.
+#[derive(Clone, Copy)]
+enum Manner {
+    Loud,
+    Quiet,
+}
+
+impl Manner {
+    // What a leave adds to word 0: one, so that it is even again, and where it has news one to its upper half, which
+    // counts them. That the lower half runs over into the upper one after 2 ^ 32 steps is news too, which does no harm.
+    #[inline]
+    fn adds(self) -> u64
+        ensures odd { result % 2 ≡ 1 }
+    {
+        match self {
+            Manner::Loud => (1 << 32) + 1,
+            Manner::Quiet => 1,
+        }
+    }
+}
 
 /// A lock round one state, for 1 to 64 passes. Threads share it by reference, and it ends in `close`.
 pub struct Noted<T: Tie> {
     table: Board<T>,
-    // How many passes rest.
+    // How many threads wait to enter, asleep or about to sleep.
+    waiting: AtomicU64,
+    // How many passes rest, or are about to.
     resting: AtomicU64,
+    // How often those that rest were woken. They sleep on it.
+    wakes: AtomicU64,
     ghost sized: { (table.shared.table_id.words ≡ 1) × (table.shared.table_id.slots ≡ 1) },
     ghost has_pass: { 0 < table.shared.key.count },
 }
@@ -52,8 +79,13 @@ impl<T: Tie> Noted<T> {
         };
         match Table::new(alloc, &[0], slots, &opening) {
             Ok((table, seat)) => {
-                let resting = AtomicU64::new(0);
-                Ok((Noted { table, resting }, seat))
+                let lock = Noted {
+                    table,
+                    waiting: AtomicU64::new(0),
+                    resting: AtomicU64::new(0),
+                    wakes: AtomicU64::new(0),
+                };
+                Ok((lock, seat))
             }
             Err(Refused { mut slots }) => {
                 let state = slots.pop().unwrap().unwrap();
@@ -109,6 +141,7 @@ impl<T: Tie> Noted<T> {
     }
 
     // Takes the lock and its slot.
+    #[inline]
     fn take<R: Wait>(&self, rt: &R, seat: &mut Place<T>)
         requires of_table { seat.old.table_id ≡ self.now.table.shared.table_id }
         requires has_note { (c : _) × (slice_get seat.old.me.0.notes 0 ≡ Some c) }
@@ -126,17 +159,34 @@ impl<T: Tie> Noted<T> {
                 return;
             }
             if tries < SPINS {
-                tries += 1;
                 spin_loop();
-            } else {
+            } else if tries < YIELDS {
                 yield_now();
+            } else {
+                self.sleep(rt);
             }
+            tries = tries.saturating_add(1);
         }
         unreachable!()
     }
 
+    // Sleeps while the lock is taken. A leave after the count is raised finds it, so it wakes this thread or
+    // another that waits, whose own leave does the same.
+    #[cold]
+    #[inline(never)]
+    fn sleep<R: Wait>(&self, rt: &R) {
+        let shared = &self.table.shared;
+        self.waiting.fetch_add(1, SeqCst);
+        let seen = shared.peek(0);
+        if seen % 2 == 1 {
+            shared.park(rt, 0, low_half(seen));
+        }
+        self.waiting.fetch_sub(1, SeqCst);
+    }
+
     /// Takes the lock, and the state out of it, which fits the notes of all passes, this pass's own among them.
     /// It waits while another pass has its turn.
+    #[inline]
     pub fn enter<R: Wait>(&self, rt: &R, pass: &mut Pass<T>) -> Turn<T>
         requires own { IsPassOf self.now pass.old }
         requires no_turn { turn_of pass.old ≡ None }
@@ -154,11 +204,13 @@ impl<T: Tie> Noted<T> {
     }
 
     // Gives the slot back with the state, and the view its new note. The result is word 0 from then on.
+    #[inline]
     fn put_back<K: Leaves<T::Note>>(
         &self,
         seat: &mut Place<T>,
         state: T::State,
         _note: &T::Note,
+        manner: Manner,
     ) -> u64
         requires of_table { seat.old.table_id ≡ self.now.table.shared.table_id }
         requires held { seat.old.me.1 ≡ (0, None) ∷ [] }
@@ -170,12 +222,15 @@ impl<T: Tie> Noted<T> {
         let shared = &self.table.shared;
         let found = shared.exchange(seat, 0, Some(state));
         let None = found else { unreachable!() };
-        shared.fetch_add::<Note<K>>(seat, 0, 1).wrapping_add(1)
+        let more = manner.adds();
+        shared
+            .fetch_add::<Note<K>>(seat, 0, more)
+            .wrapping_add(more)
     }
 
-    /// Puts the state back, gives the pass its new note and the lock up, and wakes the passes that rest.
-    /// Whatever the other notes are, the state has to fit with the new note if it fitted with the old one as it was entered.
-    pub fn leave(&self, pass: &mut Pass<T>, turn: Turn<T>, note: T::Note)
+    // Puts the state back, and gives the pass its new note and the lock up.
+    #[inline]
+    fn end_turn(&self, pass: &mut Pass<T>, turn: Turn<T>, note: T::Note, manner: Manner)
         requires own { IsPassOf self.now pass.old }
         requires turn { turn_of pass.old ≡ Some (entered_of turn) }
         requires fits { KeepsFit T.fits self.now pass.old turn note }
@@ -189,23 +244,55 @@ impl<T: Tie> Noted<T> {
             left,
             seat,
         } = pass;
-        *left = self.put_back::<Brand>(seat, state, &note);
-        if self.resting.load(SeqCst) > 0 {
-            self.table.shared.wake_all(0);
+        *left = news_in(self.put_back::<Brand>(seat, state, &note, manner));
+        if self.waiting.load(SeqCst) > 0 {
+            self.table.shared.wake_one(0);
         }
     }
 
-    /// Waits for another pass's leave. It may end for no reason, and begins no wait where a pass has entered or left
-    /// since this pass's own last leave.
+    /// Puts the state back, gives the pass its new note and the lock up, and wakes the passes that rest.
+    /// Whatever the other notes are, the state has to fit with the new note if it fitted with the old one as it was entered.
+    #[inline]
+    pub fn leave(&self, pass: &mut Pass<T>, turn: Turn<T>, note: T::Note)
+        requires own { IsPassOf self.now pass.old }
+        requires turn { turn_of pass.old ≡ Some (entered_of turn) }
+        requires fits { KeepsFit T.fits self.now pass.old turn note }
+        ensures own { IsSamePass self.now pass.old pass.new }
+        ensures note { note_of pass.new ≡ Some note }
+        ensures no_turn { turn_of pass.new ≡ None }
+    {
+        self.end_turn(pass, turn, note, Manner::Loud);
+        if self.resting.load(SeqCst) > 0 {
+            self.wakes.fetch_add(1, SeqCst);
+            self.wakes.wake_all();
+        }
+    }
+
+    /// Puts the state back, and gives the pass its new note and the lock up, as `leave` does. It wakes no pass that
+    /// rests, and ends no rest: for a turn that found nothing to do.
+    #[inline]
+    pub fn leave_quietly(&self, pass: &mut Pass<T>, turn: Turn<T>, note: T::Note)
+        requires own { IsPassOf self.now pass.old }
+        requires turn { turn_of pass.old ≡ Some (entered_of turn) }
+        requires fits { KeepsFit T.fits self.now pass.old turn note }
+        ensures own { IsSamePass self.now pass.old pass.new }
+        ensures note { note_of pass.new ≡ Some note }
+        ensures no_turn { turn_of pass.new ≡ None }
+    {
+        self.end_turn(pass, turn, note, Manner::Quiet);
+    }
+
+    /// Waits for another pass's `leave`. It may end for no reason, and begins no wait where a pass has left, other than
+    /// quietly, since this pass's own last leave of either kind.
     pub fn rest<R: Wait>(&self, rt: &R, pass: &mut Pass<T>)
         requires own { IsPassOf self.now pass.old }
         requires no_turn { turn_of pass.old ≡ None }
         ensures { pass.new ≡ pass.old }
     {
-        let shared = &self.table.shared;
         self.resting.fetch_add(1, SeqCst);
-        if shared.peek(0) == pass.left {
-            shared.park(rt, 0, (pass.left % (1 << 32)) as u32);
+        let seen = self.wakes.load(SeqCst);
+        if news_in(self.table.shared.peek(0)) == pass.left {
+            self.wakes.park(rt, low_half(seen));
         }
         self.resting.fetch_sub(1, SeqCst);
     }
@@ -240,10 +327,26 @@ impl<T: Tie> Noted<T> {
         ensures fits { FitsNotesOf T.fits self passes.items result }
     {
         let seat = self.gather(passes);
-        let Noted { table, resting: _ } = self;
+        let Noted {
+            table,
+            waiting: _,
+            resting: _,
+            wakes: _,
+        } = self;
         let mut closed = table.close_with(seat);
         let state = closed.take(0).unwrap();
         closed.free();
         state
     }
+}
+
+// The count of leaves with news, in word 0.
+#[inline]
+fn news_in(word: u64) -> u32 {
+    (word >> 32) as u32
+}
+
+// What a sleep compares: the lower 32 bits.
+fn low_half(word: u64) -> u32 {
+    (word % (1 << 32)) as u32
 }

@@ -1,5 +1,5 @@
 //! Passes, by which threads enter the lock, and the turns that they have.
-ghost use Rattle.std.specs.Prelude.{◌≡◌, ◌-◌, ◌<◌, [], ◌∷◌, map};
+ghost use Rattle.std.specs.Prelude.{◌≡◌, ◌-◌, ◌<◌, ◌≤◌, [], ◌∷◌, map};
 ghost use Rattle.tt_noted.specs.Rule.{held_with};
 
 use crate::table::Place;
@@ -9,10 +9,11 @@ use std::snapshot::Snapshot;
 /// The right to enter one lock, with a number and a note. It may go to another thread, and ends in `Noted::close`.
 pub struct Pass<T: Tie> {
     pub(crate) number: u32,
-    /// Word 0 as this pass's last leave made it.
-    pub(crate) left: u64,
+    /// The count of leaves with news at this pass's last leave.
+    pub(crate) left: u32,
     pub(crate) seat: Place<T>,
     ghost numbered: { (0 < number) × (map (λ c. c.0) seat.me.0.notes ≡ (number - 1) ∷ []) },
+    ghost counted: { number ≤ seat.me.0.count },
     ghost held: { seat.me.1 ≡ held_with seat.me.0.turn },
 }
 

@@ -6,8 +6,8 @@ use Rattle.std.proofs.lemmas.Bool.{cases_lt}
 use Rattle.std.proofs.lemmas.Bool.Decides.{eqb_tells}
 use Rattle.std.specs.List.{prefix_len}
 use Rattle.tt_text.specs.Braces.{closing_brace, further, mark_of, Letter}
-use Rattle.tt_lanes.specs.Classes.{is_special}
-use Rattle.tt_script.proofs.Runs.{next_special}
+use Rattle.tt_lanes.specs.Classes.{is_brace_or_backslash}
+use Rattle.tt_script.proofs.Runs.{next_brace}
 use Rattle.tt_script.proofs.Runs.{passes, all}
 use Rattle.tt_script.proofs.Scanning.{unlike}
 
@@ -48,13 +48,13 @@ runs : (bs : List ℕ) (o : Option ℕ) → all (λ b a. further 1 a) bs o ≡ f
 runs [] o = sym (further-zero o)
 runs (b ∷ bs) o = ap (further 1) (runs bs o) ∙ further-further 1 (length bs) o ∙ ap (λ n. further n o) (omega arith)
 
--- bytes up to the next special one
-pub closing-run : (text : List ℕ) (i stop depth : ℕ) → i ≤ length text → stop ≡ next_special text i → further i (closing_brace false depth (drop i text)) ≡ further stop (closing_brace false depth (drop stop text))
+-- bytes up to the next brace or backslash
+pub closing-run : (text : List ℕ) (i stop depth : ℕ) → i ≤ length text → stop ≡ next_brace text i → further i (closing_brace false depth (drop i text)) ≡ further stop (closing_brace false depth (drop stop text))
 closing-run text i stop depth h e =
-    let p : ℕ → Bool = λ b. not (is_special b) in
+    let p : ℕ → Bool = λ b. not (is_brace_or_backslash b) in
     let n : ℕ = prefix_len p (drop i text) in
     let F : List ℕ → Option ℕ = closing_brace false depth in
-    let run = passes p F (λ b a. further 1 a) (λ b rest is. letter b depth rest (unlike b 123 is refl) (unlike b 125 is refl) (unlike b 92 is refl)) n (drop i text) (omega arith) in
+    let run = passes p F (λ b a. further 1 a) (λ b rest is. letter b depth rest (unlike is_brace_or_backslash b 123 is refl) (unlike is_brace_or_backslash b 125 is refl) (unlike is_brace_or_backslash b 92 is refl)) n (drop i text) (omega arith) in
     let rest : drop n (drop i text) ≡ drop stop text = drop-drop n i text ∙ ap (λ k. drop k text) (sym e) in
     let size : length (take n (drop i text)) ≡ n = omega (arith, length-take n (drop i text), prefix_len-le-length p (drop i text)) in
     let read : F (drop i text) ≡ further n (F (drop stop text)) = run ∙ runs (take n (drop i text)) (F (drop n (drop i text))) ∙ ap (λ k. further k (F (drop n (drop i text)))) size ∙ ap (λ r. further n (F r)) rest in

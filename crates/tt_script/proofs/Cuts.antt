@@ -27,7 +27,7 @@ cut_cut {m} {n} {text} {middle} {rest} c d = record {
   size = omega (arith, c.size, d.size);
 }
 
-or_false : (p q : Bool) → p || q ≡ false → (p ≡ false) × (q ≡ false)
+pub or_false : (p q : Bool) → p || q ≡ false → (p ≡ false) × (q ≡ false)
 or_false false q e = (refl, e)
 or_false true q e = cc
 

@@ -1,15 +1,23 @@
 -- The exits of the parser by `?`.
-use Rattle.std.proofs.Common.{◌≡◌, ℕ, ap, sym, subst, Result, Ok, Err}
+use Rattle.std.proofs.Common.{◌≡◌, ℕ, List, drop, ap, sym, subst, Result, Ok, Err}
 use Rattle.std.specs.Prelude.{IsErrAnd}
 use Rattle.tt_script.specs.Answers.{Answers, Continues, Refuses}
-use Rattle.tt_script.specs.Reading.{Read, fails, mapped, and_then}
+use Rattle.tt_script.specs.Building.{Adds}
+use Rattle.tt_script.specs.Reading.{Read, fails, after, mapped, and_then, Level, parts}
+use Rattle.tt_script.specs.declared.builder.Builder.{Builder}
+use Rattle.tt_script.specs.declared.command.Ending.{Ending}
+use Rattle.tt_script.specs.declared.mode.Mode.{Mode}
 use Rattle.tt_script.specs.declared.command.ParseFault.{ParseFault}
 use Rattle.tt_script.specs.declared.stop.Stop.{Stop}
 use Rattle.tt_script.specs.declared.stop.Stop.TheVariants.{NoMemory, Fault}
 
-pub answers_exit : {X A : Type 0} (view : X → A) (r : Result (X × ℕ) Stop) (e : Stop) (read : Read A) → IsErrAnd r (λ y. y ≡ e) → Refuses e read → Answers view r read
-answers_exit view (Ok x) e read h k = absurd h
-answers_exit view (Err y) e read h k = subst (λ stop. Refuses stop read) (sym h) k
+pub answers_exit : {X A : Type 0} (mode : Mode) (view : X → A) (r : Result (X × ℕ) Stop) (e : Stop) (read : Read A) → IsErrAnd r (λ y. y ≡ e) → Refuses e read → Answers mode view r read
+answers_exit mode view (Ok x) e read h k = absurd h
+answers_exit mode view (Err y) e read h k = subst (λ stop. Refuses stop read) (sym h) k
+
+pub adds_exit : (level : Level) (ending : Ending) (text : List ℕ) (old new : Builder) (r : Result ℕ Stop) (e : Stop) (at : ℕ) → IsErrAnd r (λ y. y ≡ e) → Refuses e (after at (parts level ending 0 (drop at text))) → Adds level ending text old new r at
+adds_exit level ending text old new (Ok next) e at h k = absurd h
+adds_exit level ending text old new (Err y) e at h k = subst (λ stop. Refuses stop (after at (parts level ending 0 (drop at text)))) (sym h) k
 
 pub continues_exit : {A : Type 0} (from : ℕ → Read A) (r : Result ℕ Stop) (e : Stop) (read : Read A) → IsErrAnd r (λ y. y ≡ e) → Refuses e read → Continues r from read
 continues_exit from (Ok x) e read h k = absurd h

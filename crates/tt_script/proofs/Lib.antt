@@ -13,6 +13,7 @@ pub mod IntoCuts
 pub mod IntoFaults
 pub mod IntoGrammar
 pub mod Joining
+pub mod Keeping
 pub mod NameCuts
 pub mod Naming
 pub mod OperandSteps

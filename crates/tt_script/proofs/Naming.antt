@@ -4,11 +4,11 @@ use Rattle.std.proofs.lemmas.List.{drop_more, drop-drop, drop_all, length-take}
 use Rattle.std.proofs.lemmas.List.Sums.{prefix_len-le-length}
 use Rattle.std.proofs.lemmas.Bool.{eq-eqb, ne_eqb}
 use Rattle.std.specs.List.{prefix_len, position_or_len}
-use Rattle.tt_lanes.specs.Classes.{is_special}
-use Rattle.tt_script.proofs.Runs.{next_special}
+use Rattle.tt_lanes.specs.Classes.{is_brace_or_backslash}
+use Rattle.tt_script.proofs.Runs.{next_brace}
 use Rattle.tt_script.specs.Reading.{begins, is_name_byte, name_length}
 use Rattle.tt_script.proofs.Runs.{passes, counted}
-use Rattle.tt_script.proofs.Scanning.{unlike, next_special-bounds, begins_at}
+use Rattle.tt_script.proofs.Scanning.{unlike, next_brace-bounds, begins_at}
 
 -- ---- runs by a test ----
 
@@ -50,19 +50,19 @@ brace_at-here text i h e = prefix_len_at-no (λ b. not (b == 125)) text i h (ap 
 pub brace_at-end : (text : List ℕ) (i : ℕ) → length text ≤ i → position_or_len (λ b. b == 125) (drop i text) ≡ 0
 brace_at-end text i h = prefix_len_at-end (λ b. not (b == 125)) text i h
 
--- bytes up to the next special one
-pub brace-run : (text : List ℕ) (i stop : ℕ) → i ≤ length text → stop ≡ next_special text i → i + position_or_len (λ b. b == 125) (drop i text) ≡ stop + position_or_len (λ b. b == 125) (drop stop text)
+-- bytes up to the next brace or backslash
+pub brace-run : (text : List ℕ) (i stop : ℕ) → i ≤ length text → stop ≡ next_brace text i → i + position_or_len (λ b. b == 125) (drop i text) ≡ stop + position_or_len (λ b. b == 125) (drop stop text)
 brace-run text i stop h e =
-    let p : ℕ → Bool = λ b. not (is_special b) in
+    let p : ℕ → Bool = λ b. not (is_brace_or_backslash b) in
     let n : ℕ = prefix_len p (drop i text) in
     let F : List ℕ → ℕ = position_or_len (λ b. b == 125) in
-    let run = passes p F (λ b m. suc m) (λ b rest is. prefix_len-yes (λ b. not (b == 125)) b rest (ap not (unlike b 125 is refl)) ∙ omega arith) n (drop i text) (omega arith) in
+    let run = passes p F (λ b m. suc m) (λ b rest is. prefix_len-yes (λ b. not (b == 125)) b rest (ap not (unlike is_brace_or_backslash b 125 is refl)) ∙ omega arith) n (drop i text) (omega arith) in
     let rest : drop n (drop i text) ≡ drop stop text = drop-drop n i text ∙ ap (λ k. drop k text) (sym e) in
     let size : length (take n (drop i text)) ≡ n = omega (arith, length-take n (drop i text), prefix_len-le-length p (drop i text)) in
     let tail : F (drop n (drop i text)) ≡ F (drop stop text) = ap F rest in
     omega (arith, run ∙ counted (take n (drop i text)) (F (drop n (drop i text))), size, tail, e)
 
-pub ruleset brace_steps = (brace-run, brace_at-more, brace_at-here, brace_at-end, next_special-bounds)
+pub ruleset brace_steps = (brace-run, brace_at-more, brace_at-here, brace_at-end, next_brace-bounds)
 
 -- ---- names ----
 

@@ -2,15 +2,15 @@
 use Rattle.std.proofs.Common.{◌≡◌, ◌≢◌, ℕ, zero, suc, ◌+◌, ◌-◌, ◌<◌, ◌≤◌, Bool, true, false, not, ◌==◌, ◌&&◌, ◌||◌, List, [], ◌∷◌, length, get_or, drop, take, refl, ap, sym, ◌∙◌, arith}
 use Rattle.std.proofs.lemmas.List.{drop_more, drop-drop, drop_all, length-drop, length-take}
 use Rattle.std.proofs.lemmas.Bool.{eq-eqb, ne_eqb, lt-ltb}
-use Rattle.std.specs.Prelude.{nat_lt}
-use Rattle.std.specs.List.{prefix_len}
+use Rattle.std.specs.Prelude.{nat_lt, if◌then◌else◌}
+use Rattle.std.specs.List.{prefix_len, position_or_len}
 use Rattle.tt_text.specs.Backslash.{backslash}
 use Rattle.tt_script.specs.Words.{PlainPart, letters, variable, element, script, PlainParts, none, with_letters, with_part}
-use Rattle.tt_script.specs.Reading.{Read, takes, fails, after, mapped, and_then, begins, Level, level, part, parts, parts_at_end, ends_parts, separates, is_terminator, continues_line, dollar, named_variable, braced_variable, name_length}
-use Rattle.tt_lanes.specs.Classes.{is_special}
-use Rattle.tt_script.specs.Scanning.{is_letter}
+use Rattle.tt_script.specs.Reading.{Read, takes, fails, after, mapped, and_then, begins, Level, level, part, parts, parts_at_end, ends_parts, separates, is_terminator, continues_line, dollar, named_variable, braced_variable, named, name_length}
+use Rattle.tt_lanes.specs.Classes.{is_special, is_special_in_quotes, is_special_in_index}
+use Rattle.tt_script.specs.Scanning.{ends_run, is_letter}
 use Rattle.tt_script.specs.declared.command.ParseFault.{ParseFault}
-use Rattle.tt_script.specs.declared.command.ParseFault.TheVariants.{TooDeep}
+use Rattle.tt_script.specs.declared.command.ParseFault.TheVariants.{TooDeep, VariableBrace}
 use Rattle.tt_script.specs.declared.command.Place.{Place}
 use Rattle.tt_script.specs.declared.command.Place.TheVariants as places
 use Rattle.tt_text.specs.Characters.{is_white_space}
@@ -21,8 +21,6 @@ use Rattle.tt_script.proofs.Readers.{after-after, after-zero, after-mapped, mapp
 use Rattle.tt_script.proofs.Scanning.{unlike}
 use Rattle.tt_script.proofs.Builds.{with_letters-++}
 use Rattle.tt_script.proofs.Joining.{slice-more}
-use Rattle.tt_script.specs.Building.{so_far, left}
-use Rattle.tt_script.specs.declared.builder.Builder.{Builder}
 
 -- ---- a level in ----
 
@@ -173,23 +171,23 @@ no_separator place b text e = join (is_white_space b) (is_terminator place b) (c
     white = no_white b (not-true (is_special b) e)
 
     line : continues_line b text ≡ false
-    line = ap (λ p. p && begins 10 text) (unlike b 92 e refl)
+    line = ap (λ p. p && begins 10 text) (unlike is_special b 92 e refl)
 
     terminator : (place : Place) → is_terminator place b ≡ false
-    terminator places.Script = ap (λ p. p || b == 59) (unlike b 10 e refl) ∙ unlike b 59 e refl
-    terminator places.Brackets = ap (λ p. (p || b == 59) || b == 93) (unlike b 10 e refl) ∙ ap (λ p. p || b == 93) (unlike b 59 e refl) ∙ unlike b 93 e refl
+    terminator places.Script = ap (λ p. p || b == 59) (unlike is_special b 10 e refl) ∙ unlike is_special b 59 e refl
+    terminator places.Brackets = ap (λ p. (p || b == 59) || b == 93) (unlike is_special b 10 e refl) ∙ ap (λ p. p || b == 93) (unlike is_special b 59 e refl) ∙ unlike is_special b 93 e refl
 
--- a byte that stands for itself is not special
-plain_letter : (ending : Ending) (b : ℕ) → is_letter ending b ≡ true → not (is_special b) ≡ true
-plain_letter (endings.Word place) b e = e
-plain_letter endings.Quote b e = e
-plain_letter endings.Parenthesis b e = (and-true (not (is_special b)) (not (b == 41)) e).0
+-- a byte that begins a substitution ends each run of letters
+ends_each : (ending : Ending) → (ends_run ending 36 ≡ true) × (ends_run ending 91 ≡ true) × (ends_run ending 92 ≡ true)
+ends_each (endings.Word place) = (refl, refl, refl)
+ends_each endings.Quote = (refl, refl, refl)
+ends_each endings.Parenthesis = (refl, refl, refl)
 
--- and ends no parts
+-- a byte that stands for itself ends no parts
 letter-on : (ending : Ending) (b : ℕ) (text : List ℕ) → is_letter ending b ≡ true → ends_parts ending (b ∷ text) ≡ false
 letter-on (endings.Word place) b text e = no_separator place b text e
-letter-on endings.Quote b text e = unlike b 34 e refl
-letter-on endings.Parenthesis b text e = not-true (b == 41) (and-true (not (is_special b)) (not (b == 41)) e).1
+letter-on endings.Quote b text e = unlike is_special_in_quotes b 34 e refl
+letter-on endings.Parenthesis b text e = unlike is_special_in_index b 41 e refl
 
 -- letters before a read
 one_letter : ℕ → Read PlainParts → Read PlainParts
@@ -199,8 +197,9 @@ module _ (level : Level) (ending : Ending) where
   letter_step : (b : ℕ) (text : List ℕ) → is_letter ending b ≡ true → parts level ending 0 (b ∷ text) ≡ one_letter b (parts level ending 0 text)
   unfolding one_letter
   letter_step b text e =
-      let plain = plain_letter ending b e in
-      parts-part level ending b text (letters (b ∷ [])) 0 (letter-on ending b text e) (part-letter level b text (unlike b 36 plain refl) (unlike b 91 plain refl) (unlike b 92 plain refl))
+      let ends = ends_each ending in
+      let p : ℕ → Bool = ends_run ending in
+      parts-part level ending b text (letters (b ∷ [])) 0 (letter-on ending b text e) (part-letter level b text (unlike p b 36 e ends.0) (unlike p b 91 e ends.1) (unlike p b 92 e ends.2))
 
   letters_all : (bs : List ℕ) (r : Read PlainParts) → all one_letter bs r ≡ after (length bs) (mapped (with_letters bs) r)
   unfolding one_letter
@@ -278,6 +277,18 @@ module _ (level : Level) (text : List ℕ) (from : ℕ) where
     pub dollar_at-fault : begins 40 (drop end text) ≡ true → (fault : ParseFault) → after (end + 1) (level.index (drop (end + 1) text)) ≡ fails fault → after from (dollar level (drop from text)) ≡ fails fault
     dollar_at-fault g fault h = dollar_at-element g ∙ ap (λ r. and_then r (λ v m. takes (element (take (end - from) (drop from text)) v) (m + 1))) h
 
+-- what `${` begins, where a `}` closes it
+pub braced_variable_at : (text : List ℕ) (from end : ℕ) → end ≡ from + position_or_len (λ b. b == 125) (drop from text) → end ≤ length text → end ≢ length text
+    → after from (braced_variable (drop from text)) ≡ takes (named (take (end - from) (drop from text))) (end + 1)
+braced_variable_at text from end e within apart =
+    let rest : List ℕ = drop from text in
+    let n : ℕ = position_or_len (λ b. b == 125) rest in
+    let room : nat_lt n (length rest) ≡ true = lt-ltb n (length rest) (omega (arith, length-drop from text)) in
+    let size : n ≡ end - from = omega arith in
+    let place : from + (n + 1) ≡ end + 1 = omega arith in
+    ap (λ v. after from (if v then takes (named (take n rest)) (n + 1) else fails VariableBrace)) room
+    ∙ ap (takes (named (take n rest))) place ∙ ap (λ k. takes (named (take k rest)) (end + 1)) size
+
 -- ---- a part at a place ----
 
 module _ (level : Level) (text : List ℕ) (at : ℕ) where
@@ -307,27 +318,19 @@ module _ (level : Level) (text : List ℕ) (at : ℕ) where
   pub part_at-letter : get_or text at 0 ≢ 36 → get_or text at 0 ≢ 91 → get_or text at 0 ≢ 92 → part level (get_or text at 0) (drop (at + 1) text) ≡ takes (letters (get_or text at 0 ∷ [])) 0
   part_at-letter e f g = part-letter level _ (drop (at + 1) text) (ne_eqb _ _ e) (ne_eqb _ _ f) (ne_eqb _ _ g)
 
--- ---- building ----
+-- ---- a run of letters at a place ----
 
-module _ (level : Level) (ending : Ending) (text : List ℕ) (at : ℕ) (old : Builder) (h : at < length text) (goes_on : ends_parts ending (drop at text) ≡ false) where
-  pub left_at-part : (next : ℕ) (first : PlainPart) (new : Builder) → after (at + 1) (part level (get_or text at 0) (drop (at + 1) text)) ≡ takes first next → at < next → ((rest : PlainParts) → so_far new rest ≡ so_far old (with_part first rest)) → left level ending text old at ≡ left level ending text new next
-  left_at-part next first new e later adds =
-      let rest : Read PlainParts = after next (parts level ending 0 (drop next text)) in
-      ap (mapped (so_far old)) (parts_at-part level ending text at next first h goes_on e later)
-      ∙ mapped-mapped (so_far old) (with_part first) rest
-      ∙ mapped-same (λ ps. so_far old (with_part first ps)) (so_far new) (λ ps. sym (adds ps)) rest
-
-  pub left_at-fault : (fault : ParseFault) → after (at + 1) (part level (get_or text at 0) (drop (at + 1) text)) ≡ fails fault → left level ending text old at ≡ fails fault
-  left_at-fault fault e = ap (mapped (so_far old)) (parts_at-fault level ending text at fault h goes_on e)
-
-  pub left_at-letters : (next : ℕ) (new : Builder) → get_or text at 0 ≢ 36 → get_or text at 0 ≢ 91 → get_or text at 0 ≢ 92 → at + 1 ≤ next → next ≤ length text → next ≤ at + 1 + prefix_len (is_letter ending) (drop (at + 1) text) → ((rest : PlainParts) → so_far new rest ≡ so_far old (with_letters (take (next - at) (drop at text)) rest)) → left level ending text old at ≡ left level ending text new next
-  left_at-letters next new e f g later room run adds =
+module _ (level : Level) (ending : Ending) (text : List ℕ) (at : ℕ) (h : at < length text) (goes_on : ends_parts ending (drop at text) ≡ false) where
+  pub parts_at-letters : (next : ℕ) → get_or text at 0 ≢ 36 → get_or text at 0 ≢ 91 → get_or text at 0 ≢ 92
+      → at + 1 ≤ next → next ≤ length text → next ≤ at + 1 + prefix_len (is_letter ending) (drop (at + 1) text)
+      → after at (parts level ending 0 (drop at text)) ≡ mapped (with_letters (take (next - at) (drop at text))) (after next (parts level ending 0 (drop next text)))
+  parts_at-letters next e f g later room run =
       let b : ℕ = get_or text at 0 in
       let bs : List ℕ = take (next - (at + 1)) (drop (at + 1) text) in
       let rest : Read PlainParts = after next (parts level ending 0 (drop next text)) in
       let one : after (at + 1) (part level b (drop (at + 1) text)) ≡ takes (letters (b ∷ [])) (at + 1) = ap (after (at + 1)) (part_at-letter level text at e f g) ∙ ap (takes (letters (b ∷ []))) (omega arith) in
       let bytes : take (next - at) (drop at text) ≡ b ∷ bs = slice-more text at next h (omega arith) in
-      ap (mapped (so_far old)) (parts_at-part level ending text at (at + 1) (letters (b ∷ [])) h goes_on one (omega arith) ∙ ap (mapped (with_letters (b ∷ []))) (letters_run level ending text (at + 1) next later room run))
-      ∙ ap (mapped (so_far old)) (mapped-mapped (with_letters (b ∷ [])) (with_letters bs) rest)
-      ∙ mapped-mapped (so_far old) (λ ps. with_letters (b ∷ []) (with_letters bs ps)) rest
-      ∙ mapped-same _ (so_far new) (λ ps. ap (so_far old) (sym (with_letters-++ (b ∷ []) bs ps) ∙ ap (λ cs. with_letters cs ps) (sym bytes)) ∙ sym (adds ps)) rest
+      parts_at-part level ending text at (at + 1) (letters (b ∷ [])) h goes_on one (omega arith)
+      ∙ ap (mapped (with_letters (b ∷ []))) (letters_run level ending text (at + 1) next later room run)
+      ∙ mapped-mapped (with_letters (b ∷ [])) (with_letters bs) rest
+      ∙ mapped-same _ (with_letters (take (next - at) (drop at text))) (λ ps. sym (with_letters-++ (b ∷ []) bs ps) ∙ ap (λ cs. with_letters cs ps) (sym bytes)) rest

@@ -1,21 +1,25 @@
 -- A run of bytes that a function passes over one by one.
 use Rattle.std.proofs.Common.{◌≡◌, ℕ, zero, suc, ◌+◌, ◌≤◌, Bool, true, false, ◌&&◌, List, [], ◌∷◌, length, drop, take, refl, ap, ◌∙◌, arith}
 use Rattle.std.specs.List.{prefix_len, position_or_len}
-use Rattle.tt_lanes.specs.Classes.{is_special}
+use Rattle.tt_lanes.specs.Classes.{is_special, is_brace_or_backslash}
 
 -- the place of the first special byte from a place on, or the end
 abbrev pub next_special : List ℕ → ℕ → ℕ
 next_special text from = from + position_or_len is_special (drop from text)
+
+-- the place of the first brace or backslash from a place on, or the end
+abbrev pub next_brace : List ℕ → ℕ → ℕ
+next_brace text from = from + position_or_len is_brace_or_backslash (drop from text)
 
 -- a step for each byte, before a result
 abbrev pub all : {A : Type 0} → (ℕ → A → A) → List ℕ → A → A
 all one [] a = a
 all one (b ∷ bs) a = one b (all one bs a)
 
-prefix_len-yes : (p : ℕ → Bool) (b : ℕ) (text : List ℕ) → p b ≡ true → prefix_len p (b ∷ text) ≡ 1 + prefix_len p text
+pub prefix_len-yes : (p : ℕ → Bool) (b : ℕ) (text : List ℕ) → p b ≡ true → prefix_len p (b ∷ text) ≡ 1 + prefix_len p text
 prefix_len-yes p b text e = rw e
 
-prefix_len-no : (p : ℕ → Bool) (b : ℕ) (text : List ℕ) → p b ≡ false → prefix_len p (b ∷ text) ≡ 0
+pub prefix_len-no : (p : ℕ → Bool) (b : ℕ) (text : List ℕ) → p b ≡ false → prefix_len p (b ∷ text) ≡ 0
 prefix_len-no p b text e = rw e
 
 module _ {A : Type 0} (p : ℕ → Bool) (F : List ℕ → A) (one : ℕ → A → A) (step : (b : ℕ) (text : List ℕ) → p b ≡ true → F (b ∷ text) ≡ one b (F text)) where

@@ -6,9 +6,9 @@ use Rattle.std.proofs.Common.{◌⊎◌, inl, inr}
 use Rattle.std.proofs.lemmas.Bool.Decides.{eqb_tells}
 use Rattle.std.proofs.lemmas.List.Sums.{prefix_len-le-length}
 use Rattle.tt_text.specs.Characters.{is_blank, is_white_space}
-use Rattle.std.specs.List.{prefix_len}
-use Rattle.tt_lanes.specs.Classes.{is_special}
-use Rattle.tt_script.proofs.Runs.{next_special}
+use Rattle.std.specs.List.{prefix_len, position_or_len}
+use Rattle.tt_lanes.specs.Classes.{is_special, is_brace_or_backslash}
+use Rattle.tt_script.proofs.Runs.{next_special, next_brace}
 use Rattle.tt_script.specs.Reading.{gap, continues_line, begins, begins_black, expands, comment, skipped}
 use Rattle.tt_script.proofs.Runs.{passes, counted}
 
@@ -124,32 +124,36 @@ comment_at-passed text i next h e escaped single = go (eqb_tells (get_or text i 
         let n : next ≡ i + 1 = single is in
         (rw n (omega (arith, comment_at-letter text i h e is)), omega arith, omega arith)
 
--- a byte that isn't special is none of the special ones
-pub unlike : (b c : ℕ) → not (is_special b) ≡ true → is_special c ≡ true → (b == c) ≡ false
-unlike b c e f = ne_eqb b c (λ same. different (is_special b) e (ap is_special same ∙ f))
+-- a byte that fails a test is none that passes it
+pub unlike : (p : ℕ → Bool) (b c : ℕ) → not (p b) ≡ true → p c ≡ true → (b == c) ≡ false
+unlike p b c e f = ne_eqb b c (λ same. different (p b) e (ap p same ∙ f))
   where
     different : (p : Bool) → not p ≡ true → p ≡ true → ⊥
     different true e f = cc
     different false e f = cc
 
-next_special-within : (text : List ℕ) (i : ℕ) → i ≤ length text → next_special text i ≤ length text
-next_special-within text i h = omega (arith, prefix_len-le-length (λ b. not (is_special b)) (drop i text), length-drop i text)
+-- a run of bytes ends within the text
+pub run-within : (p : ℕ → Bool) (text : List ℕ) (i : ℕ) → i ≤ length text → i + position_or_len p (drop i text) ≤ length text
+run-within p text i h = omega (arith, prefix_len-le-length (λ b. not (p b)) (drop i text), length-drop i text)
 
 pub next_special-bounds : (text : List ℕ) (i : ℕ) → i ≤ length text → (i ≤ next_special text i) × (next_special text i ≤ length text)
-next_special-bounds text i h = (omega arith, next_special-within text i h)
+next_special-bounds text i h = (omega arith, run-within is_special text i h)
+
+pub next_brace-bounds : (text : List ℕ) (i : ℕ) → i ≤ length text → (i ≤ next_brace text i) × (next_brace text i ≤ length text)
+next_brace-bounds text i h = (omega arith, run-within is_brace_or_backslash text i h)
 
 -- bytes of a comment up to the next special one
 pub comment-run : (text : List ℕ) (i stop : ℕ) → i ≤ length text → stop ≡ next_special text i → i + comment false (drop i text) ≡ stop + comment false (drop stop text)
 comment-run text i stop h e =
     let p : ℕ → Bool = λ b. not (is_special b) in
     let n : ℕ = prefix_len p (drop i text) in
-    let run = passes p (comment false) (λ b m. suc m) (λ b rest is. comment-letter b rest (unlike b 10 is refl) (unlike b 92 is refl)) n (drop i text) (omega arith) in
+    let run = passes p (comment false) (λ b m. suc m) (λ b rest is. comment-letter b rest (unlike is_special b 10 is refl) (unlike is_special b 92 is refl)) n (drop i text) (omega arith) in
     let rest : drop n (drop i text) ≡ drop stop text = drop-drop n i text ∙ ap (λ k. drop k text) (sym e) in
     let size : length (take n (drop i text)) ≡ n = omega (arith, length-take n (drop i text), prefix_len-le-length p (drop i text)) in
     let tail : comment false (drop n (drop i text)) ≡ comment false (drop stop text) = ap (comment false) rest in
     omega (arith, run ∙ counted (take n (drop i text)) (comment false (drop n (drop i text))), size, tail, e)
 
-pub ruleset next_special_bounds = (next_special-bounds)
+pub ruleset next_brace_bounds = (next_brace-bounds)
 
 pub ruleset comment_steps = (comment-run, comment_at-newline, comment_at-letter, comment_at-escaped, comment_at-end, next_special-bounds)
 

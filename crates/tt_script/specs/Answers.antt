@@ -3,6 +3,8 @@ use Rattle.std.specs.Prelude.{◌≡◌, ◌≤◌, ◌<◌, ℕ, Result, Ok, Er
 use Rattle.tt_script.specs.Reading.{Read, takes, fails}
 use Rattle.tt_script.specs.declared.command.Ending.{Ending}
 use Rattle.tt_script.specs.declared.command.Ending.TheVariants as endings
+use Rattle.tt_script.specs.declared.mode.Mode.{Mode}
+use Rattle.tt_script.specs.declared.mode.Mode.TheVariants.{Keep}
 use Rattle.tt_script.specs.declared.stop.Stop.{Stop}
 use Rattle.tt_script.specs.declared.stop.Stop.TheVariants as stops
 
@@ -11,10 +13,10 @@ abbrev pub Refuses : {A : Type 0} → Stop → Read A → Type 0
 Refuses stops.NoMemory read = Unit {0}
 Refuses (stops.Fault fault) read = read ≡ fails fault
 
--- it answered the value, seen as view shows it, and the place after it
-abbrev pub Answers : {X A : Type 0} → (X → A) → Result (X × ℕ) Stop → Read A → Type 0
-Answers view (Ok x) read = read ≡ takes (view x.0) x.1
-Answers view (Err stop) read = Refuses stop read
+-- it answered the place after the value, and where values are kept that value, seen as view shows it
+abbrev pub Answers : {X A : Type 0} → Mode → (X → A) → Result (X × ℕ) Stop → Read A → Type 0
+Answers {A = A} mode view (Ok x) read = (value : A) × (read ≡ takes value x.1) × (mode ≡ Keep → view x.0 ≡ value)
+Answers mode view (Err stop) read = Refuses stop read
 
 -- it went on to a place from which the text reads as it did before
 abbrev pub Continues : {A : Type 0} → Result ℕ Stop → (ℕ → Read A) → Read A → Type 0

@@ -1,10 +1,13 @@
 -- Parts in the making.
-use Rattle.std.specs.Prelude.{ℕ, List, [], ◌∷◌, drop}
+use Rattle.std.specs.Prelude.{◌≡◌, ℕ, List, [], ◌∷◌, drop, Result, Ok, Err}
 use Rattle.tt_script.specs.Words.{letters, PlainParts, more, with_letters}
-use Rattle.tt_script.specs.Reading.{Read, after, mapped, Level, parts}
+use Rattle.tt_script.specs.Answers.{Refuses}
+use Rattle.tt_script.specs.Reading.{after, mapped, Level, parts}
 use Rattle.tt_script.specs.Plain.{plain_part}
 use Rattle.tt_script.specs.declared.command.Part.{Part}
 use Rattle.tt_script.specs.declared.command.Ending.{Ending}
+use Rattle.tt_script.specs.declared.mode.Mode.TheVariants.{Keep}
+use Rattle.tt_script.specs.declared.stop.Stop.{Stop}
 use Rattle.tt_script.specs.declared.builder.Builder.{Builder}
 
 -- parts before others
@@ -21,6 +24,10 @@ abbrev pub apart : List ℕ → PlainParts → PlainParts
 apart [] rest = rest
 apart (b ∷ bs) rest = more (letters (b ∷ bs)) rest
 
--- the parts that a builder ends with, where those of the text from this place on are added
-abbrev pub left : Level → Ending → List ℕ → Builder → ℕ → Read PlainParts
-left level ending text builder at = mapped (so_far builder) (after at (parts level ending 0 (drop at text)))
+-- it went on to a place, and added to the builder, where that keeps them, what stands before that place
+abbrev pub Adds : Level → Ending → List ℕ → Builder → Builder → Result ℕ Stop → ℕ → Type 0
+Adds level ending text old new (Ok next) at =
+    (add : PlainParts → PlainParts)
+    × (after at (parts level ending 0 (drop at text)) ≡ mapped add (after next (parts level ending 0 (drop next text))))
+    × (old.mode ≡ Keep → (rest : PlainParts) → so_far new rest ≡ so_far old (add rest))
+Adds level ending text old new (Err stop) at = Refuses stop (after at (parts level ending 0 (drop at text)))

@@ -1,15 +1,26 @@
 //! Words in braces (Tcl(n), rule 6).
-ghost use Rattle.std.specs.Prelude.{◌≡◌, ◌≢◌, ◌+◌, ◌-◌, ◌≤◌, ◌<◌, Some, None, IfOk, IfSome, position, ◌==◌, length, drop};
+ghost use Rattle.std.specs.Prelude.{◌≡◌, ◌≢◌, ◌+◌, ◌-◌, ◌≤◌, ◌<◌, Some, None, IfOk, IfSome, false, length, drop, take, slice_range};
+ghost use Rattle.std.specs.Option.{option_map};
 ghost use Rattle.tt_text.specs.Braces.{further, matching_brace};
-ghost use Rattle.tt_script.specs.Reading.{joined_lines, letters_of, named, index_start};
-ghost use Rattle.tt_script.specs.Plain.{plain_part, plain_parts};
+ghost use Rattle.tt_script.specs.Reading.{joined_lines, letters_of};
+ghost use Rattle.tt_script.specs.Plain.{plain_parts};
 
-use crate::builder::Builder;
+use crate::builder::letters;
 use crate::command::Part;
-use crate::scan::{after_escape, begins};
+use crate::mode::Mode;
+use crate::scan::{after_escape, begins, continues_line};
 use std::alloc::Global;
-use tt_lanes::next_special;
+use tt_lanes::next_brace;
 use tt_text::{NoMemory, Text, backslash};
+
+/// Where a word in braces ends.
+#[derive(Clone, Copy, Debug, PartialEq, Eq)]
+pub(crate) struct Closing {
+    /// The place of the brace that closes it.
+    pub(crate) end: usize,
+    /// Whether a backslash-newline stands before that.
+    pub(crate) joins: bool,
+}
 
 /// How many inner braces are open after this byte, or `None` where it closes the outer one.
 fn depth_after(byte: u8, depth: usize) -> Option<usize>
@@ -27,34 +38,42 @@ fn depth_after(byte: u8, depth: usize) -> Option<usize>
     }
 }
 
-/// The place of the brace that closes the one before here. A byte after a backslash is none.
-pub(crate) fn closing_brace(text: &[u8], from: usize) -> Option<usize>
+/// The brace that closes the one before here. A byte after a backslash is none.
+pub(crate) fn closing_brace(text: &[u8], from: usize) -> Option<Closing>
     requires { from ≤ length text.now }
-    ensures place { result ≡ further from (matching_brace (drop from text.now)) }
-    ensures within { IfSome result (λ end. (from ≤ end) × (end < length text.now)) }
+    ensures place {
+        option_map (λ closing. closing.end) result ≡ further from (matching_brace (drop from text.now))
+    }
+    ensures within { IfSome result (λ closing. (from ≤ closing.end) × (closing.end < length text.now)) }
+    ensures plain {
+        IfSome result (λ closing. closing.joins ≡ false
+            → let inside = take (closing.end - from) (drop from text.now) in joined_lines 0 inside ≡ inside)
+    }
 {
     let mut depth = 0;
-    let mut at = next_special(text, from);
+    let mut joins = false;
+    let mut at = next_brace(text, from);
     while at < text.len() {
         match depth_after(text[at], depth) {
             Some(inner) => depth = inner,
-            None => return Some(at),
+            None => return Some(Closing { end: at, joins }),
         }
-        at = next_special(text, after_escape(text, at));
+        joins |= continues_line(text, at);
+        at = next_brace(text, after_escape(text, at));
     }
     None
 }
 
-#[tactic(auto, using(crate::proofs::Scanning::next_special_bounds))]
+#[tactic(auto, using(crate::proofs::Scanning::next_brace_bounds))]
 /// The text in braces, where each backslash-newline with the spaces and tabs after it is one space.
-pub(crate) fn joined_lines(alloc: Global, text: &[u8]) -> Result<Text, NoMemory>
+fn joined_lines(alloc: Global, text: &[u8]) -> Result<Text, NoMemory>
     ensures { IfOk result (λ joined. joined ≡ joined_lines 0 text.now) }
 {
     let mut joined = Text::new(alloc);
     let mut at = 0;
     while at < text.len() {
         if text[at] != b'\\' {
-            let next = next_special(text, at + 1);
+            let next = next_brace(text, at + 1);
             joined.push_bytes(&text[at..next])?;
             at = next;
         } else if begins(text, at + 1, b'\n') {
@@ -69,42 +88,50 @@ pub(crate) fn joined_lines(alloc: Global, text: &[u8]) -> Result<Text, NoMemory>
     Ok(joined)
 }
 
-/// The parts of a text that is all letters.
-pub(crate) fn letters(alloc: Global, text: &[u8]) -> Result<Vec<Part>, NoMemory>
-    ensures { IfOk result (λ parts. plain_parts parts.items ≡ letters_of text.now) }
+/// The text in braces that begins here, up to the brace that closes it.
+pub(crate) fn inside_braces(
+    alloc: Global,
+    text: &[u8],
+    from: usize,
+    closing: Closing,
+) -> Result<Text, NoMemory>
+    requires order { from ≤ closing.end }
+    requires room { closing.end ≤ length text.now }
+    requires plain {
+        closing.joins ≡ false
+            → let inside = take (closing.end - from) (drop from text.now) in joined_lines 0 inside ≡ inside
+    }
+    ensures { IfOk result (λ inside. inside ≡ joined_lines 0 (take (closing.end - from) (drop from text.now))) }
 {
-    let mut parts = Builder::new(alloc);
-    parts.push_letters(text)?;
-    parts.finish(alloc)
-}
-
-/// The place of the first `(`.
-fn first_parenthesis(name: &[u8]) -> Option<usize>
-    ensures { result ≡ position (λ b. b == 40) name.now }
-{
-    name.iter().position(|byte| *byte == b'(')
-}
-
-/// The place of the `(` where this is the name of an element, as `a(b)`.
-fn index_start(name: &[u8]) -> Option<usize>
-    ensures place { result ≡ index_start name.now }
-    ensures within { IfSome result (λ start. start + 1 < length name.now) }
-{
-    if begins(name, name.len().saturating_sub(1), b')') {
-        first_parenthesis(name)
+    let inside = &text[from..closing.end];
+    if closing.joins {
+        joined_lines(alloc, inside)
     } else {
-        None
+        Text::from_bytes(alloc, inside)
     }
 }
 
-/// The variable of a name in braces: `a(b)` is an element of an array (Tcl(n), rule 8).
-pub(crate) fn named(alloc: Global, name: &[u8]) -> Result<Part, NoMemory>
-    ensures { IfOk result (λ part. plain_part part ≡ named name.now) }
+/// The parts of a word in braces that begins here: its text, or none where it is skipped.
+pub(crate) fn braced_parts(
+    alloc: Global,
+    text: &[u8],
+    from: usize,
+    closing: Closing,
+    mode: Mode,
+) -> Result<Vec<Part>, NoMemory>
+    requires order { from ≤ closing.end }
+    requires room { closing.end ≤ length text.now }
+    requires plain {
+        closing.joins ≡ false
+            → let inside = take (closing.end - from) (drop from text.now) in joined_lines 0 inside ≡ inside
+    }
+    ensures {
+        mode ≡ Mode.Keep
+            → IfOk result (λ parts. plain_parts parts.items ≡ letters_of (joined_lines 0 (take (closing.end - from) (drop from text.now))))
+    }
 {
-    let Some(start) = index_start(name) else {
-        return Ok(Part::Variable(Text::from_bytes(alloc, name)?));
-    };
-    let array = Text::from_bytes(alloc, &name[..start])?;
-    let index = letters(alloc, &name[start + 1..name.len() - 1])?;
-    Ok(Part::Element(array, index))
+    match mode {
+        Mode::Keep => letters(alloc, inside_braces(alloc, text, from, closing)?),
+        Mode::Skip => Ok(Vec::new(alloc)),
+    }
 }

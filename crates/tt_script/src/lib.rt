@@ -5,6 +5,7 @@ mod braces;
 mod builder;
 mod command;
 pub mod laws;
+mod mode;
 mod names;
 mod operands;
 mod parser;

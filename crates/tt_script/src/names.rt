@@ -1,10 +1,16 @@
 //! The names of variables (Tcl(n), rule 8).
-ghost use Rattle.std.specs.Prelude.{◌≡◌, ◌+◌, ◌≤◌, ◌<◌, ◌==◌, ◌&&◌, length, drop, slice_index};
+ghost use Rattle.std.specs.Prelude.{◌≡◌, ◌+◌, ◌≤◌, ◌<◌, ◌==◌, ◌&&◌, IfOk, IfSome, length, drop, position, slice_index};
 ghost use Rattle.std.specs.List.{prefix_len, position_or_len};
+ghost use Rattle.tt_script.specs.Plain.{plain_part};
 ghost use Rattle.tt_script.specs.Reading as reading;
 
+use crate::builder::letters;
+use crate::command::Part;
+use crate::mode::Mode;
 use crate::scan::begins;
-use tt_lanes::next_special;
+use std::alloc::Global;
+use tt_lanes::next_brace;
+use tt_text::NoMemory;
 
 /// Whether this byte stands in names by itself: an ASCII letter, a digit or `_`.
 fn is_name_byte(byte: u8) -> bool
@@ -62,9 +68,40 @@ pub(crate) fn brace_end(text: &[u8], from: usize) -> usize
     ensures place { result ≡ from + position_or_len (λ b. b == 125) (drop from text.now) }
     ensures within { result ≤ length text.now }
 {
-    let mut at = next_special(text, from);
+    let mut at = next_brace(text, from);
     while at < text.len() && text[at] != b'}' {
-        at = next_special(text, at + 1);
+        at = next_brace(text, at + 1);
     }
     at
+}
+
+/// The place of the first `(`.
+fn first_parenthesis(name: &[u8]) -> Option<usize>
+    ensures { result ≡ position (λ b. b == 40) name.now }
+{
+    name.iter().position(|byte| *byte == b'(')
+}
+
+/// The place of the `(` where this is the name of an element, as `a(b)`.
+fn index_start(name: &[u8]) -> Option<usize>
+    ensures place { result ≡ reading.index_start name.now }
+    ensures within { IfSome result (λ start. start + 1 < length name.now) }
+{
+    if begins(name, name.len().saturating_sub(1), b')') {
+        first_parenthesis(name)
+    } else {
+        None
+    }
+}
+
+/// The variable of a name in braces: `a(b)` is an element of an array (Tcl(n), rule 8).
+pub(crate) fn named(alloc: Global, name: &[u8], mode: Mode) -> Result<Part, NoMemory>
+    ensures { mode ≡ Mode.Keep → IfOk result (λ part. plain_part part ≡ reading.named name.now) }
+{
+    let Some(start) = index_start(name) else {
+        return Ok(Part::Variable(mode.text(alloc, name)?));
+    };
+    let array = mode.text(alloc, &name[..start])?;
+    let index = mode.text(alloc, &name[start + 1..name.len() - 1])?;
+    Ok(Part::Element(array, letters(alloc, index)?))
 }

@@ -6,8 +6,9 @@ ghost use Rattle.tt_script.specs.Operands.{Finds, outer_part, quoted_text};
 ghost use Rattle.tt_script.specs.Plain.{plain_part, plain_parts};
 ghost use Rattle.tt_script.specs.Reading as reading;
 
-use crate::braces::{closing_brace, joined_lines};
+use crate::braces::{closing_brace, inside_braces};
 use crate::command::{Ending, Part};
+use crate::mode::Mode;
 use crate::parser::{brackets, parts, variable};
 use crate::script::DEPTH;
 use crate::stop::Stop;
@@ -22,7 +23,7 @@ pub fn quoted_parts(alloc: Global, text: &[u8]) -> Result<Option<(Vec<Part>, usi
     ensures read { IfOk result (λ found. Finds (λ parts. plain_parts parts.items) found (quoted_text text.now)) }
     ensures within { IfOk result (λ found. IfSome found (λ r. r.1 < length text.now)) }
 {
-    match parts(alloc, text, 0, Ending::Quote, DEPTH) {
+    match parts(alloc, text, 0, Ending::Quote, DEPTH, Mode::Keep) {
         Ok(found) => Ok(Some(found)),
         Err(Stop::Fault(_)) => Ok(None),
         Err(Stop::NoMemory) => Err(NoMemory),
@@ -37,7 +38,7 @@ pub fn variable_part(alloc: Global, text: &[u8]) -> Result<Option<(Part, usize)>
     ensures read { IfOk result (λ found. Finds plain_part found (outer_part 36 text.now)) }
     ensures within { IfOk result (λ found. IfSome found (λ r. r.1 ≤ length text.now)) }
 {
-    match variable(alloc, text, 0, DEPTH) {
+    match variable(alloc, text, 0, DEPTH, Mode::Keep) {
         Ok(found) => Ok(Some(found)),
         Err(Stop::Fault(_)) => Ok(None),
         Err(Stop::NoMemory) => Err(NoMemory),
@@ -52,7 +53,7 @@ pub fn script_part(alloc: Global, text: &[u8]) -> Result<Option<(Part, usize)>, 
     ensures read { IfOk result (λ found. Finds plain_part found (outer_part 91 text.now)) }
     ensures within { IfOk result (λ found. IfSome found (λ r. r.1 ≤ length text.now)) }
 {
-    match brackets(alloc, text, 0, DEPTH) {
+    match brackets(alloc, text, 0, DEPTH, Mode::Keep) {
         Ok((inside, end)) => Ok(Some((Part::Script(inside), end + 1))),
         Err(Stop::Fault(_)) => Ok(None),
         Err(Stop::NoMemory) => Err(NoMemory),
@@ -68,9 +69,9 @@ pub fn braced_text(alloc: Global, text: &[u8]) -> Result<Option<(Text, usize)>, 
     ensures read { IfOk result (λ found. found ≡ option_map (λ n. (reading.joined_lines 0 (take n text.now), n)) (matching_brace text.now)) }
     ensures within { IfOk result (λ found. IfSome found (λ r. r.1 < length text.now)) }
 {
-    let Some(end) = closing_brace(text, 0) else {
+    let Some(closing) = closing_brace(text, 0) else {
         return Ok(None);
     };
-    let inside = joined_lines(alloc, &text[..end])?;
-    Ok(Some((inside, end)))
+    let inside = inside_braces(alloc, text, 0, closing)?;
+    Ok(Some((inside, closing.end)))
 }

@@ -2,14 +2,15 @@
 ghost use Rattle.std.specs.Prelude.{◌≡◌, ◌+◌, ◌≤◌, ◌<◌, false, true, length, drop, slice_index, IfOk, OnOk, IfErr};
 ghost use Rattle.tt_script.specs.Words.{none};
 ghost use Rattle.tt_script.specs.Answers.{Answers, Continues, Refuses, ends_within};
-ghost use Rattle.tt_script.specs.Building.{left};
+ghost use Rattle.tt_script.specs.Building.{Adds};
 ghost use Rattle.tt_script.specs.Plain.{plain_part, plain_parts, plain_word, plain_words};
 ghost use Rattle.tt_script.specs.Reading as reading;
 
-use crate::braces::{closing_brace, joined_lines, letters, named};
+use crate::braces::{braced_parts, closing_brace};
 use crate::builder::Builder;
 use crate::command::{Ending, ParseFault, Part, Place, Word};
-use crate::names::{brace_end, name_end};
+use crate::mode::Mode;
+use crate::names::{brace_end, name_end, named};
 use crate::scan::{
     begins, ends_command, ends_parts, expands, gap_end, letters_end, separates, skip_end,
 };
@@ -18,34 +19,44 @@ use std::alloc::Global;
 use tt_text::{Text, backslash};
 
 /// The variable of `${`, whose name begins here.
-fn braced_variable(alloc: Global, text: &[u8], from: usize) -> Result<(Part, usize), Stop>
+fn braced_variable(
+    alloc: Global,
+    text: &[u8],
+    from: usize,
+    mode: Mode,
+) -> Result<(Part, usize), Stop>
     requires { from ≤ length text.now }
-    ensures read { Answers plain_part result (reading.after from (reading.braced_variable (drop from text.now))) }
+    ensures read { Answers mode plain_part result (reading.after from (reading.braced_variable (drop from text.now))) }
     ensures within { IfOk result (λ r. r.1 ≤ length text.now) }
 {
     let end = brace_end(text, from);
     if end == text.len() {
         return Err(Stop::Fault(ParseFault::VariableBrace));
     }
-    let part = named(alloc, &text[from..end])?;
+    let part = named(alloc, &text[from..end], mode)?;
     Ok((part, end + 1))
 }
 
 /// The parts of a word in braces, whose text begins here.
-fn braced(alloc: Global, text: &[u8], from: usize, place: Place) -> Result<(Vec<Part>, usize), Stop>
+fn braced(
+    alloc: Global,
+    text: &[u8],
+    from: usize,
+    place: Place,
+    mode: Mode,
+) -> Result<(Vec<Part>, usize), Stop>
     requires { from ≤ length text.now }
-    ensures read { Answers (λ parts. plain_parts parts.items) result (reading.after from (reading.braced place (drop from text.now))) }
+    ensures read { Answers mode (λ parts. plain_parts parts.items) result (reading.after from (reading.braced place (drop from text.now))) }
     ensures within { IfOk result (λ r. (from < r.1) × (r.1 ≤ length text.now)) }
 {
-    let Some(end) = closing_brace(text, from) else {
+    let Some(closing) = closing_brace(text, from) else {
         return Err(Stop::Fault(ParseFault::CloseBrace));
     };
-    if !separates(text, end + 1, place) {
+    if !separates(text, closing.end + 1, place) {
         return Err(Stop::Fault(ParseFault::AfterBrace));
     }
-    let inside = joined_lines(alloc, &text[from..end])?;
-    let parts = letters(alloc, inside.as_bytes())?;
-    Ok((parts, end + 1))
+    let parts = braced_parts(alloc, text, from, closing, mode)?;
+    Ok((parts, closing.end + 1))
 }
 
 /// What `$` begins, with the text after it here.
@@ -55,57 +66,65 @@ pub(crate) fn variable(
     text: &[u8],
     from: usize,
     depth: usize,
+    mode: Mode,
 ) -> Result<(Part, usize), Stop>
     requires { from ≤ length text.now }
-    ensures read { Answers plain_part result (reading.after from (reading.dollar (reading.level depth) (drop from text.now))) }
+    ensures read { Answers mode plain_part result (reading.after from (reading.dollar (reading.level depth) (drop from text.now))) }
     ensures within { IfOk result (λ r. (from ≤ r.1) × (r.1 ≤ length text.now)) }
 {
     if begins(text, from, b'{') {
-        return braced_variable(alloc, text, from + 1);
+        return braced_variable(alloc, text, from + 1, mode);
     }
     let end = name_end(text, from);
     if end == from {
-        return Ok((Part::Letters(Text::from_bytes(alloc, b"$")?), from));
+        return Ok((Part::Letters(mode.text(alloc, b"$")?), from));
     }
-    let name = Text::from_bytes(alloc, &text[from..end])?;
+    let name = mode.text(alloc, &text[from..end])?;
     if !begins(text, end, b'(') {
         return Ok((Part::Variable(name), end));
     }
-    let (parts, close) = index(alloc, text, end + 1, depth)?;
+    let (parts, close) = index(alloc, text, end + 1, depth, mode)?;
     Ok((Part::Element(name, parts), close + 1))
 }
 
 /// The parts of an index, whose text begins here, and the place of its `)`.
 #[cycle(parser)]
-fn index(alloc: Global, text: &[u8], from: usize, depth: usize) -> Result<(Vec<Part>, usize), Stop>
+fn index(
+    alloc: Global,
+    text: &[u8],
+    from: usize,
+    depth: usize,
+    mode: Mode,
+) -> Result<(Vec<Part>, usize), Stop>
     requires { from ≤ length text.now }
-    ensures read { Answers (λ parts. plain_parts parts.items) result (reading.after from ((reading.level depth).index (drop from text.now))) }
+    ensures read { Answers mode (λ parts. plain_parts parts.items) result (reading.after from ((reading.level depth).index (drop from text.now))) }
     ensures within { IfOk result (λ r. (from ≤ r.1) × (r.1 < length text.now)) }
 {
     if depth == 0 {
         return Err(Stop::Fault(ParseFault::TooDeep));
     }
-    let (parts, end) = parts(alloc, text, from, Ending::Parenthesis, depth - 1)?;
+    let (parts, end) = parts(alloc, text, from, Ending::Parenthesis, depth - 1, mode)?;
     Ok((parts, end))
 }
 
-/// The script in brackets, which begins here, and the place of its `]`.
+/// The script in brackets, which begins here, and the place of its `]`. Its commands are read and skipped.
 #[cycle(parser)]
 pub(crate) fn brackets(
     alloc: Global,
     text: &[u8],
     from: usize,
     depth: usize,
+    mode: Mode,
 ) -> Result<(Text, usize), Stop>
     requires { from ≤ length text.now }
-    ensures read { Answers (λ inside. inside) result (reading.after from ((reading.level depth).brackets (drop from text.now))) }
+    ensures read { Answers mode (λ inside. inside) result (reading.after from ((reading.level depth).brackets (drop from text.now))) }
     ensures within { IfOk result (λ r. (from ≤ r.1) × (r.1 < length text.now)) }
 {
     if depth == 0 {
         return Err(Stop::Fault(ParseFault::TooDeep));
     }
     let end = commands(alloc, text, from, depth - 1)?;
-    let inside = Text::from_bytes(alloc, &text[from..end])?;
+    let inside = mode.text(alloc, &text[from..end])?;
     Ok((inside, end))
 }
 
@@ -125,7 +144,7 @@ fn commands(alloc: Global, text: &[u8], from: usize, depth: usize) -> Result<usi
         if start == text.len() {
             return Err(Stop::Fault(ParseFault::CloseBracket));
         }
-        let (_, end) = words(alloc, text, start, Place::Brackets, depth)?;
+        let (_, end) = words(alloc, text, start, Place::Brackets, depth, Mode::Skip)?;
         at = end;
     }
 }
@@ -138,17 +157,18 @@ pub(crate) fn words(
     from: usize,
     place: Place,
     depth: usize,
+    mode: Mode,
 ) -> Result<(Vec<Word>, usize), Stop>
     requires here { from < length text.now }
     requires begins { reading.separates place (drop from text.now) ≡ false }
-    ensures read { Answers (λ words. plain_words words.items) result (reading.after from (reading.words place (reading.level depth) 0 (drop from text.now))) }
+    ensures read { Answers mode (λ words. plain_words words.items) result (reading.after from (reading.words place (reading.level depth) 0 (drop from text.now))) }
     ensures within { IfOk result (λ r. (from < r.1) × (r.1 ≤ length text.now)) }
 {
     let mut words = Vec::new(alloc);
     let mut at = from;
     'next_word: loop {
-        let (word, end) = word(alloc, text, at, place, depth)?;
-        words.push(word)?;
+        let (word, end) = word(alloc, text, at, place, depth, mode)?;
+        mode.push_word(&mut words, word)?;
         at = gap_end(text, end);
         if ends_command(text, at, place) {
             return Ok((words, end));
@@ -164,14 +184,15 @@ fn word(
     from: usize,
     place: Place,
     depth: usize,
+    mode: Mode,
 ) -> Result<(Word, usize), Stop>
     requires here { from < length text.now }
     requires begins { reading.separates place (drop from text.now) ≡ false }
-    ensures read { Answers plain_word result (reading.after from (reading.word place (reading.level depth) (drop from text.now))) }
+    ensures read { Answers mode plain_word result (reading.after from (reading.word place (reading.level depth) (drop from text.now))) }
     ensures within { IfOk result (λ r. (from < r.1) × (r.1 ≤ length text.now)) }
 {
     if expands(text, from) {
-        let (parts, end) = word_parts(alloc, text, from + 3, place, depth)?;
+        let (parts, end) = word_parts(alloc, text, from + 3, place, depth, mode)?;
         Ok((
             Word {
                 expand: true,
@@ -180,7 +201,7 @@ fn word(
             end,
         ))
     } else {
-        let (parts, end) = word_parts(alloc, text, from, place, depth)?;
+        let (parts, end) = word_parts(alloc, text, from, place, depth, mode)?;
         Ok((
             Word {
                 expand: false,
@@ -199,18 +220,19 @@ fn word_parts(
     from: usize,
     place: Place,
     depth: usize,
+    mode: Mode,
 ) -> Result<(Vec<Part>, usize), Stop>
     requires { from ≤ length text.now }
-    ensures read { Answers (λ parts. plain_parts parts.items) result (reading.after from (reading.word_parts place (reading.level depth) (drop from text.now))) }
+    ensures read { Answers mode (λ parts. plain_parts parts.items) result (reading.after from (reading.word_parts place (reading.level depth) (drop from text.now))) }
     ensures within { IfOk result (λ r. (from ≤ r.1) × (r.1 ≤ length text.now)) }
     ensures later { reading.separates place (drop from text.now) ≡ false → IfOk result (λ r. from < r.1) }
 {
     if begins(text, from, b'"') {
-        quoted(alloc, text, from + 1, place, depth)
+        quoted(alloc, text, from + 1, place, depth, mode)
     } else if begins(text, from, b'{') {
-        braced(alloc, text, from + 1, place)
+        braced(alloc, text, from + 1, place, mode)
     } else {
-        parts(alloc, text, from, Ending::Word(place), depth)
+        parts(alloc, text, from, Ending::Word(place), depth, mode)
     }
 }
 
@@ -222,12 +244,13 @@ fn quoted(
     from: usize,
     place: Place,
     depth: usize,
+    mode: Mode,
 ) -> Result<(Vec<Part>, usize), Stop>
     requires { from ≤ length text.now }
-    ensures read { Answers (λ parts. plain_parts parts.items) result (reading.after from (reading.quoted place (reading.level depth) (drop from text.now))) }
+    ensures read { Answers mode (λ parts. plain_parts parts.items) result (reading.after from (reading.quoted place (reading.level depth) (drop from text.now))) }
     ensures within { IfOk result (λ r. (from < r.1) × (r.1 ≤ length text.now)) }
 {
-    let (parts, end) = parts(alloc, text, from, Ending::Quote, depth)?;
+    let (parts, end) = parts(alloc, text, from, Ending::Quote, depth, mode)?;
     if !separates(text, end + 1, place) {
         return Err(Stop::Fault(ParseFault::AfterQuote));
     }
@@ -242,13 +265,14 @@ pub(crate) fn parts(
     from: usize,
     ending: Ending,
     depth: usize,
+    mode: Mode,
 ) -> Result<(Vec<Part>, usize), Stop>
     requires { from ≤ length text.now }
-    ensures read { Answers (λ parts. plain_parts parts.items) result (reading.after from (reading.parts (reading.level depth) ending 0 (drop from text.now))) }
+    ensures read { Answers mode (λ parts. plain_parts parts.items) result (reading.after from (reading.parts (reading.level depth) ending 0 (drop from text.now))) }
     ensures within { IfOk result (λ r. (from ≤ r.1) × ends_within ending r.1 (length text.now)) }
     ensures later { reading.ends_parts ending (drop from text.now) ≡ false → IfOk result (λ r. from < r.1) }
 {
-    let mut builder = Builder::new(alloc);
+    let mut builder = Builder::new(alloc, mode);
     let mut at = from;
     while at < text.len() && !ends_parts(text, at, ending) {
         at = push_part(alloc, text, at, ending, depth, &mut builder)?;
@@ -270,17 +294,18 @@ fn push_part(
 ) -> Result<usize, Stop>
     requires here { at < length text.now }
     requires goes_on { reading.ends_parts ending (drop at text.now) ≡ false }
-    ensures read { Continues result (left (reading.level depth) ending text.now builder.new) (left (reading.level depth) ending text.now builder.old at) }
+    ensures read { Adds (reading.level depth) ending text.now builder.old builder.new result at }
     ensures within { IfOk result (λ next. (at < next) × (next ≤ length text.now)) }
+    ensures mode { builder.new.mode ≡ builder.old.mode }
 {
     match text[at] {
         b'$' => {
-            let (part, next) = variable(alloc, text, at + 1, depth)?;
+            let (part, next) = variable(alloc, text, at + 1, depth, builder.mode)?;
             builder.push(alloc, part)?;
             Ok(next)
         }
         b'[' => {
-            let (inside, end) = brackets(alloc, text, at + 1, depth)?;
+            let (inside, end) = brackets(alloc, text, at + 1, depth, builder.mode)?;
             builder.push(alloc, Part::Script(inside))?;
             Ok(end + 1)
         }

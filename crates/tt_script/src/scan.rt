@@ -1,12 +1,12 @@
 //! What needs no nesting: gaps, comments, names and braces.
 ghost use Rattle.std.specs.Prelude.{◌≡◌, ◌+◌, ◌≤◌, ◌<◌, length, drop, take, slice_index, min, ◌≢◌, ◌||◌, ◌==◌, false, true, OnOk, IfErr};
 ghost use Rattle.std.specs.List.{prefix_len, position_or_len};
-ghost use Rattle.tt_script.specs.Scanning.{is_letter};
+ghost use Rattle.tt_script.specs.Scanning.{ends_run};
 ghost use Rattle.tt_text.specs.Characters as characters;
 ghost use Rattle.tt_script.specs.Reading as reading;
 
 use crate::command::{Ending, Place};
-use tt_lanes::next_special;
+use tt_lanes::{next_in_index, next_in_quotes, next_special};
 
 /// Whether this byte stands here.
 pub(crate) fn begins(text: &[u8], at: usize, byte: u8) -> bool
@@ -30,7 +30,7 @@ fn is_blank(byte: u8) -> bool
 }
 
 /// Whether a backslash and a newline stand here (Tcl(n), rule 9).
-fn continues_line(text: &[u8], at: usize) -> bool
+pub(crate) fn continues_line(text: &[u8], at: usize) -> bool
     requires { at < length text.now }
     ensures { result ≡ reading.continues_line (slice_index text.now at) (drop (at + 1) text.now) }
 {
@@ -179,26 +179,11 @@ fn begins_black(text: &[u8], at: usize) -> bool
 /// The end of a run of letters from here on, among parts that end so.
 pub(crate) fn letters_end(text: &[u8], from: usize, ending: Ending) -> usize
     requires { from ≤ length text.now }
-    ensures letters { result ≤ from + prefix_len (is_letter ending) (drop from text.now) }
-    ensures within { (from ≤ result) × (result ≤ length text.now) }
+    ensures { result ≡ from + position_or_len (ends_run ending) (drop from text.now) }
 {
-    let stop = next_special(text, from);
     match ending {
-        Ending::Word(_) | Ending::Quote => stop,
-        Ending::Parenthesis => parenthesis_before(text, from, stop),
+        Ending::Word(_) => next_special(text, from),
+        Ending::Quote => next_in_quotes(text, from),
+        Ending::Parenthesis => next_in_index(text, from),
     }
-}
-
-/// The place of the first `)` from here on, or the other place if none comes before it.
-fn parenthesis_before(text: &[u8], from: usize, stop: usize) -> usize
-    requires order { from ≤ stop }
-    requires room { stop ≤ length text.now }
-    ensures none { result ≤ from + position_or_len (λ b. b == 41) (drop from text.now) }
-    ensures within { (from ≤ result) × (result ≤ stop) }
-{
-    let mut at = from;
-    while at < stop && text[at] != b')' {
-        at += 1;
-    }
-    at
 }

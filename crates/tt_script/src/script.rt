@@ -4,6 +4,7 @@ ghost use Rattle.tt_script.specs.Plain.{plain_first};
 ghost use Rattle.tt_script.specs.Reading as reading;
 
 use crate::command::{Command, First, Place};
+use crate::mode::Mode;
 use crate::parser::words;
 use crate::scan::{gap_end, skip_end};
 use crate::stop::Stop;
@@ -24,7 +25,7 @@ pub fn first_command(alloc: Global, text: &[u8], from: usize) -> Result<First, N
     if start == text.len() {
         return Ok(First::Nothing);
     }
-    match words(alloc, text, start, Place::Script, DEPTH) {
+    match words(alloc, text, start, Place::Script, DEPTH, Mode::Keep) {
         Ok((words, text_end)) => Ok(First::Command(Command {
             words,
             start,

@@ -2,17 +2,17 @@ use Rattle.std.proofs.Common.{arith, ◌+◌, ◌∙◌, ap, ◌++◌, append-ni
 use Rattle.std.proofs.lemmas.Option.{slice_get-get_or}
 use Rattle.tt_script.proofs.Escapes.{backslash_at_within}
 use Rattle.tt_script.proofs.Joining.{joined_on, joined_at-letter, joined_at-newline, joined_at-pair, joined_at-end}
-use Rattle.tt_script.proofs.Scanning.{next_special-bounds}
+use Rattle.tt_script.proofs.Scanning.{next_brace-bounds}
 use Rattle.tt_script.proofs.braces.joined_lines.Goals as goal
 
 pub loop-at-preserved-then-text-at-ne92 : goal.loop-at-preserved-then-text-at-ne92
 loop-at-preserved-then-text-at-ne92 c =
     let text = c.args.text.now in
-    let next = c.next_special-next.result in
-    let bounds = next_special-bounds text (c.loop-at.at + 1) (omega arith) in
+    let next = c.next_brace-next.result in
+    let bounds = next_brace-bounds text (c.loop-at.at + 1) (omega arith) in
     record {
-      within = omega (arith, bounds.1, c.next_special-next.ensures);
-      joined = joined_on text c.loop-at.at next _ _ _ _ c.loop-at.invariant.joined c.in_ok-push_bytes.ensures.pushed (joined_at-letter text c.loop-at.at next c.loop-at-test.true c.if-text-at-ne92.true c.next_special-next.ensures);
+      within = omega (arith, bounds.1, c.next_brace-next.ensures);
+      joined = joined_on text c.loop-at.at next _ _ _ _ c.loop-at.invariant.joined c.in_ok-push_bytes.ensures.pushed (joined_at-letter text c.loop-at.at next c.loop-at-test.true c.if-text-at-ne92.true c.next_brace-next.ensures);
     }
 
 pub backslash-at-requires : goal.backslash-at-requires

@@ -1,7 +1,6 @@
-use Rattle.std.proofs.Common.{◌≡◌, ◌+◌, ◌-◌, ◌*◌, ◌<◌, ◌≤◌, false, ◌++◌, length, drop}
-use Rattle.tt_script.specs.Building.{left}
-use Rattle.tt_script.specs.Plain.{plain_words}
+use Rattle.std.proofs.Common.{◌≡◌, ◌+◌, ◌-◌, ◌*◌, ◌<◌, ◌≤◌, false, length, drop}
 use Rattle.tt_script.specs.Reading as reading
+use Rattle.tt_script.proofs.Keeping.{Gathered, Reached}
 use Rattle.tt_script.proofs.parser.+parser.Given as goal
 
 abbrev pub decreases-words : goal.decreases-words
@@ -49,7 +48,7 @@ invariant-words-next_word l = record {
   begun : l.from ≤ l.at;
   within : l.at < length l.text;
   word : reading.separates l.place (drop l.at l.text) ≡ false;
-  read : reading.after l.from (reading.words l.place (reading.level l.depth) 0 (drop l.from l.text)) ≡ reading.mapped (λ others. plain_words l.words.items ++ others) (reading.after l.at (reading.words l.place (reading.level l.depth) 0 (drop l.at l.text)));
+  read : Gathered l.place (reading.level l.depth) l.text l.mode l.words.items l.from l.at;
 }
 
 abbrev pub decreases-words-next_word : goal.decreases-words-next_word
@@ -59,7 +58,8 @@ abbrev pub invariant-parts-loop-at : goal.invariant-parts-loop-at
 invariant-parts-loop-at l = record {
   begun : l.from ≤ l.at;
   within : l.at ≤ length l.text;
-  read : reading.after l.from (reading.parts (reading.level l.depth) l.ending 0 (drop l.from l.text)) ≡ left (reading.level l.depth) l.ending l.text l.builder l.at;
+  mode : l.builder.mode ≡ l.fn.mode;
+  read : Reached (reading.level l.depth) l.ending l.text l.fn.mode l.builder l.from l.at;
 }
 
 abbrev pub decreases-parts-loop-at : goal.decreases-parts-loop-at

@@ -1,5 +1,7 @@
 use Rattle.std.proofs.Common.{◌<◌, length, arith, sym}
 use Rattle.tt_script.proofs.FirstSteps.{first_at-nothing, first_at-fault, first_at-command}
+use Rattle.tt_script.specs.Plain.{plain_words}
+use Rattle.tt_script.proofs.Keeping.{kept}
 use Rattle.tt_script.proofs.script.first_command.Goals as goal
 
 pub returns-then-start-text : goal.returns-then-start-text
@@ -11,7 +13,7 @@ pub returns-in-Ok : goal.returns-in-Ok
 returns-in-Ok c =
     let room : c.skip_end-start.result < length c.args.text.now = omega arith in
     record {
-      exact = sym (first_at-command c.args.text.now c.args.from c.skip_end-start.result c.skip_end-start.ensures.place room _ c.in-Ok.text_end c.terminator_end.result c.in-Ok.ensures.read c.terminator_end.ensures);
+      exact = sym (first_at-command c.args.text.now c.args.from c.skip_end-start.result c.skip_end-start.ensures.place room _ c.in-Ok.text_end c.terminator_end.result (kept (λ words. plain_words words.items) (c.in-Ok.words, c.in-Ok.text_end) _ c.in-Ok.ensures.read) c.terminator_end.ensures);
     }
 
 pub returns-in-Err-Fault : goal.returns-in-Err-Fault
