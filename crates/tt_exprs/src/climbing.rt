@@ -1,5 +1,5 @@
 //! How the tokens of an expression make a tree (expr(n), OPERATORS).
-ghost use Rattle.std.specs.Prelude.{◌≡◌, IfOk, map};
+ghost use Rattle.std.specs.Prelude.{◌≡◌, IfOk};
 ghost use Rattle.tt_exprs.specs.Parsing as parsing;
 ghost use Rattle.tt_exprs.specs.Plain.{plain_token};
 ghost use Rattle.tt_exprs.specs.Stacks.{plain_outcome, plain_stack, plain_state, plain_pending, plain_value, plain_waiting};
@@ -15,7 +15,7 @@ use tt_text::NoMemory;
 
 /// What the tokens so far have come to.
 #[derive(Drop)]
-enum State {
+pub(crate) enum State {
     /// An operand comes next.
     Wants(Vec<Pending>),
     /// The `(` of this function comes next.
@@ -174,7 +174,8 @@ fn at_operator(alloc: Global, waiting: Waiting, token: Token) -> Result<State, N
     }
 }
 
-fn step(alloc: Global, state: State, token: Token) -> Result<State, NoMemory>
+/// One token more.
+pub(crate) fn step(alloc: Global, state: State, token: Token) -> Result<State, NoMemory>
     ensures { IfOk result (λ next. plain_state next ≡ parsing.step (plain_state state) (plain_token token)) }
 {
     match state {
@@ -186,7 +187,7 @@ fn step(alloc: Global, state: State, token: Token) -> Result<State, NoMemory>
 }
 
 /// What the tokens have come to at their end.
-fn finished(alloc: Global, state: State) -> Result<Outcome, NoMemory>
+pub(crate) fn finished(alloc: Global, state: State) -> Result<Outcome, NoMemory>
     ensures { IfOk result (λ outcome. plain_outcome outcome ≡ parsing.finished (plain_state state)) }
 {
     let State::Has(waiting) = state else {
@@ -200,15 +201,4 @@ fn finished(alloc: Global, state: State) -> Result<Outcome, NoMemory>
         Value::Nested(expr, _) => Ok(Outcome::Good(expr)),
         Value::TooDeep => Ok(Outcome::NestedTooDeeply),
     }
-}
-
-/// The tree of these tokens.
-pub(crate) fn tree_of(alloc: Global, tokens: Vec<Token>) -> Result<Outcome, NoMemory>
-    ensures { IfOk result (λ outcome. plain_outcome outcome ≡ parsing.tree_of (map plain_token tokens.items)) }
-{
-    let mut state = State::Wants(Vec::new(alloc));
-    for token in tokens {
-        state = step(alloc, state, token)?;
-    }
-    finished(alloc, state)
 }

@@ -10,6 +10,7 @@ mod op;
 mod operators;
 mod parsing;
 mod pending;
+mod reading;
 mod signs;
 mod tokens;
 mod values;
