@@ -1,50 +1,34 @@
--- What is ready before the first step, or why there is none.
-use Rattle.std.specs.Prelude.{◌≡◌, ℕ, List, Option, Some, None, ◌⊎◌}
+-- What is ready before the first step, or why there is no run: words of the contracts inside the crate.
+use Rattle.std.specs.Prelude.{◌≡◌, ◌⊎◌, ℕ, List, Option, None}
 use Rattle.tt_devices.specs.Names.{Names, Tells}
-use Rattle.tt_schedule.specs.ScheduleText.{IsScheduleText}
 use Rattle.tt_core.specs.Machine.{Beginning}
-use Rattle.tt_plain.specs.PlainScript.{IsPlain}
-use Rattle.tclthread.specs.Answer.{beginning_of}
+use Rattle.tt_core.specs.declared.setup.Setup.{Setup}
+use Rattle.tclthread.specs.Answer.{AreWords, HasRun, HasWrongScript, HasWrongText, IsIdle, IsMissing, Left}
 use Rattle.tclthread.specs.CommandLine.{Replay}
 use Rattle.tclthread.specs.declared.status.Place.TheVariants.{Byte, Entry}
 use Rattle.tclthread.specs.declared.status.Status.{Status}
 use Rattle.tclthread.specs.declared.status.Status.TheVariants.{Done, Usage, NoFile, BadSchedule, ScheduleEnded, BadScript, ReadFault, WriteFault, NoMemory}
 
--- the words name a script and a schedule that have these bytes
-pub record AreThere (replay : Option Replay) (names : Option Names) (named : Replay) (script text : List ℕ) : Type 0 where
-  pub read : replay ≡ Some named
-  pub script_told : Tells names named.script (Some script)
-  pub text_told : Tells names named.schedule (Some text)
-
--- the words are right, the files are there, the text is a schedule's and the script is plain
-pub record IsReady (replay : Option Replay) (names : Option Names) (beginning : Beginning) (threads : List ℕ) : Type 0 where
-  pub named : Replay
-  pub script : List ℕ
-  pub text : List ℕ
-  pub there : AreThere replay names named script text
-  pub is_text : IsScheduleText text threads
-  pub plain : IsPlain script
-  pub begins : beginning ≡ beginning_of named script
-
--- the file that is missing is the script, or else the schedule
-abbrev pub IsMissing : Option Replay → Option Names → List ℕ → Type 0
-IsMissing replay names name = (named : Replay) × (replay ≡ Some named) × (((name ≡ named.script) × Tells names named.script None)
-    ⊎ ((name ≡ named.schedule) × ((script : List ℕ) × Tells names named.script (Some script)) × Tells names named.schedule None))
+-- what a run of a setup begins with
+abbrev pub begun_by : Setup → Beginning
+begun_by setup = record { script = setup.script; name = setup.name; arguments = setup.arguments; limit = setup.limit }
 
 -- why there is no run
 abbrev pub IsRefusal : Status → Option Replay → Option Names → Type 0
-IsRefusal Usage replay names = replay ≡ None
-IsRefusal (NoFile name) replay names = IsMissing replay names name
-IsRefusal (BadSchedule (Byte offset)) replay names = (named : Replay) × (script : List ℕ) × (text : List ℕ)
-    × AreThere replay names named script text × ((threads : List ℕ) → ¬ (IsScheduleText text threads))
-IsRefusal BadScript replay names = (named : Replay) × (script : List ℕ) × (text : List ℕ)
-    × AreThere replay names named script text × ((threads : List ℕ) × IsScheduleText text threads) × ¬ (IsPlain script)
-IsRefusal ReadFault replay names = (named : Replay) × (replay ≡ Some named)
-IsRefusal NoMemory replay names = (named : Replay) × (replay ≡ Some named)
-IsRefusal (Done code) replay names = ⊥
-IsRefusal (BadSchedule (Entry number)) replay names = ⊥
-IsRefusal ScheduleEnded replay names = ⊥
-IsRefusal WriteFault replay names = ⊥
+IsRefusal Usage words names = words ≡ None
+IsRefusal (NoFile name) words names = IsMissing words names name
+IsRefusal (BadSchedule (Byte offset)) words names = HasWrongText words names offset
+IsRefusal BadScript words names = HasWrongScript words names
+IsRefusal ReadFault words names = AreWords words
+IsRefusal NoMemory words names = AreWords words
+IsRefusal (Done code) words names = ⊥
+IsRefusal (BadSchedule (Entry number)) words names = ⊥
+IsRefusal ScheduleEnded words names = ⊥
+IsRefusal WriteFault words names = ⊥
+
+-- a run of this beginning, or none where memory for it was refused
+abbrev pub IsLeft : {K E : Type 0} → Status → Beginning → List ℕ → Left K E → Type 0
+IsLeft status beginning given left = HasRun status beginning given left ⊎ ((status ≡ NoMemory) × IsIdle left)
 
 -- why there are no bytes of a file
 abbrev pub IsFileRefusal : Status → Option Names → List ℕ → Type 0

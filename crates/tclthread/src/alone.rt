@@ -1,10 +1,12 @@
-ghost use Rattle.std.specs.Prelude.{◌≡◌, ◌≢◌, ◌≤◌, ◌↔◌, [], ℕ, List, Option, Some, None, map, string_bytes, length};
-ghost use Rattle.tt_devices.specs.Faults.{Rises, greatest_count};
+ghost use Rattle.std.specs.Prelude.{◌≡◌, ◌≢◌, ◌↔◌, [], Some, None, map, string_bytes};
+ghost use Rattle.tt_devices.specs.Faults.{Rises};
 ghost use Rattle.tt_plain.specs.PlainScript.{IsPlain};
-ghost use Rattle.tt_core.specs.Stage.{IsFaithful, SameBeginning};
-ghost use Rattle.tclthread.specs.Answer.{AnswersTo, HasScript, EndsAs, NotStarted, beginning_of, kept_by, begun_by};
-ghost use Rattle.tclthread.specs.CommandLine.{reads, Replay};
+ghost use Rattle.tt_core.specs.Machine.{Machine};
+ghost use Rattle.tt_core.specs.Stage.{SameBeginning, machine_of};
+ghost use Rattle.tclthread.specs.Answer.{Answers, EndsAs, IsFirstPart, default_limit, kept_by};
+ghost use Rattle.tclthread.specs.CommandLine.{reads};
 ghost use Rattle.tclthread.specs.Ended.{IfEnded, IsEnded};
+ghost use Rattle.tclthread.specs.Prepared.{IsLeft, begun_by};
 
 use crate::ended::{Alone, Ended};
 use crate::prepare::{Prepared, prepare};
@@ -26,20 +28,23 @@ pub fn alone<F: Files, S: Source, K: Sink, E: Sink>(
 ) -> Alone<S, K, E>
     ensures whole { IsEnded result }
 
-    // What is answered, by the words and the files.
-    ensures answer { IfEnded result (λ ended. AnswersTo (reads (map string_bytes words.now)) (F.map files.old) ended.status ended.schedule.threads) }
+    // What is answered, and what is left of the run.
+    ensures answer { IfEnded result (λ ended. Answers ended.status (reads (map string_bytes words.now)) (F.map files.old) (record {
+      schedule = ended.schedule.threads;
+      got_out = K.got;
+      old_output = output;
+      new_output = ended.output;
+      got_err = E.got;
+      old_errors = errors;
+      new_errors = ended.errors;
+    })) }
     ensures usage { IfEnded result (λ ended. ended.status ≡ Status.Usage ↔ (reads (map string_bytes words.now) ≡ None)) }
 
-    // The schedule has a run, and what was written is what that run writes.
-    ensures faithful { IfEnded result (λ ended. (named : Replay) (script : List ℕ) →
-        HasScript (reads (map string_bytes words.now)) (F.map files.old) named script →
-        IsFaithful (beginning_of named script) ended.schedule.threads (kept_by ended.status)
-        (K.got output) (K.got ended.output) (E.got errors) (E.got ended.errors)) }
-    ensures not_started { IfEnded result (λ ended. NotStarted ended.status → (ended.schedule.threads ≡ []) × (ended.output ≡ output)) }
-
-    // The causes of faults.
+    // A fault is answered, and comes of its own object alone.
     ensures read_fault { IfEnded result (λ ended. ended.status ≡ Status.ReadFault → Rises (F.read_fault_count files.old) (F.read_fault_count files.new)) }
+    ensures reads_steady { IfEnded result (λ ended. ended.status ≢ Status.ReadFault → F.read_fault_count files.new ≡ F.read_fault_count files.old) }
     ensures write_fault { IfEnded result (λ ended. ended.status ≡ Status.WriteFault → Rises (K.fault_count output) (K.fault_count ended.output)) }
+    ensures writes_steady { IfEnded result (λ ended. ended.status ≢ Status.WriteFault → K.fault_count ended.output ≡ K.fault_count output) }
 
     // What stays.
     ensures input { IfEnded result (λ ended. ended.input ≡ input) }
@@ -67,12 +72,20 @@ fn replay<S: Source, K: Sink, E: Sink>(
     output: K,
     errors: E,
 ) -> Ended<S, K, E>
-    requires { IsPlain prepared.setup.script }
-    ensures ends { EndsAs result.status (begun_by prepared.setup) prepared.given.threads result.schedule.threads }
-    ensures faithful { IsFaithful (begun_by prepared.setup) result.schedule.threads (kept_by result.status)
-        (K.got output) (K.got result.output) (E.got errors) (E.got result.errors) }
-    ensures started { NotStarted result.status → ⊥ }
+    requires plain { IsPlain prepared.setup.script }
+    requires limit { prepared.setup.limit ≡ default_limit }
+    ensures left { IsLeft result.status (begun_by prepared.setup) prepared.given.threads (record {
+      schedule = result.schedule.threads;
+      got_out = K.got;
+      old_output = output;
+      new_output = result.output;
+      got_err = E.got;
+      old_errors = errors;
+      new_errors = result.errors;
+    }) }
+    ensures no_read { result.status ≢ Status.ReadFault }
     ensures write_fault { result.status ≡ Status.WriteFault → Rises (K.fault_count output) (K.fault_count result.output) }
+    ensures writes_steady { result.status ≢ Status.WriteFault → K.fault_count result.output ≡ K.fault_count output }
     ensures input { result.input ≡ input }
     ensures errors { result.errors ≡ errors }
 {
@@ -103,10 +116,13 @@ fn replay<S: Source, K: Sink, E: Sink>(
 fn follow<S: Source, K: Sink, E: Sink>(system: &mut System<S, K, E>, given: &Schedule) -> Status
     requires fresh { system.old.schedule ≡ [] }
     requires going { system.old.kept ≡ None }
-    ensures ends { EndsAs result system.old.beginning given.now.threads system.new.schedule }
+    ensures follows { IsFirstPart system.new.schedule given.now.threads }
+    ensures ends { (machine : Machine) → machine_of system.new ≡ Some machine → EndsAs result machine system.new.schedule given.now.threads }
+    ensures untouched { system.new.schedule ≡ [] → system.new.output ≡ system.old.output }
     ensures kept { system.new.kept ≡ kept_by result }
-    ensures started { NotStarted result → ⊥ }
+    ensures no_read { result ≢ Status.ReadFault }
     ensures write_fault { result ≡ Status.WriteFault → Rises (K.fault_count system.old.output) (K.fault_count system.new.output) }
+    ensures writes_steady { result ≢ Status.WriteFault → K.fault_count system.new.output ≡ K.fault_count system.old.output }
     ensures same_beginning { SameBeginning system.old system.new }
     ensures input { system.new.input ≡ system.old.input }
     ensures errors { system.new.errors ≡ system.old.errors }

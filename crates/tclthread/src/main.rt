@@ -4,22 +4,24 @@
 mod alone;
 mod command_line;
 mod ended;
+pub mod laws;
 mod prepare;
 mod session;
 mod status;
 #[cfg(test)]
 mod tests;
+mod words;
 
 use ended::Ended;
 use session::session;
-use status::Status;
-use std::env;
 use std::process::ExitCode;
 use tt_devices::{OpenGate, RealFiles, StdSink, StdSource};
+use words::words;
 
 fn main(rt: HostRuntime) -> ExitCode {
-    let Ok(words) = words(&rt) else {
-        return ExitCode::from(Status::NoMemory.exit());
+    let words = match words(&rt) {
+        Ok(words) => words,
+        Err(status) => return ExitCode::from(status.exit()),
     };
     let mut files = RealFiles::new(&rt);
     let Ended { status, .. } = session(
@@ -33,13 +35,4 @@ fn main(rt: HostRuntime) -> ExitCode {
         &OpenGate,
     );
     ExitCode::from(status.exit())
-}
-
-/// The words after the program's name.
-fn words(rt: &HostRuntime) -> std::io::Result<Vec<String>> {
-    let mut words = Vec::new(rt.alloc());
-    for word in env::args(rt)?.skip(1) {
-        words.push(word)?;
-    }
-    Ok(words)
 }

@@ -1,10 +1,9 @@
-ghost use Rattle.std.specs.Prelude.{◌≡◌, ◌≢◌, ◌⊎◌, [], map, string_bytes, Some, IfOk, IfErr, IsErrOf};
+ghost use Rattle.std.specs.Prelude.{◌≡◌, ◌≢◌, ◌⊎◌, [], map, string_bytes, Some, Err, IfOk, IfErr, IsErrOf};
 ghost use Rattle.tt_devices.specs.Faults.{Rises};
 ghost use Rattle.tt_devices.specs.Names.{Tells};
-ghost use Rattle.tt_schedule.specs.ScheduleText.{IsScheduleText};
-ghost use Rattle.tclthread.specs.Answer.{begun_by};
+ghost use Rattle.tclthread.specs.Answer.{AsksFor};
 ghost use Rattle.tclthread.specs.CommandLine.{reads};
-ghost use Rattle.tclthread.specs.Prepared.{IsReady, IsRefusal, IsFileRefusal};
+ghost use Rattle.tclthread.specs.Prepared.{IsFileRefusal, IsRefusal, begun_by};
 
 use crate::command_line::{Replay, read_words};
 use crate::status::{Place, Status};
@@ -32,10 +31,11 @@ pub(crate) fn prepare<F: Files>(
     words: &[String],
     files: &mut F,
 ) -> Result<Prepared, Status>
-    ensures ready { IfOk result (λ prepared. IsReady (reads (map string_bytes words.now)) (F.map files.old)
+    ensures ready { IfOk result (λ prepared. AsksFor (reads (map string_bytes words.now)) (F.map files.old)
         (begun_by prepared.setup) prepared.given.threads) }
     ensures refused { IfErr result (λ status. IsRefusal status (reads (map string_bytes words.now)) (F.map files.old)) }
     ensures cause { IsErrOf result Status.ReadFault → Rises (F.read_fault_count files.old) (F.read_fault_count files.new) }
+    ensures steady { (result ≢ Err Status.ReadFault) → F.read_fault_count files.new ≡ F.read_fault_count files.old }
     ensures same { F.map files.new ≡ F.map files.old }
     ensures no_write { F.write_fault_count files.new ≡ F.write_fault_count files.old }
 {

@@ -1,8 +1,7 @@
-ghost use Rattle.std.specs.Prelude.{◌≡◌, ◌↔◌, [], ℕ, List, None, map, string_bytes};
+ghost use Rattle.std.specs.Prelude.{◌≡◌, ◌≢◌, ◌↔◌, None, map, string_bytes};
 ghost use Rattle.tt_devices.specs.Faults.{Rises};
-ghost use Rattle.tt_core.specs.Stage.{IsFaithful};
-ghost use Rattle.tclthread.specs.Answer.{AnswersTo, HasScript, NotStarted, beginning_of, kept_by};
-ghost use Rattle.tclthread.specs.CommandLine.{reads, Replay};
+ghost use Rattle.tclthread.specs.Answer.{Answers};
+ghost use Rattle.tclthread.specs.CommandLine.{reads};
 
 use crate::alone::alone;
 use crate::ended::{Alone, Ended};
@@ -33,20 +32,23 @@ pub fn session<
     errors: E,
     _gate: &G,
 ) -> Ended<S, K, E>
-    // What is answered, by the words and the files.
-    ensures answer { AnswersTo (reads (map string_bytes words.now)) (F.map files.old) result.status result.schedule.threads }
+    // What is answered, and what is left of the run.
+    ensures answer { Answers result.status (reads (map string_bytes words.now)) (F.map files.old) (record {
+      schedule = result.schedule.threads;
+      got_out = K.got;
+      old_output = output;
+      new_output = result.output;
+      got_err = E.got;
+      old_errors = errors;
+      new_errors = result.errors;
+    }) }
     ensures usage { result.status ≡ Status.Usage ↔ (reads (map string_bytes words.now) ≡ None) }
 
-    // The schedule has a run, and what was written is what that run writes.
-    ensures faithful { (named : Replay) (script : List ℕ) →
-        HasScript (reads (map string_bytes words.now)) (F.map files.old) named script →
-        IsFaithful (beginning_of named script) result.schedule.threads (kept_by result.status)
-        (K.got output) (K.got result.output) (E.got errors) (E.got result.errors) }
-    ensures not_started { NotStarted result.status → (result.schedule.threads ≡ []) × (result.output ≡ output) }
-
-    // The causes of faults.
+    // A fault is answered, and comes of its own object alone.
     ensures read_fault { result.status ≡ Status.ReadFault → Rises (F.read_fault_count files.old) (F.read_fault_count files.new) }
+    ensures reads_steady { result.status ≢ Status.ReadFault → F.read_fault_count files.new ≡ F.read_fault_count files.old }
     ensures write_fault { result.status ≡ Status.WriteFault → Rises (K.fault_count output) (K.fault_count result.output) }
+    ensures writes_steady { result.status ≢ Status.WriteFault → K.fault_count result.output ≡ K.fault_count output }
 
     // What stays.
     ensures input { result.input ≡ input }

@@ -1,18 +1,23 @@
 use crate::ended::Ended;
+use crate::laws::one_answer;
 use crate::session::session;
 use crate::status::{Place, Status};
+use crate::words::words;
 use std::alloc::Global;
+use std::env::{Env, FillError};
 use std::sync::Wait;
 use std::test::Fail;
 use std::thread::Threads;
 use tt_devices::{MemoryFiles, MemorySink, MemorySource, OpenGate};
+use tt_schedule::Schedule;
 
-/// What a replay left: the words of its status, its exit code, how many steps it took, and what it wrote.
+/// What a replay left: the words of its status, its exit code, the threads of its steps, and what it wrote.
 #[derive(Drop)]
 struct Left {
     status: String,
     exit: u8,
     steps: u64,
+    schedule: Schedule,
     output: Vec<u8>,
 }
 
@@ -22,7 +27,7 @@ fn status_words(alloc: Global, status: &Status) -> Result<String, Fail> {
         Status::Done(code) => format!(in alloc; "done {code}")?,
         Status::Usage => format!(in alloc; "usage")?,
         Status::NoFile(name) => format!(in alloc; "no file of {} bytes", name.as_bytes().len())?,
-        Status::BadSchedule(Place::Byte(_)) => format!(in alloc; "bad schedule")?,
+        Status::BadSchedule(Place::Byte(offset)) => format!(in alloc; "bad schedule at {offset}")?,
         Status::BadSchedule(Place::Entry(number)) => format!(in alloc; "bad entry {number}")?,
         Status::ScheduleEnded => format!(in alloc; "schedule ended")?,
         Status::BadScript => format!(in alloc; "bad script")?,
@@ -67,6 +72,7 @@ fn call<R: Threads + Wait + Sync + AllocGlobal>(
         status: status_words(alloc, &status)?,
         exit: status.exit(),
         steps: schedule.len(),
+        schedule,
         output: Vec::from_slice(alloc, output.bytes())?,
     })
 }
@@ -75,7 +81,7 @@ const WORDS: [&str; 3] = ["--replay", "schedule", "script"];
 
 #[test]
 fn scripts_are_replayed_as_far_as_their_schedules_go(rt: HostRuntime) -> Result<(), Fail> {
-    let rows: [(&[u8], &[u8], &str, u8, u64, &[u8]); 12] = [
+    let rows: [(&[u8], &[u8], &str, u8, u64, &[u8]); 14] = [
         (b"puts hi", b"schedule 1\n1 2\n", "done 0", 0, 2, b"hi\n"),
         (b"", b"schedule 1\n1 1\n", "done 0", 0, 1, b""),
         (
@@ -115,7 +121,23 @@ fn scripts_are_replayed_as_far_as_their_schedules_go(rt: HostRuntime) -> Result<
             0,
             b"",
         ),
-        (b"puts $x", b"schedule 1\n1 2", "bad schedule", 108, 0, b""),
+        (
+            b"puts $x",
+            b"schedule 1\n1 2",
+            "bad schedule at 11",
+            108,
+            0,
+            b"",
+        ),
+        (
+            b"puts a",
+            b"schedule 1\n1 2\n1 1\n",
+            "bad schedule at 15",
+            108,
+            0,
+            b"",
+        ),
+        (b"puts a", b"", "bad schedule at 0", 108, 0, b""),
     ];
     for (script, schedule, status, exit, steps, output) in rows {
         let left = call(&rt, &WORDS, script, schedule, &[], &[])?;
@@ -339,4 +361,69 @@ fn faults_end_the_run_where_they_come(rt: HostRuntime) -> Result<(), Fail> {
         assert_eq!(rt; left.output.as_slice(), output);
     }
     Ok(())
+}
+
+#[test]
+fn a_failed_put_leaves_the_first_of_the_given_steps(rt: HostRuntime) -> Result<(), Fail> {
+    let script = b"thread::create\nthread::send -async tid2 {puts a\nputs b}\nputs c\n";
+    let schedule = b"schedule 1\n1 2\n2 3\n1 2\n";
+    let left = call(&rt, &WORDS, script, schedule, &[], &[2])?;
+    let mut threads = Vec::new(rt.alloc());
+    for place in 0..left.schedule.len() {
+        threads.push(left.schedule.at(place))?;
+    }
+    assert_eq!(rt; left.status.as_str(), "write fault");
+    assert_eq!(rt; threads.as_slice(), [1, 1, 2, 2, 2].as_slice());
+    assert_eq!(rt; left.output.as_slice(), b"a\nb".as_slice());
+    Ok(())
+}
+
+/// An environment with these arguments.
+#[derive(Drop)]
+struct Arguments<'a> {
+    all: &'a [&'a [u8]],
+}
+
+impl Env for Arguments<'_> {
+    fn arg(&self, i: usize, buf: &mut [u8]) -> Result<usize, FillError> {
+        let Some(word) = self.all.get(i) else {
+            return Err(FillError::NotPresent);
+        };
+        let Some(room) = buf.get_mut(..word.len()) else {
+            return Err(FillError::TooLong);
+        };
+        room.copy_from_slice(word);
+        Ok(word.len())
+    }
+
+    fn var(&self, _name: &str, _buf: &mut [u8]) -> Result<usize, FillError> {
+        Err(FillError::NotPresent)
+    }
+
+    fn var_at(&self, _i: usize, _buf: &mut [u8]) -> Result<usize, FillError> {
+        Err(FillError::NotPresent)
+    }
+}
+
+#[test]
+fn a_word_that_is_no_text_is_wrong_words(rt: HostRuntime) {
+    let rows: [(&[&[u8]], Result<usize, u8>); 3] = [
+        (&[b"tclthread", b"--replay", b"f", b"s"], Ok(3)),
+        (&[b"tclthread", b"--replay", b"f", b"\xFF"], Err(106)),
+        (&[b"tclthread"], Ok(0)),
+    ];
+    for (all, wanted) in rows {
+        let found = words(&(Arguments { all }, rt.alloc()));
+        assert_eq!(rt;
+            found
+                .map(|words| words.len())
+                .map_err(|status| status.exit()),
+            wanted
+        );
+    }
+}
+
+#[test]
+fn the_answer_is_one(_rt: HostRuntime) {
+    one_answer::<(), ()>();
 }

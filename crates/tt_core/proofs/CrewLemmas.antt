@@ -1,13 +1,12 @@
-use Rattle.std.proofs.Common.{◌≡◌, ◌∙◌, ◌<◌, ◌≤◌, ◌+◌, ◌-◌, ℕ, suc, List, [], ◌∷◌, ◌++◌, length, drop, get_or, slice_get, slice_set, Some, None, Result, Ok, Err, IfOk, IfErr, IsErrOf, ap, refl, arith, inl, inr}
+use Rattle.std.proofs.Common.{◌≡◌, ◌∙◌, ◌<◌, ◌≤◌, ◌-◌, ℕ, suc, List, [], ◌∷◌, ◌++◌, length, drop, get_or, slice_get, slice_set, None, Result, Ok, Err, IfOk, IfErr, IsErrOf, ap, refl, arith, inl, inr}
 use Rattle.std.proofs.lemmas.Option.{slice_get_read, slice_get_past}
 use Rattle.std.proofs.lemmas.Bool.{cases_lt}
-use Rattle.tt_plain.specs.PlainScript.{Found, first}
 use Rattle.tt_core.specs.declared.action.Action.{Action}
 use Rattle.tt_core.specs.declared.effect.Effect.{Effect}
 use Rattle.tt_core.specs.declared.effect.Effect.TheVariants as effects
 use Rattle.tt_core.specs.declared.effect.Refusal.{Refusal}
 use Rattle.tt_core.specs.declared.effect.Refusal.TheVariants.{NotEnabled, NoMemory}
-use Rattle.tt_core.specs.Steps.{Crew, Serving, IsSent, Sends, IsCommandOf, last_of}
+use Rattle.tt_core.specs.Steps.{Crew, Serving, IsSent, Sends, IsCommandOf}
 
 -- what is left after a command
 pub last-is : (text : List ℕ) (action : Action) (left : ℕ) → (next : IsCommandOf text action left) → drop (length text - left) text ≡ next.rest

@@ -1,5 +1,5 @@
-use Rattle.std.proofs.Common.{◌≡◌, ◌∙◌, ◌≤◌, ◌+◌, ℕ, zero, suc, List, [], ◌∷◌, sym, refl}
-use Rattle.tt_plain.specs.PlainScript.{Command, Puts, Create, Send, First, Nothing, Found, Other, first, thread_id, IsPutsList, puts_end, puts_more, IsScript, ends, puts, create, send}
+use Rattle.std.proofs.Common.{◌≡◌, ◌∙◌, ◌≤◌, ℕ, zero, suc, List, sym, refl}
+use Rattle.tt_plain.specs.PlainScript.{Command, Puts, Create, Send, Found, Other, first, thread_id, IsPutsList, puts_end, puts_more, IsScript, ends, puts, create, send}
 
 -- the rest of a list of `puts` commands is one
 pub record PutsNext (command : Command) (rest : List ℕ) : Type 0 where

@@ -1,15 +1,15 @@
-use Rattle.std.proofs.Common.{◌≡◌, ◌≢◌, ◌∙◌, ◌<◌, ◌≤◌, ◌-◌, ℕ, zero, suc, List, [], ◌∷◌, ◌++◌, length, slice_get, Option, Some, None, option_and_then, ap, refl, sym, subst, arith, inl, inr, ◌⊎◌}
+use Rattle.std.proofs.Common.{◌≡◌, ◌∙◌, ◌<◌, ◌≤◌, ◌-◌, ℕ, zero, suc, List, [], ◌∷◌, ◌++◌, length, replicate, slice_get, Option, Some, None, IsSome, option_and_then, ap, append-nil, append_assoc, refl, sym, subst, arith, inl, inr, ◌⊎◌}
 use Rattle.std.specs.List.{AllByRecursion}
-use Rattle.tt_plain.specs.PlainScript.{Command, Puts, First, Nothing, Found, Other, first, IsPlain, IsPutsList}
+use Rattle.tt_plain.specs.PlainScript.{Command, Puts, First, Nothing, Found, Other, first, IsPlain, IsPutsList, IsScript, ends, puts}
 use Rattle.tt_plain.specs.PlainScript as plain
-use Rattle.tt_core.specs.Machine.{Beginning, Machine, Thread, Reply, Go, Value, Posted, Taken, Refused, End, Take, Doing, Evaluates, Serves, request_or, after_first, after_take, after_reply, after_replies, act, after_answer, start_machine, step, run, run_from}
-use Rattle.tt_core.specs.PlainRuns.{IsGranted, NoRefusalLaw}
+use Rattle.tt_core.specs.Machine.{Beginning, Machine, Thread, Reply, Go, Value, Posted, Taken, Refused, Live, Request, End, Take, Doing, Evaluates, Serves, request_or, after_first, after_take, after_reply, after_replies, act, after_answer, asked, of_thread, start_machine, step, run, run_from}
+use Rattle.tt_core.specs.PlainRuns.{IsGranted, NoRefusalLaw, NotStuckLaw, PutsRunLaw, PutsWords, lines_of, no_words, one_more}
 use Rattle.tt_core.specs.Steps.{Serving, Crew}
-use Rattle.tt_core.specs.Standing.{IsServing, AreServing, IsAt}
+use Rattle.tt_core.specs.Standing.{AreServing, IsAt}
 use Rattle.tt_core.proofs.PlainLemmas.{puts-next, puts-other, script-send, script-other}
-use Rattle.tt_core.proofs.ServingLemmas.{serving-at, for_each-same}
-use Rattle.tt_core.proofs.StepLemmas.{IsStepped, asked-main, asked-server, asked-past, step-asked, step-unasked, step-over, main-writes, main-creates, main-sends, server-takes, server-writes}
-use Rattle.tt_core.proofs.RunLemmas.{server-idle, past-end}
+use Rattle.tt_core.proofs.ServingLemmas.{for_each-same, serving-at, serving-past}
+use Rattle.tt_core.proofs.StepLemmas.{IsStepped, asked-main, asked-server, asked-past, step-asked, step-unasked, step-over, main-ends, main-writes, main-creates, main-sends, server-takes, server-writes}
+use Rattle.tt_core.proofs.RunLemmas.{main-can, past-end, server-idle}
 use Rattle.tt_core.proofs.StandLemmas.{begins-at}
 
 -- ---- after a refusal a thread is at nothing ----
@@ -130,26 +130,116 @@ follows machine next script crew (suc (suc place)) at is = server-follows machin
 
 -- ---- runs ----
 
-over-granted : (machine last : Machine) (threads : List ℕ) → machine.shared.over ≡ Some 0 → AreGranted machine → run_from machine threads ≡ Some last → AreGranted last
-over-granted machine last [] over are is =
-    let same : machine ≡ last = cc is in
-    subst AreGranted same are
-over-granted machine last (thread ∷ threads) over are is = absurd (cc (sym is ∙ ap (option_and_then (λ next. run_from next threads)) (step-over machine thread 0 over)))
+-- a run is where a crew is, or ended one step after that
+abbrev Reached : Machine → List ℕ → Type 0
+Reached last script = GoesOn last script ⊎ ((before : Machine) × GoesOn before script × HasEnded before last)
 
-run-by : (machine last : Machine) (script : List ℕ) (crew : Crew) (thread : ℕ) (threads : List ℕ) (next : Option Machine) → IsAt machine script crew → step machine thread ≡ next → ((now : Machine) (after : Crew) → IsAt now script after → run_from now threads ≡ Some last → AreGranted last) → option_and_then (λ now. run_from now threads) next ≡ Some last → AreGranted last
+run-over : (machine last : Machine) (threads : List ℕ) → machine.shared.over ≡ Some 0 → run_from machine threads ≡ Some last → machine ≡ last
+run-over machine last [] over is = cc is
+run-over machine last (thread ∷ threads) over is = absurd (cc (sym is ∙ ap (option_and_then (λ next. run_from next threads)) (step-over machine thread 0 over)))
+
+run-by : (machine last : Machine) (script : List ℕ) (crew : Crew) (thread : ℕ) (threads : List ℕ) (next : Option Machine) → IsAt machine script crew → step machine thread ≡ next → ((now : Machine) (after : Crew) → IsAt now script after → run_from now threads ≡ Some last → Reached last script) → option_and_then (λ now. run_from now threads) next ≡ Some last → Reached last script
 run-by machine last script crew thread threads None at e more is = cc
 run-by machine last script crew thread threads (Some next) at e more is = elim (follows machine next script crew thread at e) [
   | inl on ↦ more next on.crew on.at is
-  | inr ended ↦ over-granted next last threads ended.over (rw ended.replies (at-granted machine script crew at)) is
+  | inr ended ↦ inr (machine, record { crew = crew; at = at }, subst (λ (one : Machine). HasEnded machine one) (run-over next last threads ended.over is) ended)
 ]
 
-run-granted : (machine last : Machine) (script : List ℕ) (crew : Crew) (threads : List ℕ) → IsAt machine script crew → run_from machine threads ≡ Some last → AreGranted last
-run-granted machine last script crew [] at is =
+run-reaches : (machine last : Machine) (script : List ℕ) (crew : Crew) (threads : List ℕ) → IsAt machine script crew → run_from machine threads ≡ Some last → Reached last script
+run-reaches machine last script crew [] at is =
     let same : machine ≡ last = cc is in
-    subst AreGranted same (at-granted machine script crew at)
-run-granted machine last script crew (thread ∷ threads) at is = run-by machine last script crew thread threads (step machine thread) at refl (λ now after. run-granted now last script after threads) is
+    inl (record { crew = crew; at = subst (λ (one : Machine). IsAt one script crew) same at })
+run-reaches machine last script crew (thread ∷ threads) at is = run-by machine last script crew thread threads (step machine thread) at refl (λ now after. run-reaches now last script after threads) is
+
+plain-reaches : (beginning : Beginning) (schedule : List ℕ) (machine : Machine) → IsPlain beginning.script → run beginning schedule ≡ Some machine → Reached machine beginning.script
+unfolding run
+plain-reaches beginning schedule machine plain ran =
+    run-reaches (start_machine beginning) machine beginning.script (record { main = beginning.script; servers = [] }) schedule (begins-at beginning plain) ran
 
 pub no-refusal : NoRefusalLaw
+no-refusal beginning schedule machine plain ran = elim (plain-reaches beginning schedule machine plain ran) [
+  | inl on ↦ at-granted machine beginning.script on.crew on.at
+  | inr end ↦ rw end.2.replies (at-granted end.0 beginning.script end.1.crew end.1.at)
+]
+
+-- ---- never stuck ----
+
+some-request : (last : Request) (read : First) → (read ≡ Other → ⊥) → IsSome (request_or last read)
+some-request last Nothing never = refl
+some-request last (Found command rest) never = refl
+some-request last Other never = absurd (never refl)
+
+asks-main : (machine : Machine) (script : List ℕ) (crew : Crew) → IsAt machine script crew → IsSome (asked machine 1)
+asks-main machine script crew at = rw (asked-main machine script crew at) (some-request (End 0) (first crew.main) (script-other _ _ _ crew.main at.plain))
+
+asks-server : (machine : Machine) (script : List ℕ) (crew : Crew) (place : ℕ) (thread : Thread) → IsAt machine script crew → of_thread machine.shared.threads (suc (suc place)) ≡ Some thread → IsSome (asked machine (suc (suc place)))
+asks-server machine script crew place thread at there = go (slice_get crew.servers place) refl
+  where
+    go : (found : Option Serving) → slice_get crew.servers place ≡ found → IsSome (asked machine (suc (suc place)))
+    go None past =
+        let none : slice_get at.rows place ≡ None = serving-past at.rows at.others crew.servers place at.serving past in
+        let row : slice_get at.rows place ≡ Some thread = rw at.threads at there in
+        absurd (cc (sym none ∙ row))
+    go (Some server) is =
+        let one = serving-at at.rows at.others crew.servers place server at.serving is in
+        rw (asked-server machine script crew place server at is) (some-request Take (first server.left) (puts-other one.is.commands server.left one.is.plain))
+
+asks-all : (machine : Machine) (script : List ℕ) (crew : Crew) → IsAt machine script crew → (number : ℕ) (thread : Thread) → of_thread machine.shared.threads number ≡ Some thread → thread.life ≡ Live → IsSome (asked machine number)
+asks-all machine script crew at zero thread there lives = cc
+asks-all machine script crew at (suc zero) thread there lives = asks-main machine script crew at
+asks-all machine script crew at (suc (suc place)) thread there lives = asks-server machine script crew place thread at there
+
+pub not-stuck : NotStuckLaw
+not-stuck beginning schedule machine plain ran over = elim (plain-reaches beginning schedule machine plain ran) [
+  | inl on ↦ record { main = main-can machine beginning.script on.crew on.at; asks = asks-all machine beginning.script on.crew on.at }
+  | inr end ↦ absurd (cc (sym over ∙ end.2.over))
+]
+
+-- ---- scripts of `puts` commands alone ----
+
+words-script : (words : List (List ℕ)) (text : List ℕ) → PutsWords words text → IsScript 0 0 (length words) text
+words-script [] text (no_words e) = ends e
+words-script (word ∷ words) text (one_more {rest = rest} e more) = puts e (words-script words rest more)
+
+-- the run from here is over with 0, and writes these words
+record WritesFrom (machine : Machine) (threads out : List ℕ) : Type 0 where
+  machine_after : Machine
+  ran : run_from machine threads ≡ Some machine_after
+  over : machine_after.shared.over ≡ Some 0
+  wrote : machine_after.shared.out ≡ machine.shared.out ++ out
+
+writes-from : (words : List (List ℕ)) (machine : Machine) (script : List ℕ) (crew : Crew) → IsAt machine script crew → PutsWords words crew.main → WritesFrom machine (replicate (suc (length words)) 1) (lines_of words)
+writes-from [] machine script crew at (no_words e) =
+    let end = main-ends machine script crew at e in
+    record { machine_after = end.next; ran = rw end.is refl; over = end.over; wrote = end.out ∙ sym (append-nil machine.shared.out) }
+writes-from (word ∷ words) machine script crew at (one_more {rest = rest} e more) =
+    let to = main-writes machine script crew word rest at e in
+    let last = writes-from words to.next script (record { main = rest; servers = crew.servers }) to.at more in
+    record {
+      machine_after = last.machine_after;
+      ran = rw to.is last.ran;
+      over = last.over;
+      wrote = last.wrote ∙ (ap (λ (bytes : List ℕ). bytes ++ lines_of words) to.out ∙ append_assoc machine.shared.out (word ++ 10 ∷ []) (lines_of words));
+    }
+
+words-begin : (beginning : Beginning) (words : List (List ℕ)) → PutsWords words beginning.script → IsAt (start_machine beginning) beginning.script (record { main = beginning.script; servers = [] })
+words-begin beginning words are = record {
+  over = refl;
+  rows = [];
+  before = [];
+  others = [];
+  threads = refl;
+  replies = refl;
+  doing = refl;
+  serving = tt;
+  creates = 0;
+  commands = length words;
+  plain = words-script words beginning.script are;
+  few = omega arith;
+}
+
+pub puts-run : PutsRunLaw
 unfolding run
-no-refusal beginning schedule machine plain ran =
-    run-granted (start_machine beginning) machine beginning.script (record { main = beginning.script; servers = [] }) schedule (begins-at beginning plain) ran
+puts-run beginning words are =
+    let last = writes-from words (start_machine beginning) beginning.script (record { main = beginning.script; servers = [] }) (words-begin beginning words are) are in
+    record { machine = last.machine_after; ran = last.ran; over = last.over; wrote = last.wrote }

@@ -1,19 +1,16 @@
-use Rattle.std.proofs.Common.{◌≡◌, ◌≢◌, ◌∙◌, ◌<◌, ◌≤◌, ◌+◌, ◌-◌, ◌^◌, ℕ, zero, suc, Bool, true, false, List, [], ◌∷◌, ◌++◌, length, map, slice_get, slice_set, Option, Some, None, IsSome, ap, refl, sym, arith, inl, inr, subst}
-use Rattle.std.specs.Fmt.{decimal}
+use Rattle.std.proofs.Common.{◌≡◌, ◌≢◌, ◌∙◌, ◌≤◌, ◌-◌, ℕ, zero, suc, true, false, List, [], ◌∷◌, ◌++◌, length, map, slice_get, slice_set, Option, Some, None, IsSome, ap, refl, sym, arith, inl, inr, subst}
 use Rattle.std.proofs.lemmas.Fmt.{decimal_injective}
-use Rattle.std.proofs.lemmas.Option.{slice_get_within, slice_get_past}
-use Rattle.tt_schedule.specs.ScheduleText.{IsInRange, most_steps}
 use Rattle.tt_plain.specs.PlainScript.{Command, Puts, First, Nothing, Found, Other, first, thread_id, most_creates}
 use Rattle.tt_plain.specs.PlainScript as plain
 use Rattle.tt_core.specs.declared.action.Action.{Action}
 use Rattle.tt_core.specs.declared.action.Action.TheVariants as actions
 use Rattle.tt_core.specs.declared.effect.Effect.{Effect}
 use Rattle.tt_core.specs.declared.effect.Effect.TheVariants as effects
-use Rattle.tt_core.specs.Machine.{Machine, Event, Thread, Request, WriteOut, Create, Send, Take, End, asked, asked_of, request_or, step, is_enabled, is_some_event, has_event, of_thread}
-use Rattle.tt_core.specs.Steps.{Serving, Crew, IsNext, IsCommandOf, HasCommand, Acts, HasNoTarget, MainSteps, MainCannot, ServerSteps, takes, writes, ServerAtSteps, ServerAtCannot, CrewSteps, CrewCannot, HasMore, ServerHasMore, IsBusy, IsBusyWith, CanServe, CanTry, last_of}
-use Rattle.tt_core.specs.Standing.{IsServing, IsAt, script_of}
+use Rattle.tt_core.specs.Machine.{Machine, Event, Take, End, asked_of, request_or, step, is_enabled, is_some_event, has_event, of_thread}
+use Rattle.tt_core.specs.Steps.{Serving, Crew, IsNext, IsCommandOf, Acts, HasNoTarget, ServerSteps, takes, writes, ServerAtCannot, CrewSteps, CrewCannot, HasMore, IsBusy, IsBusyWith, CanTry, last_of}
+use Rattle.tt_core.specs.Standing.{IsAt, script_of}
 use Rattle.tt_core.proofs.CrewLemmas.{last-is}
-use Rattle.tt_core.proofs.PlainLemmas.{PutsNext, puts-next, puts-other, SendNext, script-send, script-other}
+use Rattle.tt_core.proofs.PlainLemmas.{puts-next, puts-other, script-send, script-other}
 use Rattle.tt_core.proofs.ServingLemmas.{serving-at}
 use Rattle.tt_core.proofs.StepLemmas.{IsStepped, IsEnded, asked-main, asked-server, asked-past, step-asked, step-disabled, step-unasked, main-ends, main-writes, main-creates, main-sends, server-takes, server-writes}
 
@@ -67,7 +64,7 @@ command-enabled machine thread (Puts word) = refl
 command-enabled machine thread plain.Create = refl
 command-enabled machine thread (plain.Send id script) = refl
 
-main-can : (machine : Machine) (script : List ℕ) (crew : Crew) → IsAt machine script crew → IsSome (step machine 1)
+pub main-can : (machine : Machine) (script : List ℕ) (crew : Crew) → IsAt machine script crew → IsSome (step machine 1)
 main-can machine script crew at = go (first crew.main) refl
   where
     go : (read : First) → first crew.main ≡ read → IsSome (step machine 1)

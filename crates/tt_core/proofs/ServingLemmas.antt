@@ -1,12 +1,11 @@
-use Rattle.std.proofs.Common.{◌≡◌, ◌≢◌, ◌∙◌, ◌<◌, ◌≤◌, ◌+◌, ◌^◌, ℕ, zero, suc, Bool, true, false, ◌&&◌, List, [], ◌∷◌, ◌++◌, length, map, slice_get, slice_set, Option, Some, None, option_and_then, if◌then◌else◌, codes, ap, refl, sym, arith}
-use Rattle.std.specs.Fmt.{decimal}
+use Rattle.std.proofs.Common.{◌≡◌, ◌≢◌, ◌<◌, ◌≤◌, ◌+◌, ◌^◌, ℕ, zero, suc, Bool, true, false, List, [], ◌∷◌, ◌++◌, length, slice_get, slice_set, Option, Some, None, option_and_then, if◌then◌else◌, ap, refl, arith}
 use Rattle.std.specs.Bool.{Decides}
 use Rattle.std.specs.Str.{bytes_eq}
 use Rattle.std.proofs.lemmas.Fmt.{decimal_injective}
 use Rattle.std.proofs.lemmas.Slice.Eq.{bytes_eq-Decides}
 use Rattle.tt_plain.specs.PlainScript.{thread_id}
-use Rattle.tt_core.specs.Machine.{Thread, Reply, Life, Live, Wait, Doing, Serves, Start, living, is_live, linked_from, for_each, after_reply, after_replies}
-use Rattle.tt_core.specs.Steps.{Serving, idle}
+use Rattle.tt_core.specs.Machine.{Thread, Reply, Live, Doing, living, is_live, linked_from, for_each, after_reply, after_replies}
+use Rattle.tt_core.specs.Steps.{Serving}
 use Rattle.tt_core.specs.Standing.{IsServing, AreServing}
 
 -- ---- one more reply ----

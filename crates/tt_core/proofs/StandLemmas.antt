@@ -1,7 +1,8 @@
-use Rattle.std.proofs.Common.{◌≡◌, ◌≢◌, ◌∙◌, ◌≤◌, ◌+◌, ℕ, List, [], ◌∷◌, ◌++◌, Option, Some, None, IsSome, IsNone, option_and_then, ap, refl, sym, subst, append-nil, append_assoc, arith, inl, inr, Bool, true, false, IsTrue, length}
-use Rattle.tt_devices.specs.Streams.{Grows, GrowsByPart, Grows-same, Grows-append}
+use Rattle.std.proofs.Common.{◌≡◌, ◌∙◌, ℕ, List, [], ◌∷◌, ◌++◌, Option, Some, None, IsSome, IsNone, option_and_then, ap, refl, sym, append-nil, append_assoc, arith, inl, inr, Bool, true, false, IsTrue}
+use Rattle.tt_devices.specs.Streams.{Grows, GrowsByPart}
+use Rattle.tt_devices.proofs.StreamLemmas.{Grows-append, Grows-same}
 use Rattle.std.proofs.lemmas.Option.{slice_get_within}
-use Rattle.tt_schedule.specs.ScheduleText.{IsInRange}
+use Rattle.tt_text.specs.ThreadNumbers.{IsInRange}
 use Rattle.tt_plain.specs.PlainScript.{IsPlain, most_creates}
 use Rattle.tt_core.specs.declared.effect.Effect.{Effect}
 use Rattle.tt_core.specs.declared.effect.Effect.TheVariants as effects
@@ -11,7 +12,7 @@ use Rattle.tt_core.specs.Machine.{Beginning, Machine, start_machine, step, run_f
 use Rattle.tt_core.specs.Stage.{WritesOut}
 use Rattle.tt_core.specs.Standing.{IsAt, IsStanding}
 use Rattle.tt_core.specs.Steps.{Crew, CrewSteps, CrewCannot, HasMore, CanTry}
-use Rattle.tt_core.proofs.StepLemmas.{IsStepped, IsEnded, step-over}
+use Rattle.tt_core.proofs.StepLemmas.{step-over}
 use Rattle.tt_core.proofs.RunLemmas.{steps-to, cannot-step, can-more, can-try, cannot-try}
 
 -- a step and nothing after it

@@ -1,16 +1,14 @@
-use Rattle.std.proofs.Common.{◌≡◌, ◌≢◌, ◌∙◌, ◌<◌, ◌≤◌, ◌+◌, ◌^◌, ℕ, zero, suc, Bool, true, false, nat_lt, List, [], ◌∷◌, ◌++◌, length, map, slice_get, slice_set, Option, Some, None, IsSome, option_and_then, ap, refl, sym, arith, inl, inr, append-nil, subst}
+use Rattle.std.proofs.Common.{◌≡◌, ◌∙◌, ◌<◌, ℕ, suc, true, false, nat_lt, List, [], ◌∷◌, ◌++◌, length, map, slice_get, slice_set, Some, None, ap, refl, sym, arith, append-nil, subst}
 use Rattle.std.proofs.lemmas.Bool.{lt-ltb}
 use Rattle.std.proofs.lemmas.List.{length_push, length-set}
 use Rattle.std.proofs.lemmas.Option.{slice_get_within}
 use Rattle.tt_plain.specs.PlainScript.{Command, Puts, First, Nothing, Found, Other, first, thread_id, IsPutsList, puts_end, IsScript, most_creates}
 use Rattle.tt_plain.specs.PlainScript as plain
-use Rattle.tt_core.specs.declared.effect.Effect.{Effect}
-use Rattle.tt_core.specs.declared.effect.Effect.TheVariants as effects
-use Rattle.tt_core.specs.Machine.{Machine, Shared, Thread, Event, Sent, Reply, Go, Value, Posted, Taken, Request, WriteOut, Create, Send, Take, End, Script, Wait, Live, Evaluates, Serves, request_or, asked, asked_by, next_request, act, after_answer, step, is_enabled, of_thread, has_event, living, most_living, linked, sends, takes, for_each}
+use Rattle.tt_core.specs.Machine.{Machine, Shared, Thread, Event, Sent, Reply, Go, Value, Posted, Taken, Request, WriteOut, Create, Send, Take, End, Script, Wait, Live, Evaluates, Serves, request_or, asked, asked_by, act, after_answer, step, is_enabled, of_thread, living, most_living, linked, sends, takes, for_each}
 use Rattle.tt_core.specs.Steps.{Serving, Crew, idle}
 use Rattle.tt_core.specs.Standing.{IsServing, AreServing, IsAt, ArePutsLists, script_of}
-use Rattle.tt_core.proofs.PlainLemmas.{PutsNext, puts-next, puts-other, ScriptNext, script-puts, CreateNext, script-create, SendNext, script-send, script-other}
-use Rattle.tt_core.proofs.ServingLemmas.{doing-more, ServingAt, serving-at, serving-past, serving-set, set-same, serving-add, for_each-same, serving-length, living-few, linked-at, linked-past}
+use Rattle.tt_core.proofs.PlainLemmas.{puts-next, script-puts, script-create, script-send}
+use Rattle.tt_core.proofs.ServingLemmas.{doing-more, serving-at, serving-past, serving-set, set-same, serving-add, for_each-same, serving-length, living-few, linked-at, linked-past}
 
 -- ---- what threads ask ----
 

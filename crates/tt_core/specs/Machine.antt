@@ -1,6 +1,6 @@
 -- The machine that a script runs on: what threads ask, what they are answered, and what that does to what they share
 -- (thread(n), puts(n), exit(n)).
-use Rattle.std.specs.Prelude.{ℕ, zero, suc, ◌-◌, ◌%◌, Bool, true, false, ◌&&◌, ◌==◌, nat_lt, List, [], ◌∷◌, ◌++◌, length, codes, Option, Some, None, slice_get, slice_set, if◌then◌else◌, option_and_then}
+use Rattle.std.specs.Prelude.{ℕ, zero, suc, ◌%◌, Bool, true, false, ◌&&◌, ◌==◌, nat_lt, List, [], ◌∷◌, ◌++◌, length, codes, Option, Some, None, slice_get, slice_set, if◌then◌else◌, option_and_then}
 use Rattle.std.specs.Str.{bytes_eq}
 use Rattle.tt_plain.specs.PlainScript.{Command, Puts, First, Nothing, Found, Other, first, thread_id}
 use Rattle.tt_plain.specs.PlainScript as plain
@@ -69,9 +69,9 @@ pub data Doing : Type 0 where
   Serves : (left : List ℕ) → Doing
 
 -- what a thread is at when it begins
-abbrev pub beginning_of : Start → Doing
-beginning_of (Script text) = Evaluates text
-beginning_of Wait = Serves []
+abbrev pub first_doing : Start → Doing
+first_doing (Script text) = Evaluates text
+first_doing Wait = Serves []
 
 -- what a command asks (puts(n), thread(n))
 abbrev pub asked_of : Command → Request
@@ -116,7 +116,7 @@ after_replies doing (reply ∷ replies) = option_and_then (λ next. after_replie
 
 -- the request that a thread makes after these replies; none after its end
 abbrev pub next_request : Start → List Reply → Option Request
-next_request start replies = option_and_then request_of (after_replies (beginning_of start) replies)
+next_request start replies = option_and_then request_of (after_replies (first_doing start) replies)
 
 -- ---- what is shared ----
 
@@ -217,16 +217,16 @@ takes_of shared number None = record { shared = shared; reply = None }
 takes_of shared number (Some thread) = takes shared number thread thread.queue
 
 -- the end of thread 1 is the end of the run, whatever the others have left
-abbrev pub over_after : Option ℕ → ℕ → ℕ → Option ℕ
-over_after over thread code = if thread == 1 then Some (code % 256) else over
+abbrev pub over_with : Option ℕ → ℕ → ℕ → Option ℕ
+over_with over thread code = if thread == 1 then Some (code % 256) else over
 
 -- an ended thread has its code, and an empty queue
-abbrev pub with_ended : List Thread → ℕ → ℕ → Option Thread → List Thread
-with_ended threads number code None = threads
-with_ended threads number code (Some thread) = with_thread threads number (record { start = thread.start; life = Ended code; queue = [] })
+abbrev pub with_end_of : List Thread → ℕ → ℕ → Option Thread → List Thread
+with_end_of threads number code None = threads
+with_end_of threads number code (Some thread) = with_thread threads number (record { start = thread.start; life = Ended code; queue = [] })
 
-abbrev pub ended : List Thread → ℕ → ℕ → List Thread
-ended threads number code = with_ended threads number code (of_thread threads number)
+abbrev pub with_end : List Thread → ℕ → ℕ → List Thread
+with_end threads number code = with_end_of threads number code (of_thread threads number)
 
 abbrev pub act : Shared → ℕ → Request → Answered
 act shared thread (WriteOut text) = record { shared = record shared { out = shared.out ++ text }; reply = Some Go }
@@ -234,7 +234,7 @@ act shared thread Create = if nat_lt (living shared.threads) most_living then cr
 act shared thread (Send id script) = sends_to shared thread id script (linked shared.threads id)
 act shared thread Take = takes_of shared thread (of_thread shared.threads thread)
 act shared thread (End code) = record {
-  shared = record shared { over = over_after shared.over thread code; threads = ended shared.threads thread code };
+  shared = record shared { over = over_with shared.over thread code; threads = with_end shared.threads thread code };
   reply = None;
 }
 

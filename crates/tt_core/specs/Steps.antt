@@ -1,6 +1,6 @@
 -- The threads of a plain script as the code has them, and what one step does to them.
-use Rattle.std.specs.Prelude.{◌≡◌, ◌≢◌, ◌⊎◌, ℕ, suc, ◌-◌, List, [], ◌∷◌, ◌++◌, length, drop, Option, Some, None, slice_get, slice_set}
-use Rattle.tt_schedule.specs.ScheduleText.{IsInRange}
+use Rattle.std.specs.Prelude.{◌≡◌, ◌≢◌, ◌⊎◌, ℕ, suc, ◌-◌, List, [], ◌∷◌, ◌++◌, length, drop, Some, None, slice_get, slice_set}
+use Rattle.tt_text.specs.ThreadNumbers.{IsInRange}
 use Rattle.tt_plain.specs.PlainScript.{Command, Puts, First, Nothing, Found, Other, first, thread_id, IsSuffix}
 use Rattle.tt_plain.specs.PlainScript as plain
 use Rattle.tt_core.specs.declared.action.Action.{Action}

@@ -144,9 +144,9 @@ impl Crew {
         if number < FIRST_SERVER {
             return Err(Refusal::NotEnabled);
         }
-        match self.servers.get_mut((number - FIRST_SERVER) as usize) {
-            Some(server) => server.send(script),
-            None => Err(Refusal::NotEnabled),
-        }
+        let Some(server) = self.servers.get_mut((number - FIRST_SERVER) as usize) else {
+            return Err(Refusal::NotEnabled);
+        };
+        server.send(script)
     }
 }

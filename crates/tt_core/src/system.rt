@@ -1,6 +1,7 @@
-ghost use Rattle.std.specs.Prelude.{◌≡◌, ◌<◌, ◌++◌, ◌∷◌, [], ◌↔◌, ◌⊎◌, ℕ, Option, Some, None, Err, IsTrue, IfOk, IfErr, OnOk, IsErrOf, IsNone, IfSome, length};
+ghost use Rattle.std.specs.Prelude.{◌≡◌, ◌≢◌, ◌≤◌, ◌<◌, ◌++◌, ◌∷◌, [], ◌↔◌, ◌⊎◌, ℕ, Option, Some, None, Err, IsTrue, IfOk, IfErr, OnOk, IsErrOf, IsNone, IfSome, length};
 ghost use Rattle.tt_devices.specs.Faults.{Rises, greatest_count};
-ghost use Rattle.tt_schedule.specs.ScheduleText.{IsInRange, most_steps};
+ghost use Rattle.tt_schedule.specs.ScheduleText.{most_steps};
+ghost use Rattle.tt_text.specs.ThreadNumbers.{IsInRange};
 ghost use Rattle.tt_plain.specs.PlainScript.{IsPlain};
 
 use crate::crew::Crew;
@@ -66,9 +67,10 @@ impl<S: Source, K: Sink, E: Sink> Model for System<S, K, E> {
 }
 
 impl<S: Source, K: Sink, E: Sink> System<S, K, E> {
-    ghost use Rattle.tt_core.specs.Stage.{Stage, CanStep, SameBeginning, IsFaithful, over_of, next_of, machine_of, WritesOut};
+    ghost use Rattle.tt_core.specs.Stage.{Stage, CanStep, SameBeginning, IsFaithful, over_of, next_of, machine_of, plain_units, WritesOut};
 
-    /// A run of this script over these devices, with no step taken.
+    /// A run of this script over these devices, with no step taken. The limit is one that no thread of a plain script
+    /// meets.
     ///
     /// `NewFault` where memory is refused, with the devices as they were given.
     pub fn new(
@@ -78,7 +80,8 @@ impl<S: Source, K: Sink, E: Sink> System<S, K, E> {
         output: K,
         errors: E,
     ) -> Result<Self, NewFault<S, K, E>>
-        requires { IsPlain setup.script }
+        requires plain { IsPlain setup.script }
+        requires ample { plain_units ≤ setup.limit }
         ensures script { IfOk result (λ system. system.beginning ≡ record {
           script = setup.script;
           name = setup.name;
@@ -128,8 +131,8 @@ impl<S: Source, K: Sink, E: Sink> System<S, K, E> {
     ///
     /// `NotEnabled` exactly where the machine can't step the thread and no fault is kept; then nothing changes.
     /// `WriteFault` only where standard output's count of faults rose in this step; then the entry was added, and a
-    /// first part of the piece was put. `NoMemory` where memory is refused; then no entry was added. After these two
-    /// the system does nothing more, and each later step answers the same.
+    /// first part of the piece was put. `NoMemory` where memory is refused; then no entry was added and nothing was put.
+    /// After these two the system does nothing more, and each later step answers the same.
     pub fn step(&mut self, thread: u32) -> Result<(), StepFault>
         requires { length self.old.schedule < most_steps }
 
@@ -151,11 +154,12 @@ impl<S: Source, K: Sink, E: Sink> System<S, K, E> {
         ensures entry_added { IsErrOf result StepFault.WriteFault → self.old.kept ≡ None →
             self.new.schedule ≡ self.old.schedule ++ thread ∷ [] }
         ensures no_entry { IsErrOf result StepFault.NoMemory → self.new.schedule ≡ self.old.schedule }
+        ensures no_piece { IsErrOf result StepFault.NoMemory → self.new.output ≡ self.old.output }
 
         // What stays.
         ensures same_beginning { SameBeginning self.old self.new }
         ensures same_devices { (self.new.input ≡ self.old.input) × (self.new.errors ≡ self.old.errors) }
-        ensures steady { OnOk result (K.fault_count self.new.output ≡ K.fault_count self.old.output) }
+        ensures steady { (result ≢ Err StepFault.WriteFault) → K.fault_count self.new.output ≡ K.fault_count self.old.output }
     {
         match self.standing {
             Standing::Failed(fault) => return Err(fault),

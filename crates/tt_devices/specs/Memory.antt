@@ -1,4 +1,4 @@
-use Rattle.std.specs.Prelude.{◌≡◌, true, false, ℕ, zero, suc, ◌+◌, nat_lt, List, [], ◌∷◌, Option, Some, None, if◌then◌else◌}
+use Rattle.std.specs.Prelude.{◌≡◌, Bool, true, false, ℕ, zero, suc, ◌+◌, nat_lt, List, [], ◌∷◌, Contains, Option, Some, None, if◌then◌else◌}
 use Rattle.tt_devices.specs.Faults.{greatest_count}
 use Rattle.std.specs.Str.{bytes_eq}
 
@@ -15,6 +15,14 @@ fresh_plan failing = record { failing = failing; calls = 0; faults = 0 }
 -- one more, up to the greatest count
 abbrev pub one_more : ℕ → ℕ
 one_more count = if nat_lt count greatest_count then count + 1 else count
+
+-- the next call is one of those that fail
+abbrev pub FailsNext : Plan → Type 0
+FailsNext plan = Contains plan.failing (one_more plan.calls)
+
+-- the plan after one more call, which failed or did not
+abbrev pub after_call : Plan → Bool → Plan
+after_call plan failed = record plan { calls = one_more plan.calls; faults = if failed then one_more plan.faults else plan.faults }
 
 -- a source in memory: what is left of its bytes
 pub record Supply : Type 0 where

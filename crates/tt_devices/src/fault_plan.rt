@@ -1,6 +1,6 @@
-ghost use Rattle.std.specs.Prelude.{◌≡◌, ◌↔◌, IsTrue, Contains};
+ghost use Rattle.std.specs.Prelude.{◌≡◌, ◌↔◌, IsTrue};
 ghost use Rattle.tt_devices.specs.Faults.{Rises};
-ghost use Rattle.tt_devices.specs.Memory.{fresh_plan, one_more};
+ghost use Rattle.tt_devices.specs.Memory.{FailsNext, fresh_plan, one_more};
 
 use std::marker::Model;
 
@@ -41,7 +41,7 @@ impl FaultPlan {
 
     /// Counts one more call, and tells whether it is to fail.
     pub fn count_call(&mut self) -> bool
-        ensures planned { IsTrue result ↔ Contains self.old.failing (one_more self.old.calls) }
+        ensures planned { IsTrue result ↔ FailsNext self.old }
         ensures counted { self.new ≡ record self.old { calls = one_more self.old.calls } }
     {
         self.calls = self.calls.saturating_add(1);

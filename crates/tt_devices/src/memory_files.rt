@@ -1,6 +1,6 @@
-ghost use Rattle.std.specs.Prelude.{◌≡◌, ◌≢◌, ◌++◌, ℕ, List, [], ◌∷◌, ◌<◌, length, Option, IfOk, IfSome, IfNone, OnOk, OnErr, IsErrOf, IsErr, Contains, Some, None, slice_index_or};
+ghost use Rattle.std.specs.Prelude.{◌≡◌, ◌≢◌, ◌⊎◌, ℕ, List, [], ◌<◌, length, true, false, Option, IfOk, IfSome, IfNone, OnOk, OnErr, IsErrOf, IsErr, is_err, Some, None, Err};
 ghost use Rattle.tt_devices.specs.Faults.{Rises};
-ghost use Rattle.tt_devices.specs.Memory.{fresh_plan, one_more, bytes_under, IsFirstNamed};
+ghost use Rattle.tt_devices.specs.Memory.{FailsNext, IsFirstNamed, after_call, bytes_under, fresh_plan};
 ghost use Rattle.tt_devices.specs.Names.{Tells, HasName, KeepsOthers};
 
 use crate::fault_plan::FaultPlan;
@@ -126,7 +126,22 @@ impl Files for MemoryFiles {
         self.writes.faults()
     }
 
-    fn read(&mut self, alloc: Global, name: &str) -> Result<Vec<u8>, ReadAnswer> {
+    fn read(&mut self, alloc: Global, name: &str) -> Result<Vec<u8>, ReadAnswer>
+        ensures found { IfOk result (λ bytes. Tells (Some (bytes_under self.old.files)) name.now (Some bytes.items)) }
+        ensures missing { IsErrOf result ReadAnswer.Missing → Tells (Some (bytes_under self.old.files)) name.now None }
+        ensures not_missing { IsErrOf result ReadAnswer.Failed → HasName (Some (bytes_under self.old.files)) name.now }
+        ensures same { Some (bytes_under self.new.files) ≡ Some (bytes_under self.old.files) }
+        ensures cause { IsErrOf result ReadAnswer.Failed → Rises self.old.reads.faults self.new.reads.faults }
+        ensures steady { (result ≢ Err ReadAnswer.Failed) → self.new.reads.faults ≡ self.old.reads.faults }
+        ensures no_write { self.new.writes.faults ≡ self.old.writes.faults }
+
+        // Which calls fail, and what that leaves.
+        ensures planned { FailsNext self.old.reads → IsErrOf result ReadAnswer.Failed ⊎ IsErrOf result ReadAnswer.Missing }
+        ensures not_planned { IsErrOf result ReadAnswer.Failed → FailsNext self.old.reads }
+        ensures failed { IsErrOf result ReadAnswer.Failed → self.new.reads ≡ after_call self.old.reads true }
+        ensures counted { (result ≢ Err ReadAnswer.Failed) → self.new.reads ≡ after_call self.old.reads false }
+        ensures others { (self.new.files ≡ self.old.files) × (self.new.writes ≡ self.old.writes) }
+    {
         let fails = self.reads.count_call();
         let Some(bytes) = self.bytes(name) else {
             return Err(ReadAnswer::Missing);
@@ -138,7 +153,19 @@ impl Files for MemoryFiles {
         Vec::from_slice(alloc, bytes).map_err(|_| ReadAnswer::NoMemory)
     }
 
-    fn write(&mut self, name: &str, bytes: &[u8]) -> Result<(), Failed> {
+    fn write(&mut self, name: &str, bytes: &[u8]) -> Result<(), Failed>
+        ensures written { OnOk result (Tells (Some (bytes_under self.new.files)) name.now (Some bytes.now)) }
+        ensures others { KeepsOthers (Some (bytes_under self.old.files)) (Some (bytes_under self.new.files)) name.now }
+        ensures cause { OnErr result (Rises self.old.writes.faults self.new.writes.faults) }
+        ensures steady { OnOk result (self.new.writes.faults ≡ self.old.writes.faults) }
+        ensures no_read { self.new.reads.faults ≡ self.old.reads.faults }
+
+        // Which calls fail, and what that leaves.
+        ensures planned { FailsNext self.old.writes → IsErr result }
+        ensures plan { self.new.writes ≡ after_call self.old.writes (is_err result) }
+        ensures reads { self.new.reads ≡ self.old.reads }
+        ensures unchanged { OnErr result (self.new.files ≡ self.old.files) }
+    {
         if self.writes.count_call() {
             self.writes.count_fault();
             return Err(Failed);

@@ -1,6 +1,6 @@
-ghost use Rattle.std.specs.Prelude.{◌≡◌, ◌++◌, OnOk, OnErr, IsErr, [], Contains, Some};
+ghost use Rattle.std.specs.Prelude.{◌≡◌, ◌++◌, OnOk, OnErr, IsErr, is_err, [], Some};
 ghost use Rattle.tt_devices.specs.Faults.{Rises};
-ghost use Rattle.tt_devices.specs.Memory.{fresh_plan, one_more};
+ghost use Rattle.tt_devices.specs.Memory.{FailsNext, after_call, fresh_plan, one_more};
 ghost use Rattle.tt_devices.specs.Streams.{Grows, GrowsByPart};
 
 use crate::fault_plan::FaultPlan;
@@ -71,7 +71,8 @@ impl Sink for MemorySink {
         ensures part { OnErr result (GrowsByPart (Some self.old.got) (Some self.new.got) piece.now) }
         ensures steady { OnOk result (self.new.plan.faults ≡ self.old.plan.faults) }
         ensures cause { OnErr result (Rises self.old.plan.faults self.new.plan.faults) }
-        ensures planned { Contains self.old.plan.failing (one_more self.old.plan.calls) → IsErr result }
+        ensures planned { FailsNext self.old.plan → IsErr result }
+        ensures plan { self.new.plan ≡ after_call self.old.plan (is_err result) }
     {
         if self.plan.count_call() {
             self.plan.count_fault();

@@ -1,7 +1,7 @@
-ghost use Rattle.std.specs.Prelude.{◌≡◌, ◌≤◌, length, IfOk, OnOk, OnErr, IsErr, [], ◌↔◌, Contains, Some, take, ◌⊎◌};
+ghost use Rattle.std.specs.Prelude.{◌≡◌, ◌≤◌, ◌<◌, length, IfOk, OnOk, OnErr, IsErr, is_err, [], ◌↔◌, Some, take};
 ghost use Rattle.tt_devices.specs.Faults.{Rises};
-ghost use Rattle.tt_devices.specs.Memory.{fresh_plan, one_more};
-ghost use Rattle.tt_devices.specs.Streams.{Takes};
+ghost use Rattle.tt_devices.specs.Memory.{FailsNext, after_call, fresh_plan};
+ghost use Rattle.tt_devices.specs.Streams.{Fills, Stays};
 
 use crate::fault_plan::FaultPlan;
 use crate::{Failed, Source};
@@ -50,11 +50,12 @@ impl Source for MemorySource {
 
     fn take(&mut self, room: &mut [u8]) -> Result<usize, Failed>
         ensures within { IfOk result (λ count. count ≤ length room.new) }
-        ensures taken { IfOk result (Takes (Some self.old.left) (Some self.new.left) room.new) }
+        ensures taken { IfOk result (Fills (Some self.old.left) (Some self.new.left) room.new) }
         ensures steady { OnOk result (self.new.plan.faults ≡ self.old.plan.faults) }
         ensures cause { OnErr result (Rises self.old.plan.faults self.new.plan.faults) }
-        ensures nothing_taken { OnErr result (Some self.new.left ≡ Some self.old.left) }
-        ensures planned { IsErr result ↔ Contains self.old.plan.failing (one_more self.old.plan.calls) }
+        ensures nothing_taken { OnErr result (Stays (Some self.old.left) (Some self.new.left)) }
+        ensures planned { IsErr result ↔ FailsNext self.old.plan }
+        ensures plan { self.new.plan ≡ after_call self.old.plan (is_err result) }
     {
         if self.plan.count_call() {
             self.plan.count_fault();
@@ -71,7 +72,7 @@ impl Source for MemorySource {
 fn fill(room: &mut [u8], bytes: &[u8]) -> usize
     ensures within { (result ≤ length room.new) × (result ≤ length bytes.now) }
     ensures filled { take result room.new ≡ take result bytes.now }
-    ensures none { result ≡ 0 → (length room.new ≡ 0) ⊎ (bytes.now ≡ []) }
+    ensures none { result ≡ 0 → 0 < length room.new → bytes.now ≡ [] }
 {
     let count = bytes.len().min(room.len());
     room[..count].copy_from_slice(&bytes[..count]);

@@ -1,9 +1,11 @@
-ghost use Rattle.std.specs.Prelude.{◌≡◌, None};
+ghost use Rattle.std.specs.Prelude.{◌≡◌, ◌≢◌, ◌≤◌, ◌++◌, None, Err, IfOk, OnOk, OnErr, IsErrOf, vec_len};
+ghost use Rattle.tt_devices.specs.Faults.{Rises};
+ghost use Rattle.tt_devices.specs.Streams.{Empties, LosesPart};
 
 use crate::std_streams::{read_some, write_whole};
 use crate::{Failed, Files, ReadAnswer};
 use std::alloc::Global;
-use std::io::ErrorKind;
+use std::io::{ErrorKind, Read};
 use std::marker::Model;
 use std::rt::Files as FileSystem;
 use std::{fs, io};
@@ -58,7 +60,12 @@ impl<R: FileSystem + Drop> Files for RealFiles<R> {
         self.write_faults
     }
 
-    fn read(&mut self, alloc: Global, name: &str) -> Result<Vec<u8>, ReadAnswer> {
+    fn read(&mut self, alloc: Global, name: &str) -> Result<Vec<u8>, ReadAnswer>
+        ensures few { IfOk result (λ bytes. vec_len bytes ≤ MOST_BYTES) }
+        ensures cause { IsErrOf result ReadAnswer.Failed → Rises self.old.0 self.new.0 }
+        ensures steady { (result ≢ Err ReadAnswer.Failed) → self.new.0 ≡ self.old.0 }
+        ensures no_write { self.new.1 ≡ self.old.1 }
+    {
         let answer = read_file(alloc, &self.system, name);
         if let Err(ReadAnswer::Failed) = answer {
             self.read_faults = self.read_faults.saturating_add(1);
@@ -76,12 +83,27 @@ impl<R: FileSystem + Drop> Files for RealFiles<R> {
 }
 
 /// The bytes of a file. One of more than `MOST_BYTES` bytes fails.
-fn read_file(alloc: Global, system: &impl FileSystem, name: &str) -> Result<Vec<u8>, ReadAnswer> {
+fn read_file(alloc: Global, system: &impl FileSystem, name: &str) -> Result<Vec<u8>, ReadAnswer>
+    ensures few { IfOk result (λ bytes. vec_len bytes ≤ MOST_BYTES) }
+{
     let mut file = fs::open(system, name).map_err(|error| open_answer(&error))?;
+    let bytes = read_whole(alloc, &mut file)?;
+    Ok(bytes)
+}
+
+/// All that the reader has left, each byte once and in order. More than `MOST_BYTES` bytes fail.
+fn read_whole<R: Read>(alloc: Global, reader: &mut R) -> Result<Vec<u8>, ReadAnswer>
+    ensures whole { IfOk result (λ bytes. Empties (R.remaining reader.old) (R.remaining reader.new) bytes.items) }
+    ensures few { IfOk result (λ bytes. vec_len bytes ≤ MOST_BYTES) }
+    ensures part { OnErr result (LosesPart (R.remaining reader.old) (R.remaining reader.new)) }
+    ensures not_missing { result ≢ Err ReadAnswer.Missing }
+{
     let mut bytes = Vec::new(alloc);
     let mut chunk = [0u8; CHUNK];
     for _ in 0..=MOST_BYTES {
-        let count = read_some(&mut file, &mut chunk).map_err(|_| ReadAnswer::Failed)?;
+        let Ok(count) = read_some(reader, &mut chunk) else {
+            return Err(ReadAnswer::Failed);
+        };
         if count == 0 {
             return Ok(bytes);
         }
@@ -100,7 +122,12 @@ fn open_answer(error: &io::Error) -> ReadAnswer {
 }
 
 /// Adds what was read, up to the most bytes of a file.
-fn keep(bytes: &mut Vec<u8>, piece: &[u8]) -> Result<(), ReadAnswer> {
+fn keep(bytes: &mut Vec<u8>, piece: &[u8]) -> Result<(), ReadAnswer>
+    requires { vec_len bytes.old ≤ MOST_BYTES }
+    ensures kept { OnOk result (bytes.new.items ≡ bytes.old.items ++ piece.now) }
+    ensures few { OnOk result (vec_len bytes.new ≤ MOST_BYTES) }
+    ensures not_missing { result ≢ Err ReadAnswer.Missing }
+{
     if piece.len() > MOST_BYTES.saturating_sub(bytes.len()) {
         return Err(ReadAnswer::Failed);
     }

@@ -1,6 +1,6 @@
 ghost use Rattle.std.specs.Prelude.{◌≡◌, ◌≤◌, ℕ, List, Option, length, IfOk, OnOk, OnErr};
 ghost use Rattle.tt_devices.specs.Faults.{Rises};
-ghost use Rattle.tt_devices.specs.Streams.{Takes};
+ghost use Rattle.tt_devices.specs.Streams.{Fills, Stays};
 
 use crate::Failed;
 
@@ -22,8 +22,8 @@ pub trait Source {
     /// `Failed` only where the count of faults rose; then nothing is taken.
     fn take(&mut self, room: &mut [u8]) -> Result<usize, Failed>
         ensures within { IfOk result (λ count. count ≤ length room.new) }
-        ensures taken { IfOk result (Takes (held self.old) (held self.new) room.new) }
+        ensures taken { IfOk result (Fills (held self.old) (held self.new) room.new) }
         ensures steady { OnOk result (fault_count self.new ≡ fault_count self.old) }
         ensures cause { OnErr result (Rises (fault_count self.old) (fault_count self.new)) }
-        ensures nothing_taken { OnErr result (held self.new ≡ held self.old) };
+        ensures nothing_taken { OnErr result (Stays (held self.old) (held self.new)) };
 }

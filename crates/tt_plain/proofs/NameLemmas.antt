@@ -2,7 +2,7 @@
 use Rattle.std.proofs.Common.{◌≡◌, ◌≤◌, ℕ, List, drop, sym, ◌∙◌, arith}
 use Rattle.std.specs.Fmt.{decimal}
 use Rattle.std.proofs.lemmas.Fmt.{decimal_injective}
-use Rattle.tt_schedule.specs.ScheduleText.{IsInRange}
+use Rattle.tt_text.specs.ThreadNumbers.{IsInRange}
 use Rattle.tt_plain.specs.PlainScript.{thread_id}
 use Rattle.tt_plain.specs.Counting.{IsSendable}
 

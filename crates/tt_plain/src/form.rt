@@ -1,11 +1,11 @@
 ghost use Rattle.std.specs.Prelude.{◌≡◌, ◌≢◌, ℕ, ◌≤◌, ◌+◌, ◌↔◌, IsTrue, IfSome, IfNone};
-ghost use Rattle.tt_schedule.specs.ScheduleText.{IsInRange};
+ghost use Rattle.tt_text.specs.ThreadNumbers.{IsInRange};
 ghost use Rattle.tt_plain.specs.PlainScript.{thread_id, IsPutsList, IsPlain};
 ghost use Rattle.tt_plain.specs.PlainCode.{command_of};
 ghost use Rattle.tt_plain.specs.Counting.{IsSendable, AreAfter};
 
 use crate::command::{Command, First, first_command};
-use tt_schedule::number_at;
+use tt_text::number_at;
 
 /// The most `thread::create` commands of a plain script.
 const MOST_CREATES: u32 = 999;

@@ -1,10 +1,11 @@
-use Rattle.std.proofs.Common.{◌≡◌, ◌≢◌, ◌≤◌, ℕ, zero, suc, List, [], ◌∷◌, ◌++◌, length, drop, refl, sym, ap, ◌∙◌, subst, arith, length-append}
+use Rattle.std.proofs.Common.{◌≡◌, ◌≢◌, ◌≤◌, ℕ, zero, suc, List, [], ◌∷◌, ◌++◌, length, drop, refl, sym, ap, ◌∙◌, subst, arith, append-nil, append_assoc, inl, inr, length-append}
 use lib.ListN.{replicate}
 use Rattle.std.specs.List.{flat_map, AllByRecursion}
 use Rattle.std.proofs.lemmas.List.{length-replicate}
 use Rattle.tt_schedule.specs.declared.line.Line.{Line}
-use Rattle.tt_schedule.specs.ScheduleText.{IsLine, NeighboursDiffer, steps_of, line_text, OneListLaw, OneTextLaw, heading}
-use Rattle.tt_schedule.proofs.ReadLemmas.{one-line, line-some, line_eq}
+use Rattle.std.proofs.lemmas.List.Concat.{flat_map-append}
+use Rattle.tt_schedule.specs.ScheduleText.{AreLines, IsLine, NeighboursDiffer, NoneFollows, steps_of, line_text, OneListLaw, OnePlaceLaw, OneTextLaw, heading}
+use Rattle.tt_schedule.proofs.ReadLemmas.{each-split, line-some, line_eq, one-line}
 
 -- one text, one list of lines
 lines-from-text : (xs ys : List Line) → AllByRecursion IsLine xs → AllByRecursion IsLine ys → flat_map line_text xs ≡ flat_map line_text ys → xs ≡ ys
@@ -81,3 +82,51 @@ pub one_text : OneTextLaw
 one_text text other threads a b =
     let lines = lines-from-steps a.lines b.lines a.are_lines.each b.are_lines.each a.are_lines.differ b.are_lines.differ (sym a.steps ∙ b.steps) in
     a.spelled ∙ (ap (λ (all : List Line). heading ++ flat_map line_text all) lines ∙ sym b.spelled)
+
+-- the first of some lines of a schedule are lines of one
+each-front : (xs ys : List Line) → AllByRecursion IsLine (xs ++ ys) → AllByRecursion IsLine xs
+each-front [] ys each = tt
+each-front (x ∷ xs) ys each = (each.0, each-front xs ys each.1)
+
+differ-front : (xs ys : List Line) → NeighboursDiffer (xs ++ ys) → NeighboursDiffer xs
+differ-front [] ys differ = tt
+differ-front (x ∷ []) ys differ = tt
+differ-front (x ∷ y ∷ xs) ys differ = (differ.0, differ-front (y ∷ xs) ys differ.1)
+
+front-lines : (xs ys : List Line) → AreLines (xs ++ ys) → AreLines xs
+front-lines xs ys are = record {
+  each = each-front xs ys are.each;
+  differ = differ-front xs ys are.differ;
+  few = omega (arith, are.few, ap length (flat_map-append (λ (l : Line). replicate l.steps l.thread) xs ys), length-append (steps_of xs) (steps_of ys));
+}
+
+-- lines after which one more may come are not followed by none
+none-then : (done ys : List Line) (y : Line) (p : List ℕ) (rest : List ℕ) → AreLines (done ++ y ∷ ys) → NoneFollows (done ++ []) p → p ≢ line_text y ++ rest
+none-then done ys y p rest are none e =
+    let more : AreLines ((done ++ y ∷ []) ++ ys) = rw append_assoc are in
+    let one : AreLines ((done ++ []) ++ y ∷ []) = rw append-nil (front-lines (done ++ y ∷ []) ys more) in
+    none y rest one e
+
+-- what is left after the good lines is one text
+same-rest : (done xs ys : List Line) (p q : List ℕ) → AreLines (done ++ xs) → AreLines (done ++ ys) → NoneFollows (done ++ xs) p → NoneFollows (done ++ ys) q → flat_map line_text xs ++ p ≡ flat_map line_text ys ++ q → p ≡ q
+same-rest done [] [] p q a b np nq e = e
+same-rest done [] (y ∷ ys) p q a b np nq e = absurd (none-then done ys y p (flat_map line_text ys ++ q) b np (e ∙ append_assoc (line_text y) (flat_map line_text ys) q))
+same-rest done (x ∷ xs) [] p q a b np nq e = absurd (none-then done xs x q (flat_map line_text xs ++ p) a nq (sym e ∙ append_assoc (line_text x) (flat_map line_text xs) p))
+same-rest done (x ∷ xs) (y ∷ ys) p q a b np nq e =
+    let cut = sym (append_assoc (line_text x) (flat_map line_text xs) p) ∙ (e ∙ append_assoc (line_text y) (flat_map line_text ys) q) in
+    let both : IsLine x × IsLine y = (line-at done xs x a, line-at done ys y b) in
+    let once = one-line x y (flat_map line_text xs ++ p) (flat_map line_text ys ++ q) both.0 both.1 cut in
+    let same : done ++ y ∷ ys ≡ (done ++ x ∷ []) ++ ys = ap (λ (l : Line). done ++ l ∷ ys) (sym once.0) ∙ sym (append_assoc done (x ∷ []) ys) in
+    let moved : done ++ x ∷ xs ≡ (done ++ x ∷ []) ++ xs = sym (append_assoc done (x ∷ []) xs) in
+    same-rest (done ++ x ∷ []) xs ys p q (subst AreLines moved a) (subst AreLines same b) (subst (λ (l : List Line). NoneFollows l p) moved np) (subst (λ (l : List Line). NoneFollows l q) same nq) once.1
+  where
+    line-at : (done more : List Line) (line : Line) → AreLines (done ++ line ∷ more) → IsLine line
+    line-at done more line are = (each-split done (line ∷ more) are.each).0
+
+pub one_place : OnePlaceLaw
+one_place text place other (inl a) (inl b) = a.0 ∙ sym b.0
+one_place text place other (inl a) (inr b) = absurd (a.1 _ b.cut)
+one_place text place other (inr a) (inl b) = absurd (b.1 _ a.cut)
+one_place text place other (inr a) (inr b) =
+    let rests = same-rest [] a.lines b.lines a.rest b.rest a.are_lines b.are_lines a.wrong b.wrong (after-heading _ _ (sym a.cut ∙ b.cut)) in
+    omega (arith, ap length rests, a.place_is, b.place_is)

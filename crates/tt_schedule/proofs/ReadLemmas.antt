@@ -7,9 +7,10 @@ use Rattle.std.proofs.lemmas.List.{length-replicate}
 use Rattle.tt_schedule.specs.declared.line.Line.{Line}
 use Rattle.tt_schedule.specs.declared.run.Run.{Run}
 use Rattle.tt_schedule.specs.Runs.{lines_from, end_of, AreRuns, LastDiffers}
-use Rattle.tt_schedule.specs.ScheduleText.{AreLines, IsLine, NeighboursDiffer, steps_of, line_text, most_steps}
+use Rattle.tt_schedule.specs.Reading.{StopsBefore}
+use Rattle.tt_schedule.specs.ScheduleText.{AreLines, IsLine, NeighboursDiffer, NoneFollows, steps_of, line_text, most_steps}
 use Rattle.tt_schedule.proofs.LineLemmas.{one-number, line_text-append, after_thread}
-use Rattle.tt_schedule.proofs.RunLemmas.{length-steps}
+use Rattle.tt_schedule.proofs.RunLemmas.{are_lines, length-steps}
 
 -- the lines so far are read, and any lines that the text has begin with them
 pub record IsReadSoFar (text : List ℕ) (so_far : List Run) (rest : List ℕ) : Type 0 where
@@ -43,7 +44,7 @@ line-some line x e =
     let length_is : length (decimal line.thread ++ after_thread line x) ≡ 0 = ap length (sym (line_text-append line x) ∙ e) in
     omega (arith, length-append (decimal line.thread) (after_thread line x))
 
-each-split : (lines more : List Line) → AllByRecursion IsLine (lines ++ more) → AllByRecursion IsLine more
+pub each-split : (lines more : List Line) → AllByRecursion IsLine (lines ++ more) → AllByRecursion IsLine more
 each-split [] more each = each
 each-split (line ∷ lines) more each = each-split lines more each.1
 
@@ -93,6 +94,27 @@ read-refused text runs rest after line so_far is e refused lines are f =
     let next = next_line old.0 line rest after each is e old.2 in
     let whole : lines ≡ lines_from 0 runs ++ line ∷ next.0 = old.1 ∙ ap (λ (more : List Line). lines_from 0 runs ++ more) next.1 in
     refused (differs-at 0 runs line next.0 (rw whole at are.differ), few-at runs line next.0 so_far.runs (rw whole at are.few))
+
+-- where no line is next, or the next one may not follow, the lines so far are all
+pub none-next : (lines : List Line) (rest : List ℕ) → ((line : Line) (after : List ℕ) → IsLine line → rest ≢ line_text line ++ after) → NoneFollows lines rest
+none-next lines rest none line after good e = none line after (each-split lines (line ∷ []) good.each).0 e
+
+pub none-may : (runs : List Run) (rest after : List ℕ) (line : Line) → AreRuns 0 runs → IsLine line → rest ≡ line_text line ++ after → (LastDiffers runs line.thread × (end_of 0 runs + line.steps ≤ most_steps) → ⊥) → NoneFollows (lines_from 0 runs) rest
+none-may runs rest after line are is e refused other x good f =
+    let once = one-line line other after x is (each-split (lines_from 0 runs) (other ∷ []) good.each).0 (sym e ∙ f) in
+    let same : AreLines (lines_from 0 runs ++ line ∷ []) = rw once.0 good in
+    refused (differs-at 0 runs line [] same.differ, few-at runs line [] are same.few)
+
+pub stops-before : (text : List ℕ) (runs : List Run) (rest : List ℕ) → IsReadSoFar text runs rest → rest ≢ [] → NoneFollows (lines_from 0 runs) rest → StopsBefore text (length rest)
+stops-before text runs rest so_far some wrong = record {
+  lines = lines_from 0 runs;
+  rest = rest;
+  are_lines = are_lines runs so_far.runs;
+  cut = so_far.cut;
+  left_is = refl;
+  some = some;
+  wrong = wrong;
+}
 
 pub rest-within : (text : List ℕ) (runs : List Run) (rest : List ℕ) → IsReadSoFar text runs rest → length rest ≤ length text
 rest-within text runs rest so_far = omega (arith, ap length so_far.cut, length-append (flat_map line_text (lines_from 0 runs)) rest)

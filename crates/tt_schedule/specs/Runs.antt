@@ -2,7 +2,8 @@
 use Rattle.std.specs.Prelude.{◌≢◌, ℕ, ◌-◌, ◌<◌, ◌≤◌, List, [], ◌∷◌}
 use Rattle.tt_schedule.specs.declared.line.Line.{Line}
 use Rattle.tt_schedule.specs.declared.run.Run.{Run}
-use Rattle.tt_schedule.specs.ScheduleText.{IsInRange, most_steps}
+use Rattle.tt_schedule.specs.ScheduleText.{most_steps}
+use Rattle.tt_text.specs.ThreadNumbers.{IsInRange}
 
 -- the lines that runs stand for, where this many steps are before them
 abbrev pub lines_from : ℕ → List Run → List Line

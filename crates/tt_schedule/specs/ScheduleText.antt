@@ -1,18 +1,16 @@
 -- The text of a schedule: the line `schedule 1`, and then a line for each row of steps that one thread takes.
-use Rattle.std.specs.Prelude.{◌≡◌, ◌≢◌, ℕ, ◌≤◌, List, [], ◌∷◌, ◌++◌, length, codes}
+use Rattle.std.specs.Prelude.{◌≡◌, ◌≢◌, ◌⊎◌, ℕ, ◌+◌, ◌≤◌, List, [], ◌∷◌, ◌++◌, length, codes}
 use Rattle.std.specs.List.{flat_map, AllByRecursion}
 use Rattle.std.specs.Fmt.{decimal}
 use lib.ListN.{replicate}
+use Rattle.tt_text.specs.ThreadNumbers.{IsInRange}
 use Rattle.tt_schedule.specs.declared.line.Line.{Line}
 
--- the most steps of a schedule, and the greatest number of a thread
+-- the most steps of a schedule
 abbrev pub most_steps : ℕ
 most_steps = 16777216
 
-abbrev pub IsInRange : ℕ → Type 0
-IsInRange n = (1 ≤ n) × (n ≤ most_steps)
-
--- both numbers of a line are in range
+-- The number of the thread is one that threads have, and that of its steps is in the same range.
 pub record IsLine (line : Line) : Type 0 where
   pub thread : IsInRange line.thread
   pub steps : IsInRange line.steps
@@ -47,6 +45,28 @@ pub record IsScheduleText (text threads : List ℕ) : Type 0 where
   pub are_lines : AreLines lines
   pub spelled : text ≡ heading ++ flat_map line_text lines
   pub steps : threads ≡ steps_of lines
+
+-- no line that may follow these lines is at the front of the text
+abbrev pub NoneFollows : List Line → List ℕ → Type 0
+NoneFollows lines text = (line : Line) (rest : List ℕ) → AreLines (lines ++ line ∷ []) → text ≢ line_text line ++ rest
+
+-- a wrong line begins at this place: lines of a schedule are before it, and none that may follow them is next
+pub record IsWrongLine (text : List ℕ) (place : ℕ) : Type 0 where
+  pub lines : List Line
+  pub rest : List ℕ
+  pub are_lines : AreLines lines
+  pub cut : text ≡ heading ++ (flat_map line_text lines ++ rest)
+  pub place_is : place + length rest ≡ length text
+  pub some : rest ≢ []
+  pub wrong : NoneFollows lines rest
+
+-- the offset of a text's first wrong line: 0 where the heading is not there
+abbrev pub IsFirstWrong : List ℕ → ℕ → Type 0
+IsFirstWrong text place = ((place ≡ 0) × ((rest : List ℕ) → text ≢ heading ++ rest)) ⊎ IsWrongLine text place
+
+-- a text has one first wrong line at most
+abbrev pub OnePlaceLaw : Type 0
+OnePlaceLaw = (text : List ℕ) (place other : ℕ) → IsFirstWrong text place → IsFirstWrong text other → place ≡ other
 
 -- a text is that of one list of thread numbers at most
 abbrev pub OneListLaw : Type 0

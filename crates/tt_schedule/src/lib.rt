@@ -2,13 +2,11 @@
 #![tactic(auto)]
 
 mod line;
-mod numeral;
 mod printing;
 mod reading;
 mod run;
 mod schedule;
 
-pub use numeral::number_at;
 pub use printing::{one_text, print};
 pub use reading::{ReadSchedule, ScheduleFault, read};
 pub use schedule::Schedule;

@@ -1,7 +1,7 @@
 ghost use Rattle.std.specs.Prelude.{◌≡◌, ◌≢◌, ◌∷◌, ◌++◌, ℕ, List, IfSome, IfNone};
 ghost use Rattle.tt_schedule.specs.ScheduleText.{IsLine, line_text};
 
-use crate::numeral::number_at;
+use tt_text::number_at;
 
 /// A line of a schedule: a thread takes this many steps next.
 #[derive(Clone, Copy, Debug, PartialEq, Eq)]

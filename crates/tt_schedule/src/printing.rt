@@ -1,6 +1,6 @@
 ghost use Rattle.std.specs.Prelude.{◌≡◌, ◌++◌, IfOk, OnOk};
 ghost use Rattle.tt_schedule.specs.Runs.{lines_from, AreRuns};
-ghost use Rattle.tt_schedule.specs.ScheduleText.{IsScheduleText, OneListLaw, OneTextLaw, heading, line_text};
+ghost use Rattle.tt_schedule.specs.ScheduleText.{IsScheduleText, OneListLaw, OnePlaceLaw, OneTextLaw, heading, line_text};
 ghost use Rattle.std.specs.List.{flat_map};
 
 use crate::line::Line;
@@ -46,9 +46,11 @@ fn push_line(alloc: Global, text: &mut Text, line: Line) -> Result<(), NoMemory>
     text.push_bytes(line.as_bytes())
 }
 
-/// A text is that of one list, and a list of thread numbers has one text. So what `print` makes reads as that list,
-/// and a text that reads as a list is what `print` makes of it.
+/// A text is that of one list, a list of thread numbers has one text, and a text has one first wrong line. So what
+/// `print` makes reads as that list, a text that reads as a list is what `print` makes of it, and `read` names the one
+/// place that is wrong.
 pub fn one_text()
     ensures one_list { OneListLaw }
     ensures one_text { OneTextLaw }
+    ensures one_place { OnePlaceLaw }
 {}

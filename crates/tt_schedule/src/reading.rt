@@ -37,7 +37,7 @@ enum ReadLines {
 /// thread takes. The numbers are decimal, from 1 to 16,777,216, without leading zeros; each line ends with a newline;
 /// neighbouring lines are of different threads; and there are at most 16,777,216 steps.
 ///
-/// `Bad` exactly where the text isn't so. `NoMemory` where memory for the schedule is refused.
+/// `Bad` exactly where the text isn't so, with its first wrong line. `NoMemory` where memory for the schedule is refused.
 pub fn read(alloc: Global, text: &[u8]) -> Result<ReadSchedule, NoMemory>
     ensures exact { IfOk result (IsRead text.now) }
 {

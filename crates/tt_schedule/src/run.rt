@@ -1,10 +1,13 @@
 ghost use Rattle.std.specs.Prelude.{◌≡◌, ◌++◌, ◌∷◌, [], ◌+◌, ◌<◌, ◌≤◌, ◌↔◌, IsTrue, length, vec_len, vec_capacity, slice_index, OnOk, OnErr};
 ghost use Rattle.tt_schedule.specs.Runs.{lines_from, end_of, AreRuns, LastDiffers};
-ghost use Rattle.tt_schedule.specs.ScheduleText.{IsInRange, IsLine, steps_of, most_steps};
+ghost use Rattle.tt_schedule.specs.ScheduleText.{IsLine, steps_of, most_steps};
+ghost use Rattle.tt_text.specs.ThreadNumbers.{IsInRange};
 
 use crate::line::Line;
-use crate::numeral::MOST;
 use tt_text::NoMemory;
+
+/// The most steps of a schedule.
+const MOST_STEPS: u32 = 16_777_216;
 
 /// A row of steps of one thread. It begins where the run before it ends, and `end` is how many steps there are up to
 /// its own end.
@@ -39,7 +42,7 @@ pub(crate) fn can_follow(runs: &[Run], line: Line) -> bool
     ensures { IsTrue result ↔ (LastDiffers runs.now line.thread × (end_of 0 runs.now + line.steps ≤ most_steps)) }
 {
     let count = u64::from(step_count(runs)) + u64::from(line.steps);
-    last_differs(runs, line.thread) && count <= u64::from(MOST)
+    last_differs(runs, line.thread) && count <= u64::from(MOST_STEPS)
 }
 
 /// Adds the run of a line.

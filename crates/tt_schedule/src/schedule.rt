@@ -1,5 +1,6 @@
 ghost use Rattle.std.specs.Prelude.{◌≡◌, ◌++◌, ◌∷◌, [], ◌<◌, ◌≤◌, IsTrue, length, slice_index, OnOk, OnErr, ◌↔◌};
-ghost use Rattle.tt_schedule.specs.ScheduleText.{IsInRange, most_steps};
+ghost use Rattle.tt_schedule.specs.ScheduleText.{most_steps};
+ghost use Rattle.tt_text.specs.ThreadNumbers.{IsInRange};
 
 use crate::run::{Run, add_step, step_count, thread_at};
 use std::alloc::Global;

@@ -2,6 +2,8 @@ pub mod Backslash
 pub mod Braces
 pub mod BraceScan
 pub mod Characters
+pub mod Digits
 pub mod Glob
 pub mod GlobScan
 pub mod Kept
+pub mod ThreadNumbers

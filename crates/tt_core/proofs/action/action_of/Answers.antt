@@ -1,4 +1,4 @@
-use Rattle.std.proofs.Common.{ap, refl}
+use Rattle.std.proofs.Common.{ap}
 use Rattle.tt_plain.specs.PlainCode.{command_of}
 use Rattle.tt_core.proofs.action.action_of.Goals as goal
 

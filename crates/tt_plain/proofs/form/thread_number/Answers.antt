@@ -2,9 +2,9 @@ use Rattle.std.proofs.Common.{◌≡◌, ◌<◌, ◌^◌, ℕ, List, [], ◌++�
 use Rattle.std.specs.Fmt.{decimal}
 use Rattle.std.proofs.lemmas.Fmt.{digits_decimal}
 use Rattle.std.proofs.lemmas.Bool.Decides.{nat_tests}
-use Rattle.tt_schedule.specs.Digits.{BeginsWithNoDigit}
-use Rattle.tt_schedule.specs.ScheduleText.{IsInRange}
-use Rattle.tt_schedule.proofs.DigitLemmas.{own, same-run}
+use Rattle.tt_text.specs.Digits.{BeginsWithNoDigit}
+use Rattle.tt_text.specs.ThreadNumbers.{IsInRange}
+use Rattle.tt_text.proofs.DigitLemmas.{own, same-run}
 use Rattle.tt_plain.proofs.NameLemmas.{after-tid}
 use Rattle.tt_plain.proofs.form.thread_number.Goals as goal
 

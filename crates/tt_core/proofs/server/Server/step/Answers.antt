@@ -1,7 +1,7 @@
-use Rattle.std.proofs.Common.{◌≡◌, ◌∙◌, ap, refl}
+use Rattle.std.proofs.Common.{◌∙◌, ap, refl}
 use Rattle.tt_plain.specs.PlainScript.{Found}
 use Rattle.tt_core.specs.declared.action.Action.TheVariants as actions
-use Rattle.tt_core.specs.Steps.{IsCommandOf, ServerSteps, writes}
+use Rattle.tt_core.specs.Steps.{IsCommandOf, writes}
 use Rattle.tt_core.proofs.CrewLemmas.{last-is}
 use Rattle.tt_core.proofs.server.Server.step.Goals as goal
 

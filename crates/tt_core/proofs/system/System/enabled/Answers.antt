@@ -1,4 +1,4 @@
-use Rattle.std.proofs.Common.{◌≡◌, ap, IsSome}
+use Rattle.std.proofs.Common.{ap, IsSome}
 use Rattle.tt_core.specs.Stage.{next_of}
 use Rattle.tt_core.specs.Standing.{kept_of}
 use Rattle.tt_core.proofs.StandLemmas.{next-over-not, next-try, next-not, true-when}

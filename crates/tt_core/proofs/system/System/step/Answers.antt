@@ -1,4 +1,4 @@
-use Rattle.std.proofs.Common.{◌≡◌, ap, refl, None, Err, IsSome}
+use Rattle.std.proofs.Common.{ap, Err, IsSome}
 use Rattle.tt_core.specs.Stage.{next_of, machine_of, WritesOut}
 use Rattle.tt_core.specs.Standing.{kept_of}
 use Rattle.tt_core.proofs.StandLemmas.{next-over, next-cannot, next-more, next-some, next-writes, some-cannot, in-range, stands-over, stands-stepped, stands-wrote, stands-cut}

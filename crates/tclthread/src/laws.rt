@@ -1,0 +1,8 @@
+//! What holds of the definitions.
+ghost use Rattle.tclthread.specs.Answer.{OneAnswerLaw};
+
+/// Two answers to the same words and files, neither of which is a fault or want of memory, are the same, and so are
+/// the steps.
+pub fn one_answer<K, E>()
+    ensures { OneAnswerLaw K E }
+{}
