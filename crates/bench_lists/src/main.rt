@@ -18,11 +18,17 @@ const ITEMS: &[u8] = b"word {two words} \"two more\" back\\ slash {a {b} c} #sig
 // An operand of a function, with others in it.
 const OPERAND: &[u8] = b"12 * $x - abs(3), ";
 
+// How often a chain is read; the least times are told.
+const ROUNDS: usize = 16;
+
 fn main(rt: HostRuntime) -> anyhow::Result<()> {
     let is_timed = env::args(&rt)?.any(|word| word.as_str() == "times");
     run(&rt, rt.alloc(), 1 << 16, is_timed)?;
     run_expression(&rt, rt.alloc(), 1 << 16, is_timed)?;
     if is_timed {
+        for size in [1 << 10, 1 << 16, 1 << 20] {
+            run_chain(&rt, rt.alloc(), size)?;
+        }
         for size in [1 << 18, 1 << 20] {
             run(&rt, rt.alloc(), size, is_timed)?;
             run_expression(&rt, rt.alloc(), size, is_timed)?;
@@ -76,6 +82,29 @@ fn run_expression(
         println!(rt; "{size} bytes: an expression of {} bytes", text.len())?;
     }
     Ok(())
+}
+
+// A chain `1+1+..` of this size: past 1,000 operators it is told as nested too deeply.
+fn run_chain(rt: &(impl Clock + Print), alloc: Global, size: usize) -> anyhow::Result<()> {
+    let mut text = Vec::from_slice(alloc, b"1")?;
+    for _ in 0..size / 2 {
+        text.extend_from_slice(b"+1")?;
+    }
+    let mut least = time_of(rt, alloc, text.as_slice())?;
+    for _ in 1..ROUNDS {
+        least = least.min(time_of(rt, alloc, text.as_slice())?);
+    }
+    println!(rt; "{size} bytes: a chain read {least} ps a byte")?;
+    Ok(())
+}
+
+// How long reading an expression takes, in picoseconds a byte.
+fn time_of(rt: &impl Clock, alloc: Global, text: &[u8]) -> anyhow::Result<u128> {
+    let start = Instant::now(rt)?;
+    let parsed = parse(alloc, text)?;
+    let reading = start.elapsed(rt)?;
+    drop(parsed);
+    Ok(picoseconds(reading, text.len()))
 }
 
 // A function of so many operands that the text has this size.

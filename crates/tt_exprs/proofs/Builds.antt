@@ -1,5 +1,5 @@
 -- The plain form of expressions.
-use Rattle.std.proofs.Common.{◌≡◌, List, refl, ap, sym, ◌∙◌, map}
+use Rattle.std.proofs.Common.{◌≡◌, List, ap, sym, ◌∙◌, map}
 use Rattle.std.specs.Prelude.{ℕ, Vec}
 use Rattle.std.specs.declared.alloc.Global.{Global}
 use Rattle.tt_script.specs.Plain.{plain_parts}

@@ -2,13 +2,13 @@
 use Rattle.std.proofs.Common.{◌≡◌, ◌≢◌, ℕ, suc, ◌<◌, ◌≤◌, max, true, false, List, [], ◌∷◌, ◌++◌, fold, Some, refl, ap, sym, ◌∙◌, append_assoc, arith, inl, inr, ◌⊎◌}
 use Rattle.std.proofs.lemmas.List.Sums.{fold-append}
 use Rattle.tt_exprs.specs.Trees.{PlainExpr, node, PlainExprs, none, more}
-use Rattle.tt_exprs.specs.Precedence.{binding, level, left_level}
+use Rattle.tt_exprs.specs.Operators.{binding, level, left_level, takes_more}
 use Rattle.tt_exprs.specs.Tokens.{PlainToken, operator, function, opening, closing, comma, colon}
-use Rattle.tt_exprs.specs.Parsing.{PlainValue, nested, PlainRow, no_operands, followed_by, in_a_row, applied, PlainPending, unary, binary, test, branch, parenthesis, arguments, PlainWaiting, gathered, binds, reaches, PlainState, wants, has, as_prefix, prefixed, takes_more, operated, wants_after, with_left, after_comma, after_closing, after_colon, step, outcome_of, finished, tree_of, level_of, left_level_of}
+use Rattle.tt_exprs.specs.Parsing.{PlainValue, nested, PlainRow, no_operands, followed_by, in_a_row, applied, PlainPending, unary, binary, test, branch, parenthesis, arguments, PlainWaiting, gathered, binds, reaches, PlainState, wants, has, as_prefix, prefixed, operated, wants_after, with_left, after_comma, after_closing, after_colon, step, outcome_of, finished, tree_of, level_of, left_level_of}
 use Rattle.tt_exprs.specs.ExprGrammar.{IsOperand, token_operand, in_parentheses, function_call, after_prefix, IsArguments, last_argument, next_argument, IsAtLevel, one_operand, from_left, from_right, choice}
 use Rattle.tt_exprs.specs.declared.op.Op.{Op}
 use Rattle.tt_exprs.specs.declared.op.Op.TheVariants.{Choose}
-use Rattle.tt_exprs.specs.declared.precedence.Binding.TheVariants.{Leftwards, Rightwards}
+use Rattle.tt_exprs.specs.declared.operators.Binding.TheVariants.{Leftwards, Rightwards}
 use Rattle.tt_exprs.proofs.StackSteps.{gathered-empty, gathered-takes, gathered-stops}
 use Rattle.tt_exprs.proofs.ExprTables.{Groups, groups_left, groups_right, groups, left_regular, right_regular, left_binary, leftwards_other, reaches-yes, reaches-no, worth, row_worth, parenthesized-worth, applied-worth, followed-worth, unary-worth, binary-worth, branch-worth}
 

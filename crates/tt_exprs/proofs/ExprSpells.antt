@@ -1,13 +1,13 @@
 -- What the function reads, the grammar spells.
 use Rattle.std.proofs.Common.{◌≡◌, ◌≢◌, ℕ, zero, suc, ◌<◌, ◌≤◌, max, Bool, true, false, true≢false, List, [], ◌∷◌, ◌++◌, fold, Option, Some, None, refl, ap, sym, ◌∙◌, subst, append_assoc, append-nil, arith, inl, inr, ◌⊎◌}
 use Rattle.tt_exprs.specs.Trees.{PlainExpr, node, PlainExprs, none, more}
-use Rattle.tt_exprs.specs.Precedence.{binding, level, left_level}
+use Rattle.tt_exprs.specs.Operators.{binding, level, left_level, takes_more}
 use Rattle.tt_exprs.specs.Tokens.{PlainToken, operand, operator, function, opening, closing, comma, colon}
-use Rattle.tt_exprs.specs.Parsing.{PlainValue, nested, too_deep, PlainRow, PlainPending, unary, binary, test, branch, parenthesis, arguments, PlainWaiting, gathered, binds, reaches, closed, PlainState, wants, calls, has, wrong, as_prefix, prefixed, takes_more, operated, wants_after, with_left, after_comma, after_closing, after_colon, step, malformed, outcome_of, finished, tree_of, level_of, left_level_of}
+use Rattle.tt_exprs.specs.Parsing.{PlainValue, nested, too_deep, PlainRow, PlainPending, unary, binary, test, branch, parenthesis, arguments, PlainWaiting, gathered, binds, reaches, closed, PlainState, wants, calls, has, wrong, as_prefix, prefixed, operated, wants_after, with_left, after_comma, after_closing, after_colon, step, malformed, outcome_of, finished, tree_of, level_of, left_level_of}
 use Rattle.tt_exprs.specs.ExprGrammar.{IsOperand, token_operand, in_parentheses, function_call, after_prefix, IsArguments, last_argument, next_argument, IsAtLevel, one_operand, from_left, from_right, choice}
 use Rattle.tt_exprs.specs.declared.op.Op.{Op}
 use Rattle.tt_exprs.specs.declared.op.Op.TheVariants.{Choose}
-use Rattle.tt_exprs.specs.declared.precedence.Binding.TheVariants.{Leftwards, Rightwards}
+use Rattle.tt_exprs.specs.declared.operators.Binding.TheVariants.{Leftwards, Rightwards}
 use Rattle.tt_exprs.proofs.StackSteps.{gathered-empty, gathered-takes, gathered-stops}
 use Rattle.tt_exprs.proofs.ExprTables.{Groups, groups_left, groups_right, groups, choose_or_not, left_regular, right_regular, left_binary, reaches-yes, reaches-true, reaches-false}
 use Rattle.tt_exprs.proofs.ExprReads.{waiting}

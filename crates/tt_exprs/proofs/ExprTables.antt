@@ -2,12 +2,12 @@
 use Rattle.std.proofs.Common.{◌≡◌, ◌≢◌, ◌⊎◌, inl, inr, ℕ, suc, ◌+◌, ◌<◌, ◌≤◌, max, Bool, true, false, not, nat_lt, List, [], ◌∷◌, ◌++◌, Some, refl, ap, sym, ◌∙◌, subst, arith}
 use Rattle.std.proofs.lemmas.Bool.{ltb-true, ltb-false, lt-ltb, le-ltb}
 use Rattle.tt_exprs.specs.Trees.{PlainExpr, node, none, more}
-use Rattle.tt_exprs.specs.Precedence.{binding, left_level}
+use Rattle.tt_exprs.specs.Operators.{binding, left_level}
 use Rattle.tt_exprs.specs.Parsing.{PlainValue, nested, too_deep, most_nested, around, parenthesized, PlainRow, row, too_deep_row, no_operands, followed_by, in_a_row, applied, unary, binary, branch, closed, left_level_of, reaches, with_left}
 use Rattle.tt_exprs.specs.declared.op.Op.{Op}
 use Rattle.tt_exprs.specs.declared.op.Op.TheVariants.{Neg, Plus, BitNot, Not, Pow, Mul, Div, Mod, Add, Sub, Shl, Shr, Less, Greater, LessEqual, GreaterEqual, Equal, NotEqual, TextEqual, TextNotEqual, Member, NotMember, BitAnd, BitXor, BitOr, And, Or, Choose, Abs, Int, Max, Min}
-use Rattle.tt_exprs.specs.declared.precedence.Binding.{Binding}
-use Rattle.tt_exprs.specs.declared.precedence.Binding.TheVariants.{Before, Leftwards, Rightwards, Called}
+use Rattle.tt_exprs.specs.declared.operators.Binding.{Binding}
+use Rattle.tt_exprs.specs.declared.operators.Binding.TheVariants.{Before, Leftwards, Rightwards, Called}
 
 -- ---- the table ----
 

@@ -1,8 +1,9 @@
 -- What the tokens of a text come to.
-use Rattle.std.proofs.Common.{◌≡◌, ℕ, List, ap}
+use Rattle.std.proofs.Common.{◌≡◌, ℕ, List, [], refl, ap}
 use Rattle.tt_exprs.specs.Trees.{bad}
-use Rattle.tt_exprs.specs.Tokens.{PlainToken, read, refused_word, stopped, tokens}
-use Rattle.tt_exprs.specs.Parsing.{parse, parsed, answered, tree_of, bareword_error, syntax_error}
+use Rattle.tt_exprs.specs.Cutting.{told, comes_to}
+use Rattle.tt_exprs.specs.Tokens.{PlainToken, Tokens, read, refused_word, stopped, tokens}
+use Rattle.tt_exprs.specs.Parsing.{wants, parse, parsed, answered, tree_of, bareword_error, syntax_error}
 
 module _ (text : List ℕ) where
   pub parse-read : (ts : List PlainToken) → tokens 0 text ≡ read ts → parse text ≡ answered text (tree_of ts)
@@ -16,3 +17,13 @@ module _ (text : List ℕ) where
   pub parse-stopped : tokens 0 text ≡ stopped → parse text ≡ bad (syntax_error text)
   unfolding parse
   parse-stopped e = ap (parsed text) e
+
+  -- the tokens one by one
+  pub parse-told : told text (comes_to (wants []) (tokens 0 text)) ≡ parse text
+  unfolding parse
+  parse-told = go (tokens 0 text)
+    where
+      go : (found : Tokens) → told text (comes_to (wants []) found) ≡ parsed text found
+      go (read ts) = refl
+      go (refused_word word) = refl
+      go stopped = refl

@@ -1,8 +1,8 @@
 -- What waits, from step to step.
-use Rattle.std.proofs.Common.{◌≡◌, ℕ, Bool, true, false, List, [], ◌∷◌, ◌++◌, map, reverse, length, Option, Some, None, refl, ap, sym, ◌∙◌, arith}
+use Rattle.std.proofs.Common.{◌≡◌, ℕ, true, false, List, [], ◌∷◌, ◌++◌, map, reverse, length, Option, Some, refl, ap, ◌∙◌, arith}
 use Rattle.std.specs.Option.{option_to_list}
 use Rattle.std.proofs.lemmas.List.{map-append, reverse-append}
-use Rattle.tt_exprs.specs.Parsing.{PlainValue, PlainPending, PlainWaiting, binds, closed, gathered}
+use Rattle.tt_exprs.specs.Parsing.{PlainValue, PlainPending, binds, closed, gathered}
 use Rattle.tt_exprs.specs.Stacks.{plain_pending, plain_stack}
 use Rattle.tt_exprs.specs.declared.pending.Pending.{Pending}
 

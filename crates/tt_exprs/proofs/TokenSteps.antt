@@ -1,5 +1,5 @@
 -- One token after another.
-use Rattle.std.proofs.Common.{◌≡◌, ℕ, zero, suc, pred, ◌+◌, ◌-◌, ◌<◌, ◌≤◌, Bool, true, false, nat_lt, get_or, List, [], ◌∷◌, ◌++◌, length, take, drop, map, refl, ap, sym, ◌∙◌, arith}
+use Rattle.std.proofs.Common.{◌≡◌, ℕ, zero, suc, ◌+◌, ◌-◌, ◌<◌, ◌≤◌, true, false, nat_lt, get_or, List, [], ◌∷◌, ◌++◌, length, take, drop, map, refl, ap, sym, ◌∙◌, arith}
 use Rattle.std.specs.List.{prefix_len}
 use Rattle.std.proofs.lemmas.List.{length-take-le, drop_more, drop-drop, drop_all, length-drop, take_all, map-append}
 use Rattle.tt_text.specs.Characters.{is_white_space}
@@ -7,7 +7,8 @@ use Rattle.tt_exprs.specs.Tokens.{PlainToken, operand, Cut, one, refused, none_h
 use Rattle.std.proofs.lemmas.Bool.{lt-ltb}
 use Rattle.tt_exprs.specs.Trees.{leaf}
 use Rattle.tt_exprs.specs.Plain.{plain_token}
-use Rattle.tt_exprs.specs.Cutting.{with_tokens}
+use Rattle.tt_exprs.specs.Cutting.{comes_to}
+use Rattle.tt_exprs.specs.Parsing.{PlainState, step}
 use Rattle.tt_exprs.specs.declared.tokens.Token.{Token}
 
 pub word-read : (text : List ℕ) (n : ℕ) (cut : Cut) → n ≡ prefix_len is_word_byte text → n ≤ length text → cut ≡ bare_word (take n text) (length (take n text)) → cut ≡ word text
@@ -31,7 +32,7 @@ pub token-number : (b : ℕ) (text : List ℕ) → begins_word b ≡ false → n
 unfolding token
 token-number b text e f = rw (e, token, f)
 
-pub token-other : (b : ℕ) (text : List ℕ) → begins_word b ≡ false → nat_lt 0 (number_length (b ∷ text)) ≡ false → token b text ≡ other b text
+pub token-other : (b : ℕ) (text : List ℕ) → begins_word b ≡ false → nat_lt 0 (number_length (b ∷ text)) ≡ false → token b text ≡ other (b ∷ text)
 unfolding token
 token-other b text e f = rw (e, token, f)
 
@@ -44,11 +45,11 @@ number-read text b n spelled h first e count room is =
     ∙ ap (λ t. number t (number_length t)) (sym same)
     ∙ sym (token-number b (drop 1 text) e some)
 
-pub other-read : (text : List ℕ) (b n : ℕ) → 0 < length text → b ≡ get_or text 0 0 → begins_word b ≡ false → n ≡ number_length text → n ≡ 0 → other b (drop 1 text) ≡ token b (drop 1 text)
+pub other-read : (text : List ℕ) (b n : ℕ) → 0 < length text → b ≡ get_or text 0 0 → begins_word b ≡ false → n ≡ number_length text → n ≡ 0 → other text ≡ token b (drop 1 text)
 other-read text b n h first e count zero_is =
     let same : b ∷ drop 1 text ≡ text = begun b text h first in
     let nothing : nat_lt 0 (number_length (b ∷ drop 1 text)) ≡ false = ap (λ t. nat_lt 0 (number_length t)) same ∙ ap (nat_lt 0) (sym count ∙ zero_is) in
-    sym (token-other b (drop 1 text) e nothing)
+    ap other (sym same) ∙ sym (token-other b (drop 1 text) e nothing)
 
 pub tokens-passes : (k : ℕ) (text : List ℕ) → tokens k text ≡ tokens 0 (drop k text)
 unfolding tokens
@@ -74,21 +75,11 @@ pub tokens-stopped : (b : ℕ) (text : List ℕ) → is_white_space b ≡ false 
 unfolding tokens
 tokens-stopped b text e f = rw (e, tokens, f)
 
-pub with_tokens-push : (before : List PlainToken) (last : PlainToken) (cut : Tokens) → with_tokens (before ++ last ∷ []) cut ≡ with_tokens before (with_token last cut)
-with_tokens-push [] last cut = refl
-with_tokens-push (first ∷ before) last cut = ap (with_token first) (with_tokens-push before last cut)
-
-pub with_tokens-read : (before : List PlainToken) → with_tokens before (read []) ≡ read before
-with_tokens-read [] = refl
-with_tokens-read (first ∷ before) = ap (with_token first) (with_tokens-read before)
-
-pub with_tokens-refused : (before : List PlainToken) (spelled : List ℕ) → with_tokens before (refused_word spelled) ≡ refused_word spelled
-with_tokens-refused [] spelled = refl
-with_tokens-refused (first ∷ before) spelled = ap (with_token first) (with_tokens-refused before spelled)
-
-pub with_tokens-stopped : (before : List PlainToken) → with_tokens before stopped ≡ stopped
-with_tokens-stopped [] = refl
-with_tokens-stopped (first ∷ before) = ap (with_token first) (with_tokens-stopped before)
+-- one token more, before those that are still to come
+pub comes_to-one : (state : PlainState) (first : PlainToken) (later : Tokens) → comes_to state (with_token first later) ≡ comes_to (step state first) later
+comes_to-one state first (read ts) = refl
+comes_to-one state first (refused_word spelled) = refl
+comes_to-one state first stopped = refl
 
 -- ---- at a place ----
 
@@ -113,9 +104,3 @@ module _ (text : List ℕ) (at : ℕ) where
   pub end-at : length text ≤ at → tokens 0 (drop at text) ≡ read []
   unfolding tokens
   end-at h = ap (tokens 0) (drop_all at text h)
-
-pub tokens-pushed : (before more : List Token) (last : Token) (cut : Tokens) → more ≡ before ++ last ∷ [] → with_tokens (map plain_token more) cut ≡ with_tokens (map plain_token before) (with_token (plain_token last) cut)
-tokens-pushed before more last cut e =
-    ap (λ ts. with_tokens (map plain_token ts) cut) e
-    ∙ ap (λ ts. with_tokens ts cut) (map-append plain_token before (last ∷ []))
-    ∙ with_tokens-push (map plain_token before) (plain_token last) cut

@@ -1,17 +1,18 @@
 -- What operators and functions give on the texts of their operands (expr(n), Operators; mathfunc(n)).
-use Rattle.std.specs.Prelude.{ℕ, nat_lt, Bool, true, false, not, ◌||◌, if◌then◌else◌, ◌==◌, ℤ, pos, List, [], ◌∷◌, fold, length, bytes_eq, codes, Option, Some, None, Result, Ok, Err}
+use Rattle.std.specs.Prelude.{◌≡◌, ℕ, Bool, true, false, not, ◌==◌, ℤ, pos, List, [], ◌∷◌, fold, length, map, FitsSigned, bytes_eq, Option, Some, None, Result, Ok, Err}
 use Rattle.std.specs.Cmp.Lexicographic.{slice_cmp}
 use Rattle.std.specs.Fmt.{signed_decimal}
+use Rattle.std.specs.Int.{w64}
 use Rattle.std.specs.Int.RustNames.{unsigned_abs}
 use Rattle.std.specs.List.{list_any}
 use Rattle.std.specs.Ordering.{int_cmp, nat_cmp, is_eq, is_ne, is_lt, is_gt, is_le, is_ge, ord_max, ord_min}
-use Rattle.std.specs.Str.{str_eq_ignore_ascii_case}
 use Rattle.std.specs.declared.cmp.Ordering.{Ordering}
-use Rattle.tt_calls.specs.declared.Code.TheVariants.{Fine, Failed}
+use Rattle.tt_calls.specs.Outcomes.{fine, failed}
 use Rattle.tt_calls.specs.declared.outcome.Outcome.{Outcome}
 use Rattle.tt_lists.specs.Reading.{split_of}
 use Rattle.tt_lists.specs.declared.items.Split.{Split}
 use Rattle.tt_lists.specs.declared.items.Split.TheVariants.{Items, Bad}
+use Rattle.tt_number.specs.Messages.{number_message}
 use Rattle.tt_number.specs.Numerals.{whole_of}
 use Rattle.tt_number.specs.Operators.{binary_of, unary_of}
 use Rattle.tt_number.specs.declared.numeral.NumberFault.{NumberFault}
@@ -21,7 +22,8 @@ use Rattle.tt_number.specs.declared.operators.NumOp.{NumOp}
 use Rattle.tt_number.specs.declared.operators.NumOp.TheVariants as two
 use Rattle.tt_number.specs.declared.operators.OneOp.{OneOp}
 use Rattle.tt_number.specs.declared.operators.OneOp.TheVariants as one
-use Rattle.tt_exprs.specs.ApplyMessages.{message_of}
+use Rattle.tt_exprs.specs.ApplyMessages.{boolean_message, message_of}
+use Rattle.tt_exprs.specs.Operators.{boolean_word, takes}
 use Rattle.tt_exprs.specs.declared.op.Op.{Op}
 use Rattle.tt_exprs.specs.declared.op.Op.TheVariants.{Neg, Plus, BitNot, Not, Pow, Mul, Div, Mod, Add, Sub, Shl, Shr, Less, Greater, LessEqual, GreaterEqual, Equal, NotEqual, TextEqual, TextNotEqual, Member, NotMember, BitAnd, BitXor, BitOr, And, Or, Choose, Abs, Int, Max, Min}
 use Rattle.tt_exprs.specs.declared.applying.refusal.Refusal.{Refusal}
@@ -35,19 +37,6 @@ is_lazy And = true
 is_lazy Or = true
 is_lazy Choose = true
 is_lazy op = false
-
--- the operator has so many operands
-abbrev pub takes : Op → ℕ → Bool
-takes Neg count = count == 1
-takes Plus count = count == 1
-takes BitNot count = count == 1
-takes Not count = count == 1
-takes Choose count = count == 3
-takes Abs count = count == 1
-takes Int count = count == 1
-takes Max count = nat_lt 0 count
-takes Min count = nat_lt 0 count
-takes op count = count == 2
 
 -- the first operand
 abbrev pub first : List (List ℕ) → List ℕ
@@ -95,7 +84,8 @@ on_one_of op operator operands = with_one operator (whole_operand op (first oper
 
 -- the operators `** * / % + - << >> & ^ |`
 abbrev pub on_two_of : Op → NumOp → List (List ℕ) → Result ℤ Refusal
-on_two_of op operator operands = with_two operator (whole_operand op (first operands)) (whole_operand op (second operands))
+on_two_of op operator operands =
+    with_two operator (whole_operand op (first operands)) (whole_operand op (second operands))
 
 -- ---- max and min
 
@@ -163,7 +153,8 @@ order_with (Ok a) (Ok b) texts = Ok (order_by a b texts)
 
 -- how two operands compare
 abbrev pub order_of : List (List ℕ) → Result Ordering Refusal
-order_of operands = order_with (comparand (first operands)) (comparand (second operands)) (slice_cmp nat_cmp (first operands) (second operands))
+order_of operands =
+    order_with (comparand (first operands)) (comparand (second operands)) (slice_cmp nat_cmp (first operands) (second operands))
 
 -- one of `< > <= >= == !=`, by the orders at which it holds
 abbrev pub test_order : (Ordering → Bool) → Result Ordering Refusal → Result ℤ Refusal
@@ -188,16 +179,6 @@ abbrev pub is_member_of : List (List ℕ) → Result Bool Refusal
 is_member_of operands = is_member_by (first operands) (split_of (second operands))
 
 -- ---- boolean values
-
--- whether a text is this word, in any ASCII case
-abbrev pub is_word : List ℕ → List ℕ → Bool
-is_word text word = str_eq_ignore_ascii_case text word
-
--- a boolean word, in any ASCII case
-abbrev pub boolean_word : List ℕ → Option Bool
-boolean_word text =
-    if is_word text (codes "true") || is_word text (codes "yes") || is_word text (codes "on") then Some true else
-    if is_word text (codes "false") || is_word text (codes "no") || is_word text (codes "off") then Some false else None
 
 -- by what a text is read as as a number
 abbrev pub boolean_by : List ℕ → Result ℤ NumberFault → Option Bool
@@ -253,11 +234,97 @@ answer_of Min t = extreme_of Min (wholes Min t)
 -- a lazy operator is never applied
 answer_of op t = Ok (pos 0)
 
--- a number in decimal, or the message of the error, which begins its trace
+-- a number in decimal, or the message of the error
 abbrev pub outcome_of : Result ℤ Refusal → Outcome
-outcome_of (Ok n) = record { code = Fine; value = signed_decimal n; trace = []; kept = Fine }
-outcome_of (Err refusal) = record { code = Failed; value = message_of refusal; trace = message_of refusal; kept = Fine }
+outcome_of (Ok n) = fine (signed_decimal n)
+outcome_of (Err refusal) = failed (message_of refusal)
 
 -- what an operator comes to
 abbrev pub applied : Op → List (List ℕ) → Outcome
 applied op operands = outcome_of (answer_of op operands)
+
+-- ---- conditions and whole expressions
+
+-- by whether a text is a boolean value
+abbrev pub truth_by : List ℕ → Option Bool → Result Bool (List ℕ)
+truth_by text (Some truth) = Ok truth
+truth_by text None = Err (boolean_message text)
+
+-- the truth of a condition, or of an operand of `&& || ?`; or the message of its error (expr(n), Operators)
+unfoldable pub truth_of : List ℕ → Result Bool (List ℕ)
+truth_of text = truth_by text (boolean_of text)
+
+-- by what a value is read as as a number
+abbrev pub result_by : List ℕ → Result ℤ NumberFault → Outcome
+result_by value (Ok n) = fine (signed_decimal n)
+result_by value (Err number.NotWhole) = fine value
+result_by value (Err number.TooLarge) = failed (number_message number.TooLarge value)
+result_by value (Err number.Float) = failed (number_message number.Float value)
+
+-- the result of a whole expression that has this value: a whole number in decimal, a text that is none as it stands;
+-- a number past 64 bits and a float are errors
+unfoldable pub result_of : List ℕ → Outcome
+result_of value = result_by value (whole_of value)
+
+-- ---- operators on numbers
+
+-- the operator takes its operands as numbers where they are: all but those that evaluate what they need alone, and
+-- `eq ne in ni`, which take texts
+abbrev pub takes_numbers : Op → Bool
+takes_numbers And = false
+takes_numbers Or = false
+takes_numbers Choose = false
+takes_numbers TextEqual = false
+takes_numbers TextNotEqual = false
+takes_numbers Member = false
+takes_numbers NotMember = false
+takes_numbers op = true
+
+-- what it gives on one number, or on two
+abbrev pub on_numbers : Op → ℤ → ℤ → Result ℤ ArithFault
+on_numbers Neg a b = unary_of one.Neg a
+on_numbers Plus a b = unary_of one.Plus a
+on_numbers BitNot a b = unary_of one.BitNot a
+on_numbers Not a b = Ok (told (unsigned_abs a == 0))
+on_numbers Pow a b = binary_of two.Pow a b
+on_numbers Mul a b = binary_of two.Mul a b
+on_numbers Div a b = binary_of two.Div a b
+on_numbers Mod a b = binary_of two.Mod a b
+on_numbers Add a b = binary_of two.Add a b
+on_numbers Sub a b = binary_of two.Sub a b
+on_numbers Shl a b = binary_of two.Shl a b
+on_numbers Shr a b = binary_of two.Shr a b
+on_numbers Less a b = Ok (told (is_lt (int_cmp a b)))
+on_numbers Greater a b = Ok (told (is_gt (int_cmp a b)))
+on_numbers LessEqual a b = Ok (told (is_le (int_cmp a b)))
+on_numbers GreaterEqual a b = Ok (told (is_ge (int_cmp a b)))
+on_numbers Equal a b = Ok (told (is_eq (int_cmp a b)))
+on_numbers NotEqual a b = Ok (told (is_ne (int_cmp a b)))
+on_numbers BitAnd a b = binary_of two.BitAnd a b
+on_numbers BitXor a b = binary_of two.BitXor a b
+on_numbers BitOr a b = binary_of two.BitOr a b
+on_numbers Abs a b = unary_of one.Abs a
+on_numbers Int a b = unary_of one.Plus a
+on_numbers op a b = Ok a
+
+-- what it gives on its numbers, of which there are as many as it takes
+abbrev pub numbers_answer : Op → List ℤ → Result ℤ ArithFault
+numbers_answer op [] = Ok (pos 0)
+numbers_answer Max (n ∷ numbers) = Ok (fold (picked Max) n numbers)
+numbers_answer Min (n ∷ numbers) = Ok (fold (picked Min) n numbers)
+numbers_answer op (a ∷ []) = on_numbers op a a
+numbers_answer op (a ∷ b ∷ numbers) = on_numbers op a b
+
+-- numbers of 64 bits
+abbrev pub AllFit : List ℤ → Type 0
+AllFit [] = Unit {0}
+AllFit (n ∷ numbers) = FitsSigned w64 n × AllFit numbers
+
+-- on numbers an operator gives what it gives on their texts
+abbrev pub NumbersLaw : Type 0
+NumbersLaw =
+    (op : Op) (numbers : List ℤ) →
+    AllFit numbers →
+    takes_numbers op ≡ true →
+    takes op (length numbers) ≡ true →
+    answer_of op (map signed_decimal numbers) ≡ arithmetic (numbers_answer op numbers)

@@ -1,8 +1,23 @@
--- Tokens in the making.
-use Rattle.std.specs.Prelude.{List, [], ◌∷◌}
-use Rattle.tt_exprs.specs.Tokens.{PlainToken, Tokens, with_token}
+-- What the tokens of a text come to, taken one by one.
+use Rattle.std.specs.Prelude.{ℕ, List, fold}
+use Rattle.tt_exprs.specs.Trees.{PlainParsed, bad}
+use Rattle.tt_exprs.specs.Tokens.{Tokens, read, refused_word, stopped}
+use Rattle.tt_exprs.specs.Parsing.{PlainState, step, finished, PlainOutcome, answered, bareword_error, syntax_error}
 
--- tokens before others
-abbrev pub with_tokens : List PlainToken → Tokens → Tokens
-with_tokens [] cut = cut
-with_tokens (first ∷ before) cut = with_token first (with_tokens before cut)
+-- what they come to at the text's end, or why that isn't reached
+pub data PlainReading : Type 0 where
+  whole : PlainOutcome → PlainReading
+  refused_at : List ℕ → PlainReading
+  stopped_here : PlainReading
+
+-- what the tokens that are still to come make of what came so far
+abbrev pub comes_to : PlainState → Tokens → PlainReading
+comes_to state (read ts) = whole (finished (fold step state ts))
+comes_to state (refused_word word) = refused_at word
+comes_to state stopped = stopped_here
+
+-- how that is told
+abbrev pub told : List ℕ → PlainReading → PlainParsed
+told text (whole outcome) = answered text outcome
+told text (refused_at word) = bad (bareword_error word)
+told text stopped_here = bad (syntax_error text)

@@ -1,11 +1,11 @@
 -- How the tokens of an expression make a tree (expr(n), OPERATORS): an operator waits for its right
 -- operand until something comes that binds less tightly.
-use Rattle.std.specs.Prelude.{ℕ, suc, ◌+◌, Bool, true, false, not, nat_lt, max, List, [], ◌∷◌, ◌++◌, fold, Option, Some, None, codes}
+use Rattle.std.specs.Prelude.{ℕ, ◌+◌, Bool, true, false, not, nat_lt, max, List, [], ◌∷◌, ◌++◌, fold, Option, Some, None, codes}
 use Rattle.tt_exprs.specs.Trees.{PlainExpr, node, PlainExprs, none, more, PlainParsed, tree, bad}
-use Rattle.tt_exprs.specs.Precedence.{binding, level, left_level}
+use Rattle.tt_exprs.specs.Operators.{binding, level, left_level, takes_more}
 use Rattle.tt_exprs.specs.Tokens.{PlainToken, operand, operator, function, opening, closing, comma, colon, Tokens, read, refused_word, stopped, tokens}
 use Rattle.tt_exprs.specs.declared.op.Op.{Op}
-use Rattle.tt_exprs.specs.declared.op.Op.TheVariants.{Neg, Plus, BitNot, Not, Add, Sub, Choose, Max, Min}
+use Rattle.tt_exprs.specs.declared.op.Op.TheVariants.{Neg, Plus, BitNot, Not, Add, Sub, Choose}
 
 -- ---- operands ----
 
@@ -85,7 +85,8 @@ binds bound (arguments op operands) = false
 abbrev pub closed : PlainPending → PlainValue → PlainValue
 closed (unary op) value = applied op (followed_by no_operands value)
 closed (binary op left) value = applied op (followed_by (followed_by no_operands left) value)
-closed (branch condition chosen) value = applied Choose (followed_by (followed_by (followed_by no_operands condition) chosen) value)
+closed (branch condition chosen) value =
+    applied Choose (followed_by (followed_by (followed_by no_operands condition) chosen) value)
 closed (test condition) value = value
 closed parenthesis value = value
 closed (arguments op operands) value = value
@@ -165,14 +166,9 @@ after_colon value pending = wrong
 -- a `)`
 abbrev pub after_closing : PlainValue → List PlainPending → PlainState
 after_closing value (parenthesis ∷ pending) = has (record { pending = pending; value = parenthesized value })
-after_closing value (arguments op operands ∷ pending) = has (record { pending = pending; value = applied op (followed_by operands value) })
+after_closing value (arguments op operands ∷ pending) =
+    has (record { pending = pending; value = applied op (followed_by operands value) })
 after_closing value pending = wrong
-
--- whether a function takes more than one operand
-abbrev pub takes_more : Op → Bool
-takes_more Max = true
-takes_more Min = true
-takes_more op = false
 
 -- a `,`
 abbrev pub after_comma : PlainValue → List PlainPending → PlainState
@@ -189,9 +185,12 @@ at_operator waiting (operand expr) = wrong
 at_operator waiting (operator op) = operated op (left_level_of op) waiting
 at_operator waiting (function op) = wrong
 at_operator waiting opening = wrong
-at_operator waiting closing = let whole = gathered 0 waiting.pending waiting.value in after_closing whole.value whole.pending
-at_operator waiting comma = let whole = gathered 0 waiting.pending waiting.value in after_comma whole.value whole.pending
-at_operator waiting colon = let whole = gathered 0 waiting.pending waiting.value in after_colon whole.value whole.pending
+at_operator waiting closing =
+    let whole = gathered 0 waiting.pending waiting.value in after_closing whole.value whole.pending
+at_operator waiting comma =
+    let whole = gathered 0 waiting.pending waiting.value in after_comma whole.value whole.pending
+at_operator waiting colon =
+    let whole = gathered 0 waiting.pending waiting.value in after_colon whole.value whole.pending
 
 abbrev pub step : PlainState → PlainToken → PlainState
 step (wants pending) token = at_operand pending token

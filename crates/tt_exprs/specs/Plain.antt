@@ -1,5 +1,5 @@
 -- The plain form of what the code answers: its trees and its state with lists in place of vectors.
-use Rattle.std.specs.Prelude.{◌≡◌, ◌≤◌, ◌<◌, ℕ, List, [], ◌∷◌, map, reverse}
+use Rattle.std.specs.Prelude.{◌≤◌, ◌<◌, ℕ, map}
 use Rattle.tt_script.specs.Plain.{plain_parts}
 use Rattle.tt_exprs.specs.Trees.{PlainExpr, leaf, words, node, PlainParsed, tree, bad}
 use Rattle.tt_exprs.specs.Tokens as tokens
@@ -13,8 +13,6 @@ use Rattle.tt_exprs.specs.declared.tokens.Token.{Token}
 use Rattle.tt_exprs.specs.declared.tokens.Token.TheVariants as token
 use Rattle.tt_exprs.specs.declared.tokens.Cut.{Cut}
 use Rattle.tt_exprs.specs.declared.tokens.Cut.TheVariants as cut
-use Rattle.tt_exprs.specs.declared.tokens.Tokens.{Tokens}
-use Rattle.tt_exprs.specs.declared.tokens.Tokens.TheVariants as cuts
 
 -- one expression, whose operands are plain already
 abbrev pub plain_step : Expr-F PlainExpr → PlainExpr
@@ -44,11 +42,6 @@ abbrev pub plain_cut : Cut → tokens.Cut
 plain_cut (cut.One first n) = tokens.one (plain_token first) n
 plain_cut (cut.Refused word) = tokens.refused word
 plain_cut cut.NoneHere = tokens.none_here
-
-abbrev pub plain_tokens : Tokens → tokens.Tokens
-plain_tokens (cuts.Read ts) = tokens.read (map plain_token ts.items)
-plain_tokens (cuts.RefusedWord word) = tokens.refused_word word
-plain_tokens cuts.Stopped = tokens.stopped
 
 -- a token that is cut off takes a byte at least and is within a text of this length
 abbrev pub TakesWithin : Cut → ℕ → Type 0

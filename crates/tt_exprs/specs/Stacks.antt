@@ -1,7 +1,10 @@
 -- The plain form of what waits while tokens are read.
-use Rattle.std.specs.Prelude.{ℕ, List, [], ◌∷◌, map, reverse}
+use Rattle.std.specs.Prelude.{List, map, reverse}
 use Rattle.tt_exprs.specs.Plain.{plain_expr}
 use Rattle.tt_exprs.specs.Parsing.{PlainValue, nested, too_deep, PlainRow, row, too_deep_row, PlainPending, unary, binary, test, branch, parenthesis, arguments, PlainWaiting, PlainState, wants, calls, has, wrong, PlainOutcome, good, malformed, nested_too_deeply}
+use Rattle.tt_exprs.specs.Cutting.{PlainReading, whole, refused_at, stopped_here}
+use Rattle.tt_exprs.specs.declared.reading.Reading.{Reading}
+use Rattle.tt_exprs.specs.declared.reading.Reading.TheVariants as readings
 use Rattle.tt_exprs.specs.declared.values.Value.{Value}
 use Rattle.tt_exprs.specs.declared.values.Value.TheVariants as values
 use Rattle.tt_exprs.specs.declared.values.Row.{Row}
@@ -47,3 +50,8 @@ abbrev pub plain_outcome : Outcome → PlainOutcome
 plain_outcome (outcomes.Good expr) = good (plain_expr expr)
 plain_outcome outcomes.Malformed = malformed
 plain_outcome outcomes.NestedTooDeeply = nested_too_deeply
+
+abbrev pub plain_reading : Reading → PlainReading
+plain_reading (readings.Whole outcome) = whole (plain_outcome outcome)
+plain_reading (readings.RefusedAt word) = refused_at word
+plain_reading readings.StoppedHere = stopped_here

@@ -1,18 +1,17 @@
 -- The tokens of an expression, cut from the left (expr(n), OPERANDS and OPERATORS).
 -- `k` is a number of bytes that are passed over.
-use Rattle.std.specs.Prelude.{ℕ, zero, suc, pred, ◌+◌, Bool, true, false, ◌&&◌, ◌||◌, if◌then◌else◌, ◌==◌, nat_lt, List, [], ◌∷◌, take, drop, Option, Some, None, codes}
+use Rattle.std.specs.Prelude.{ℕ, zero, suc, pred, ◌+◌, Bool, true, false, ◌&&◌, ◌||◌, if◌then◌else◌, ◌==◌, nat_lt, List, [], ◌∷◌, length, take, drop, Some, None}
 use Rattle.std.specs.List.{prefix_len}
-use Rattle.std.specs.Str.{bytes_eq, str_eq_ignore_ascii_case}
 use Rattle.std.specs.Char.{is_digit, is_ascii_alphabetic, is_ascii_alphanumeric}
 use Rattle.tt_text.specs.Characters.{is_white_space}
 use Rattle.tt_text.specs.Braces.{matching_brace}
-use Rattle.tt_number.specs.Numerals.{is_hexadecimal_mark, is_octal_mark, is_binary_mark, is_exponent_mark}
+use Rattle.tt_number.specs.Numerals.{base_of_mark, is_exponent_mark}
 use Rattle.tt_script.specs.Words.{PlainPart, letters, variable, element, script, PlainParts, none, more}
 use Rattle.tt_script.specs.Reading.{Read, takes, fails, begins, joined_lines}
 use Rattle.tt_script.specs.Operands.{quoted_text, outer_part}
 use Rattle.tt_exprs.specs.Trees.{PlainExpr, leaf, words}
+use Rattle.tt_exprs.specs.Operators.{spelling, sign_operators, word_operators, functions, first_spelled, spelled_so, boolean_word}
 use Rattle.tt_exprs.specs.declared.op.Op.{Op}
-use Rattle.tt_exprs.specs.declared.op.Op.TheVariants.{BitNot, Not, Pow, Mul, Div, Mod, Add, Sub, Shl, Shr, Less, Greater, LessEqual, GreaterEqual, Equal, NotEqual, TextEqual, TextNotEqual, Member, NotMember, BitAnd, BitXor, BitOr, And, Or, Choose, Abs, Int, Max, Min}
 
 -- a token; `-` and `+` are the operators that stand between operands, wherever they stand
 pub data PlainToken : Type 0 where
@@ -32,63 +31,21 @@ pub data Cut : Type 0 where
 
 -- ---- signs ----
 
--- what a sign of this byte twice is
-abbrev pub doubled : ℕ → Option Op
-doubled b =
-    if b == 42 then Some Pow else
-    if b == 60 then Some Shl else
-    if b == 62 then Some Shr else
-    if b == 61 then Some Equal else
-    if b == 38 then Some And else
-    if b == 124 then Some Or else None
-
--- what a sign of this byte and `=` is
-abbrev pub with_equals : ℕ → Option Op
-with_equals b =
-    if b == 60 then Some LessEqual else
-    if b == 62 then Some GreaterEqual else
-    if b == 33 then Some NotEqual else None
-
--- the operator that a sign of this byte alone is
-abbrev pub single : ℕ → Option Op
-single b =
-    if b == 126 then Some BitNot else
-    if b == 33 then Some Not else
-    if b == 42 then Some Mul else
-    if b == 47 then Some Div else
-    if b == 37 then Some Mod else
-    if b == 43 then Some Add else
-    if b == 45 then Some Sub else
-    if b == 60 then Some Less else
-    if b == 62 then Some Greater else
-    if b == 38 then Some BitAnd else
-    if b == 94 then Some BitXor else
-    if b == 124 then Some BitOr else
-    if b == 63 then Some Choose else None
-
 -- a sign that is no operator
-abbrev pub mark : ℕ → Cut
-mark b =
+abbrev pub mark : List ℕ → Cut
+mark [] = none_here
+mark (b ∷ text) =
     if b == 40 then one opening 1 else
     if b == 41 then one closing 1 else
     if b == 44 then one comma 1 else
     if b == 58 then one colon 1 else none_here
 
--- an operator of two bytes
-abbrev pub pair : ℕ → List ℕ → Option Op
-pair b [] = None
-pair b (next ∷ text) =
-    elim (next == b) [
-      | true ↦ doubled b
-      | false ↦ elim (next == 61) [ true ↦ with_equals b | false ↦ None ]
-    ]
-
 -- the longest sign at the front
-abbrev pub sign : ℕ → List ℕ → Cut
-sign b text =
-    elim (pair b text) [
-      | Some op ↦ one (operator op) 2
-      | None ↦ elim (single b) [ Some op ↦ one (operator op) 1 | None ↦ mark b ]
+unfoldable pub sign : List ℕ → Cut
+sign text =
+    elim (first_spelled sign_operators text) [
+      | Some op ↦ one (operator op) (length (spelling op))
+      | None ↦ mark text
     ]
 
 -- ---- words ----
@@ -101,43 +58,15 @@ begins_word b = is_ascii_alphabetic b || b == 95
 abbrev pub is_word_byte : ℕ → Bool
 is_word_byte b = is_ascii_alphanumeric b || b == 95
 
--- an operator that is spelled with letters
-abbrev pub operator_word : List ℕ → Option Op
-operator_word word =
-    if bytes_eq word (codes "eq") then Some TextEqual else
-    if bytes_eq word (codes "ne") then Some TextNotEqual else
-    if bytes_eq word (codes "in") then Some Member else
-    if bytes_eq word (codes "ni") then Some NotMember else None
-
--- the name of a function
-abbrev pub function_word : List ℕ → Option Op
-function_word word =
-    if bytes_eq word (codes "abs") then Some Abs else
-    if bytes_eq word (codes "int") then Some Int else
-    if bytes_eq word (codes "max") then Some Max else
-    if bytes_eq word (codes "min") then Some Min else None
-
--- whether two words are the same but for the case of their letters
-abbrev pub is_same_word : List ℕ → List ℕ → Bool
-is_same_word = str_eq_ignore_ascii_case
-
--- a word for a truth, in any case
-abbrev pub is_boolean_word : List ℕ → Bool
-is_boolean_word word =
-    is_same_word word (codes "true") || is_same_word word (codes "yes") || is_same_word word (codes "on")
-    || is_same_word word (codes "false") || is_same_word word (codes "no") || is_same_word word (codes "off")
-
 -- a bare word that takes n bytes
 abbrev pub bare_word : List ℕ → ℕ → Cut
 bare_word word n =
-    elim (operator_word word) [
+    elim (spelled_so word_operators word) [
       | Some op ↦ one (operator op) n
-      | None ↦
-          elim (function_word word) [
-            | Some op ↦ one (function op) n
-            | None ↦
-                elim (is_boolean_word word) [ true ↦ one (operand (leaf word)) n | false ↦ refused word ]
-          ]
+      | None ↦ elim (spelled_so functions word) [
+        | Some op ↦ one (function op) n
+        | None ↦ elim (boolean_word word) [ Some truth ↦ one (operand (leaf word)) n | None ↦ refused word ]
+      ]
     ]
 
 -- ---- numbers ----
@@ -194,13 +123,6 @@ scaled n m text =
 abbrev pub unmarked : List ℕ → ℕ
 unmarked text = scaled (run 10 text) (run 10 text + fraction (run 10 text) (drop (run 10 text) text)) text
 
--- the base that a mark after a 0 names
-abbrev pub base_of_mark : ℕ → Option ℕ
-base_of_mark mark =
-    if is_hexadecimal_mark mark then Some 16 else
-    if is_octal_mark mark then Some 8 else
-    if is_binary_mark mark then Some 2 else None
-
 -- how many bytes a mark of a base and the digits after it take, or 0
 abbrev pub marked : List ℕ → ℕ
 marked [] = 0
@@ -252,15 +174,16 @@ in_braces text =
 -- ---- tokens ----
 
 -- a token whose first byte begins neither a number nor a word
-abbrev pub other : ℕ → List ℕ → Cut
-other b text =
+abbrev pub other : List ℕ → Cut
+other [] = none_here
+other (b ∷ text) =
     elim (b == 34) [
       | true ↦ quoted text
       | false ↦
           elim (b == 123) [
             | true ↦ in_braces text
             | false ↦
-                elim (b == 36 || b == 91) [ true ↦ substituted b text | false ↦ sign b text ]
+                elim (b == 36 || b == 91) [ true ↦ substituted b text | false ↦ sign (b ∷ text) ]
           ]
     ]
 
@@ -279,7 +202,7 @@ token b text =
       | true ↦ word (b ∷ text)
       | false ↦ elim (nat_lt 0 (number_length (b ∷ text))) [
         | true ↦ number (b ∷ text) (number_length (b ∷ text))
-        | false ↦ other b text
+        | false ↦ other (b ∷ text)
       ]
     ]
 

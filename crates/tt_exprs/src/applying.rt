@@ -1,20 +1,24 @@
 ghost use Rattle.std.specs.Prelude.{◌≡◌, length, IfOk, IsFalse, IsTrue};
-ghost use Rattle.std.specs.Prelude.{Ok, Err};
-ghost use Rattle.tt_exprs.specs.Apply.{answer_of, applied, is_lazy, outcome_of, takes};
+ghost use Rattle.tt_exprs.specs.Apply.{answer_of, applied, is_lazy};
+ghost use Rattle.tt_exprs.specs.Operators.{takes};
 
+mod booleans;
 mod comparison;
 mod numbers;
+mod on_numbers;
 mod refusal;
-mod truth;
+mod results;
 
 use crate::op::Op;
+use booleans::negation;
+pub use booleans::{boolean, truth};
 use comparison::{is_member, is_same_text, order};
 use numbers::{extreme, on_one, on_two};
+pub use on_numbers::apply_to_numbers;
 use refusal::{Refusal, message};
+pub use results::result;
 use std::alloc::Global;
-pub use truth::boolean;
-use truth::negation;
-use tt_calls::{Code, Outcome};
+use tt_calls::Outcome;
 use tt_number::{NumOp, OneOp, whole_text};
 use tt_text::{NoMemory, Text};
 
@@ -38,34 +42,9 @@ pub fn apply(alloc: Global, op: Op, operands: &[Text]) -> Result<Outcome, NoMemo
     ensures answer { IfOk result (λ outcome. outcome ≡ applied op operands.now) }
 {
     match answer(alloc, op, operands)? {
-        Ok(number) => fine(alloc, number),
-        Err(refusal) => failed(alloc, &refusal),
+        Ok(number) => Ok(Outcome::fine(alloc, whole_text(alloc, number)?)),
+        Err(refusal) => Outcome::failed(message(alloc, &refusal)?),
     }
-}
-
-fn fine(alloc: Global, number: i64) -> Result<Outcome, NoMemory>
-    ensures { IfOk result (λ outcome. outcome ≡ outcome_of (Ok number)) }
-{
-    let value = whole_text(alloc, number)?;
-    Ok(Outcome {
-        code: Code::Fine,
-        value,
-        trace: Text::new(alloc),
-        kept: Code::Fine,
-    })
-}
-
-fn failed(alloc: Global, refusal: &Refusal) -> Result<Outcome, NoMemory>
-    ensures { IfOk result (λ outcome. outcome ≡ outcome_of (Err refusal.now)) }
-{
-    let value = message(alloc, refusal)?;
-    let trace = value.copy()?;
-    Ok(Outcome {
-        code: Code::Failed,
-        value,
-        trace,
-        kept: Code::Fine,
-    })
 }
 
 fn answer(alloc: Global, op: Op, operands: &[Text]) -> Result<Result<i64, Refusal>, NoMemory>

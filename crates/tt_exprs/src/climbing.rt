@@ -1,13 +1,13 @@
 //! How the tokens of an expression make a tree (expr(n), OPERATORS).
-ghost use Rattle.std.specs.Prelude.{◌≡◌, IfOk, map};
+ghost use Rattle.std.specs.Prelude.{◌≡◌, IfOk};
 ghost use Rattle.tt_exprs.specs.Parsing as parsing;
 ghost use Rattle.tt_exprs.specs.Plain.{plain_token};
 ghost use Rattle.tt_exprs.specs.Stacks.{plain_outcome, plain_stack, plain_state, plain_pending, plain_value, plain_waiting};
 
 use crate::expression::Expr;
 use crate::op::Op;
+use crate::operators::{left_level, takes};
 use crate::pending::{Pending, Waiting, gathered};
-use crate::precedence::left_level;
 use crate::tokens::Token;
 use crate::values::{Row, Value, applied, parenthesized};
 use std::alloc::Global;
@@ -15,7 +15,7 @@ use tt_text::NoMemory;
 
 /// What the tokens so far have come to.
 #[derive(Drop)]
-enum State {
+pub(crate) enum State {
     /// An operand comes next.
     Wants(Vec<Pending>),
     /// The `(` of this function comes next.
@@ -49,7 +49,8 @@ fn as_prefix(op: Op) -> Option<Op>
 
 /// Something more that waits.
 fn wants(mut pending: Vec<Pending>, first: Pending) -> Result<State, NoMemory>
-    ensures { IfOk result (λ state. plain_state state ≡ parsing.wants_after (plain_pending first) (plain_stack pending.items)) }
+    ensures { IfOk result
+        (λ state. plain_state state ≡ parsing.wants_after (plain_pending first) (plain_stack pending.items)) }
 {
     pending.push(first)?;
     Ok(State::Wants(pending))
@@ -57,7 +58,8 @@ fn wants(mut pending: Vec<Pending>, first: Pending) -> Result<State, NoMemory>
 
 /// A token where an operand is wanted.
 fn at_operand(alloc: Global, pending: Vec<Pending>, token: Token) -> Result<State, NoMemory>
-    ensures { IfOk result (λ state. plain_state state ≡ parsing.at_operand (plain_stack pending.items) (plain_token token)) }
+    ensures { IfOk result
+        (λ state. plain_state state ≡ parsing.at_operand (plain_stack pending.items) (plain_token token)) }
 {
     match token {
         Token::Operand(expr) => Ok(State::Has(Waiting {
@@ -76,7 +78,8 @@ fn at_operand(alloc: Global, pending: Vec<Pending>, token: Token) -> Result<Stat
 
 /// A token after the name of a function.
 fn at_call(alloc: Global, op: Op, pending: Vec<Pending>, token: Token) -> Result<State, NoMemory>
-    ensures { IfOk result (λ state. plain_state state ≡ parsing.at_call op (plain_stack pending.items) (plain_token token)) }
+    ensures { IfOk result
+        (λ state. plain_state state ≡ parsing.at_call op (plain_stack pending.items) (plain_token token)) }
 {
     match token {
         Token::Opening => wants(pending, Pending::Arguments(op, Row::new(alloc))),
@@ -96,7 +99,8 @@ fn with_left(op: Op, value: Value) -> Pending
 
 /// An operator after an operand.
 fn operated(alloc: Global, op: Op, waiting: Waiting) -> Result<State, NoMemory>
-    ensures { IfOk result (λ state. plain_state state ≡ parsing.operated op (parsing.left_level_of op) (plain_waiting waiting)) }
+    ensures { IfOk result
+        (λ state. plain_state state ≡ parsing.operated op (parsing.left_level_of op) (plain_waiting waiting)) }
 {
     match left_level(op) {
         Some(bound) => {
@@ -109,7 +113,8 @@ fn operated(alloc: Global, op: Op, waiting: Waiting) -> Result<State, NoMemory>
 
 /// A `:` after an operand that is whole.
 fn after_colon(waiting: Waiting) -> Result<State, NoMemory>
-    ensures { IfOk result (λ state. plain_state state ≡ parsing.after_colon (plain_value waiting.value) (plain_stack waiting.pending.items)) }
+    ensures { IfOk result
+        (λ state. plain_state state ≡ parsing.after_colon (plain_value waiting.value) (plain_stack waiting.pending.items)) }
 {
     let Waiting { mut pending, value } = waiting;
     match pending.pop() {
@@ -120,7 +125,8 @@ fn after_colon(waiting: Waiting) -> Result<State, NoMemory>
 
 /// A `)` after an operand that is whole.
 fn after_closing(waiting: Waiting) -> Result<State, NoMemory>
-    ensures { IfOk result (λ state. plain_state state ≡ parsing.after_closing (plain_value waiting.value) (plain_stack waiting.pending.items)) }
+    ensures { IfOk result
+        (λ state. plain_state state ≡ parsing.after_closing (plain_value waiting.value) (plain_stack waiting.pending.items)) }
 {
     let Waiting { mut pending, value } = waiting;
     match pending.pop() {
@@ -139,20 +145,14 @@ fn after_closing(waiting: Waiting) -> Result<State, NoMemory>
     }
 }
 
-/// Whether a function takes more than one operand.
-fn takes_more(op: Op) -> bool
-    ensures { result ≡ parsing.takes_more op }
-{
-    matches!(op, Op::Max | Op::Min)
-}
-
 /// A `,` after an operand that is whole.
 fn after_comma(waiting: Waiting) -> Result<State, NoMemory>
-    ensures { IfOk result (λ state. plain_state state ≡ parsing.after_comma (plain_value waiting.value) (plain_stack waiting.pending.items)) }
+    ensures { IfOk result
+        (λ state. plain_state state ≡ parsing.after_comma (plain_value waiting.value) (plain_stack waiting.pending.items)) }
 {
     let Waiting { mut pending, value } = waiting;
     match pending.pop() {
-        Some(Pending::Arguments(op, operands)) if takes_more(op) => {
+        Some(Pending::Arguments(op, operands)) if takes(op, 2) => {
             let operands = operands.followed_by(value)?;
             wants(pending, Pending::Arguments(op, operands))
         }
@@ -162,7 +162,8 @@ fn after_comma(waiting: Waiting) -> Result<State, NoMemory>
 
 /// A token after an operand.
 fn at_operator(alloc: Global, waiting: Waiting, token: Token) -> Result<State, NoMemory>
-    ensures { IfOk result (λ state. plain_state state ≡ parsing.at_operator (plain_waiting waiting) (plain_token token)) }
+    ensures { IfOk result
+        (λ state. plain_state state ≡ parsing.at_operator (plain_waiting waiting) (plain_token token)) }
 {
     match token {
         Token::Operator(op) => operated(alloc, op, waiting),
@@ -173,7 +174,8 @@ fn at_operator(alloc: Global, waiting: Waiting, token: Token) -> Result<State, N
     }
 }
 
-fn step(alloc: Global, state: State, token: Token) -> Result<State, NoMemory>
+/// One token more.
+pub(crate) fn step(alloc: Global, state: State, token: Token) -> Result<State, NoMemory>
     ensures { IfOk result (λ next. plain_state next ≡ parsing.step (plain_state state) (plain_token token)) }
 {
     match state {
@@ -185,7 +187,7 @@ fn step(alloc: Global, state: State, token: Token) -> Result<State, NoMemory>
 }
 
 /// What the tokens have come to at their end.
-fn finished(alloc: Global, state: State) -> Result<Outcome, NoMemory>
+pub(crate) fn finished(alloc: Global, state: State) -> Result<Outcome, NoMemory>
     ensures { IfOk result (λ outcome. plain_outcome outcome ≡ parsing.finished (plain_state state)) }
 {
     let State::Has(waiting) = state else {
@@ -199,15 +201,4 @@ fn finished(alloc: Global, state: State) -> Result<Outcome, NoMemory>
         Value::Nested(expr, _) => Ok(Outcome::Good(expr)),
         Value::TooDeep => Ok(Outcome::NestedTooDeeply),
     }
-}
-
-/// The tree of these tokens.
-pub(crate) fn tree_of(alloc: Global, tokens: Vec<Token>) -> Result<Outcome, NoMemory>
-    ensures { IfOk result (λ outcome. plain_outcome outcome ≡ parsing.tree_of (map plain_token tokens.items)) }
-{
-    let mut state = State::Wants(Vec::new(alloc));
-    for token in tokens {
-        state = step(alloc, state, token)?;
-    }
-    finished(alloc, state)
 }

@@ -7,15 +7,16 @@ mod expression;
 pub mod laws;
 mod numbers;
 mod op;
+mod operators;
 mod parsing;
 mod pending;
-mod precedence;
+mod reading;
 mod signs;
 mod tokens;
 mod values;
 mod words;
 
-pub use applying::{apply, boolean};
+pub use applying::{apply, apply_to_numbers, boolean, result, truth};
 pub use expression::{Expr, Parsed};
 pub use op::Op;
 pub use parsing::parse;

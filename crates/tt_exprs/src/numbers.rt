@@ -1,6 +1,7 @@
 //! How far a number at the front of a text goes (expr(n), OPERANDS).
 ghost use Rattle.std.specs.Prelude.{◌≡◌, ◌≤◌, ◌<◌, ◌+◌, length, IfSome};
 ghost use Rattle.tt_exprs.specs.Tokens as tokens;
+ghost use Rattle.tt_number.specs.Numerals as numerals;
 
 /// How many digits of this base are at the front.
 fn run(base: u32, text: &[u8]) -> usize
@@ -99,7 +100,7 @@ fn unmarked(text: &[u8]) -> usize
 
 /// The base that a mark after a first 0 names.
 fn base_of_mark(mark: u8) -> Option<u32>
-    ensures base { result ≡ tokens.base_of_mark mark }
+    ensures base { result ≡ numerals.base_of_mark mark }
     ensures within { IfSome result (λ base. (2 ≤ base) × (base ≤ 16)) }
 {
     match mark {

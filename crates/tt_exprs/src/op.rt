@@ -1,5 +1,7 @@
 //! The operators and functions of an expression.
 
+use crate::operators::takes;
+
 /// An operator or a function of an expression, as expr(n) names them.
 #[derive(Clone, Copy, Debug, PartialEq, Eq)]
 pub enum Op {
@@ -71,7 +73,8 @@ pub enum Op {
 
 impl Op {
     ghost use Rattle.std.specs.Prelude.{◌≡◌};
-    ghost use Rattle.tt_exprs.specs.Apply.{is_lazy, takes};
+    ghost use Rattle.tt_exprs.specs.Apply.{is_lazy, takes_numbers};
+    ghost use Rattle.tt_exprs.specs.Operators as operators;
 
     /// Whether it evaluates only those of its operands that it needs: `&&`, `||` and `? :`.
     pub fn is_lazy(self) -> bool
@@ -80,15 +83,22 @@ impl Op {
         matches!(self, Op::And | Op::Or | Op::Choose)
     }
 
-    /// Whether it has this number of operands.
-    pub fn takes(self, count: usize) -> bool
-        ensures { result ≡ takes self count }
+    /// Whether it takes its operands as numbers where they are: all but those that evaluate what they
+    /// need alone, and `eq`, `ne`, `in` and `ni`, which take texts.
+    pub fn takes_numbers(self) -> bool
+        ensures { result ≡ takes_numbers self }
     {
         match self {
-            Op::Neg | Op::Plus | Op::BitNot | Op::Not | Op::Abs | Op::Int => count == 1,
-            Op::Choose => count == 3,
-            Op::Max | Op::Min => count > 0,
-            _ => count == 2,
+            Op::And | Op::Or | Op::Choose => false,
+            Op::TextEqual | Op::TextNotEqual | Op::Member | Op::NotMember => false,
+            _ => true,
         }
+    }
+
+    /// Whether it has this number of operands.
+    pub fn takes(self, count: usize) -> bool
+        ensures { result ≡ operators.takes self count }
+    {
+        takes(self, count)
     }
 }

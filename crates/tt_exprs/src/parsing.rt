@@ -1,12 +1,13 @@
 //! How a text is read as an expression.
 ghost use Rattle.std.specs.Prelude.{◌≡◌, IfOk};
+ghost use Rattle.tt_exprs.specs.Cutting.{told};
 ghost use Rattle.tt_exprs.specs.Parsing as parsing;
 ghost use Rattle.tt_exprs.specs.Plain.{plain_parsed};
-ghost use Rattle.tt_exprs.specs.Stacks.{plain_outcome};
+ghost use Rattle.tt_exprs.specs.Stacks.{plain_outcome, plain_reading};
 
-use crate::climbing::{Outcome, tree_of};
+use crate::climbing::Outcome;
 use crate::expression::Parsed;
-use crate::tokens::{Tokens, all_tokens};
+use crate::reading::{Reading, read_tokens};
 use std::alloc::Global;
 use tt_text::{NoMemory, Text};
 
@@ -47,6 +48,23 @@ fn answered(alloc: Global, text: &[u8], outcome: Outcome) -> Result<Parsed, NoMe
     }
 }
 
+/// What the text is read as whose tokens come to this.
+fn told(alloc: Global, text: &[u8], reading: Reading) -> Result<Parsed, NoMemory>
+    ensures { IfOk result (λ parsed. plain_parsed parsed ≡ told text.now (plain_reading reading)) }
+{
+    match reading {
+        Reading::Whole(outcome) => answered(alloc, text, outcome),
+        Reading::RefusedAt(word) => {
+            let message = bareword_error(alloc, word.as_bytes())?;
+            Ok(Parsed::Bad(message))
+        }
+        Reading::StoppedHere => {
+            let message = syntax_error(alloc, text)?;
+            Ok(Parsed::Bad(message))
+        }
+    }
+}
+
 /// Reads a text as an expression, as expr(n) says: its operands are the leaves of a tree, and its
 /// operators and functions the nodes, which bind by the table of precedence.
 ///
@@ -58,18 +76,7 @@ fn answered(alloc: Global, text: &[u8], outcome: Outcome) -> Result<Parsed, NoMe
 pub fn parse(alloc: Global, text: &[u8]) -> Result<Parsed, NoMemory>
     ensures exact { IfOk result (λ parsed. plain_parsed parsed ≡ parsing.parse text.now) }
 {
-    match all_tokens(alloc, text)? {
-        Tokens::Read(tokens) => {
-            let outcome = tree_of(alloc, tokens)?;
-            answered(alloc, text, outcome)
-        }
-        Tokens::RefusedWord(word) => {
-            let message = bareword_error(alloc, word.as_bytes())?;
-            Ok(Parsed::Bad(message))
-        }
-        Tokens::Stopped => {
-            let message = syntax_error(alloc, text)?;
-            Ok(Parsed::Bad(message))
-        }
-    }
+    let reading = read_tokens(alloc, text)?;
+    let parsed = told(alloc, text, reading)?;
+    Ok(parsed)
 }

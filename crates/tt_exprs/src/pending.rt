@@ -4,7 +4,7 @@ ghost use Rattle.tt_exprs.specs.Parsing as parsing;
 ghost use Rattle.tt_exprs.specs.Stacks.{plain_pending, plain_stack, plain_value, plain_waiting};
 
 use crate::op::Op;
-use crate::precedence::level;
+use crate::operators::level;
 use crate::values::{Row, Value, applied};
 use std::alloc::Global;
 use tt_text::NoMemory;
@@ -78,7 +78,8 @@ fn closed(alloc: Global, pending: Pending, value: Value) -> Result<Value, NoMemo
 
 /// What takes the operand before an operator that binds its left operand at this level.
 pub(crate) fn gathered(alloc: Global, bound: u8, waiting: Waiting) -> Result<Waiting, NoMemory>
-    ensures { IfOk result (λ left. plain_waiting left ≡ parsing.gathered bound (plain_stack waiting.pending.items) (plain_value waiting.value)) }
+    ensures { IfOk result
+        (λ left. plain_waiting left ≡ parsing.gathered bound (plain_stack waiting.pending.items) (plain_value waiting.value)) }
 {
     let Waiting {
         mut pending,

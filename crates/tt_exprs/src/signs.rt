@@ -1,74 +1,51 @@
 //! The operators of an expression that are spelled with signs (expr(n), OPERATORS).
-ghost use Rattle.std.specs.Prelude.{◌≡◌, ◌∷◌, length};
+ghost use Rattle.std.specs.Prelude.{◌≡◌, ◌∷◌, ℕ, List, length, IfSome, IsTrue, nat_eq};
+ghost use Rattle.std.specs.List.{starts_with};
+ghost use Rattle.tt_exprs.specs.Operators as operators;
 ghost use Rattle.tt_exprs.specs.Plain.{plain_cut, TakesWithin};
 ghost use Rattle.tt_exprs.specs.Tokens as tokens;
 
 use crate::op::Op;
+use crate::operators::spelling;
 use crate::tokens::{Cut, Token};
 
-/// What this sign twice is.
-fn doubled(sign: u8) -> Option<Op>
-    ensures { result ≡ tokens.doubled sign }
+/// The operators whose sign begins with this byte, the longer signs first.
+fn begun_by(byte: u8) -> &'static [Op]
+    ensures { (rest : List ℕ) →
+        operators.first_spelled result.now (byte ∷ rest)
+        ≡ operators.first_spelled operators.sign_operators (byte ∷ rest) }
 {
-    match sign {
-        b'*' => Some(Op::Pow),
-        b'<' => Some(Op::Shl),
-        b'>' => Some(Op::Shr),
-        b'=' => Some(Op::Equal),
-        b'&' => Some(Op::And),
-        b'|' => Some(Op::Or),
-        _ => None,
+    match byte {
+        b'*' => &[Op::Pow, Op::Mul],
+        b'<' => &[Op::Shl, Op::LessEqual, Op::Less],
+        b'>' => &[Op::Shr, Op::GreaterEqual, Op::Greater],
+        b'=' => &[Op::Equal],
+        b'!' => &[Op::NotEqual, Op::Not],
+        b'&' => &[Op::And, Op::BitAnd],
+        b'|' => &[Op::Or, Op::BitOr],
+        b'~' => &[Op::BitNot],
+        b'/' => &[Op::Div],
+        b'%' => &[Op::Mod],
+        b'+' => &[Op::Add],
+        b'-' => &[Op::Sub],
+        b'^' => &[Op::BitXor],
+        b'?' => &[Op::Choose],
+        _ => &[],
     }
 }
 
-/// What this sign before a `=` is.
-fn with_equals(sign: u8) -> Option<Op>
-    ensures { result ≡ tokens.with_equals sign }
+/// The first of these operators whose spelling the text begins with.
+fn first_spelled(ops: &[Op], text: &[u8]) -> Option<Op>
+    ensures { result ≡ operators.first_spelled ops.now text.now }
 {
-    match sign {
-        b'<' => Some(Op::LessEqual),
-        b'>' => Some(Op::GreaterEqual),
-        b'!' => Some(Op::NotEqual),
-        _ => None,
-    }
-}
-
-/// The operator that this sign alone is.
-fn single(sign: u8) -> Option<Op>
-    ensures { result ≡ tokens.single sign }
-{
-    match sign {
-        b'~' => Some(Op::BitNot),
-        b'!' => Some(Op::Not),
-        b'*' => Some(Op::Mul),
-        b'/' => Some(Op::Div),
-        b'%' => Some(Op::Mod),
-        b'+' => Some(Op::Add),
-        b'-' => Some(Op::Sub),
-        b'<' => Some(Op::Less),
-        b'>' => Some(Op::Greater),
-        b'&' => Some(Op::BitAnd),
-        b'^' => Some(Op::BitXor),
-        b'|' => Some(Op::BitOr),
-        b'?' => Some(Op::Choose),
-        _ => None,
-    }
-}
-
-/// An operator of two signs.
-fn pair(sign: u8, text: &[u8]) -> Option<Op>
-    ensures { result ≡ tokens.pair sign text.now }
-{
-    match text {
-        [next, ..] if *next == sign => doubled(sign),
-        [b'=', ..] => with_equals(sign),
-        _ => None,
-    }
+    ops.iter()
+        .copied()
+        .find(|op| text.starts_with(spelling(*op)))
 }
 
 /// A sign that is no operator.
 fn mark(sign: u8) -> Cut
-    ensures read { plain_cut result ≡ tokens.mark sign }
+    ensures read { (rest : List ℕ) → plain_cut result ≡ tokens.mark (sign ∷ rest) }
     ensures within { TakesWithin result 1 }
 {
     match sign {
@@ -80,16 +57,16 @@ fn mark(sign: u8) -> Cut
     }
 }
 
-/// The longest sign that begins with this one.
-pub(crate) fn sign(sign: u8, text: &[u8]) -> Cut
-    ensures read { plain_cut result ≡ tokens.sign sign text.now }
-    ensures within { TakesWithin result (length (sign ∷ text.now)) }
+/// The longest sign that a text begins with.
+pub(crate) fn sign(text: &[u8]) -> Cut
+    ensures read { plain_cut result ≡ tokens.sign text.now }
+    ensures within { TakesWithin result (length text.now) }
 {
-    if let Some(op) = pair(sign, text) {
-        return Cut::One(Token::Operator(op), 2);
-    }
-    match single(sign) {
-        Some(op) => Cut::One(Token::Operator(op), 1),
-        None => mark(sign),
+    let [first, ..] = text else {
+        return Cut::NoneHere;
+    };
+    match first_spelled(begun_by(*first), text) {
+        Some(op) => Cut::One(Token::Operator(op), spelling(op).len()),
+        None => mark(*first),
     }
 }

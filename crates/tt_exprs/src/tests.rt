@@ -75,7 +75,7 @@ static OPERATORS: [(&str, &str); 60] = [
 ];
 
 /// The same, with operands of every kind.
-static OPERANDS: [(&str, &str); 51] = [
+static OPERANDS: [(&str, &str); 52] = [
     ("-(2 ** 2)", "(Neg (Pow 2 2))"),
     ("1 - -1", "(Sub 1 (Neg 1))"),
     ("1--1", "(Sub 1 (Neg 1))"),
@@ -106,6 +106,7 @@ static OPERANDS: [(&str, &str); 51] = [
     ("abs ( -3 )", "(Abs (Neg 3))"),
     ("int(7) / 2", "(Div (Int 7) 2)"),
     ("max(1)", "(Max 1)"),
+    ("max(1?2:3,4)", "(Max (Choose 1 2 3) 4)"),
     ("max(1, 2 + 3, 4 * 5)", "(Max 1 (Add 2 3) (Mul 4 5))"),
     ("min(max(1, 2), abs(-3))", "(Min (Max 1 2) (Abs (Neg 3)))"),
     ("max((1), (2 ? 3 : 4))", "(Max 1 (Choose 2 3 4))"),

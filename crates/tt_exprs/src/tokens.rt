@@ -1,6 +1,6 @@
 //! The tokens of an expression, cut from the left (expr(n), OPERANDS and OPERATORS).
 ghost use Rattle.std.specs.Prelude.{◌≡◌, ◌≢◌, ◌∷◌, ◌+◌, ◌-◌, ◌<◌, ◌≤◌, ◌||◌, ◌==◌, true, false, IfOk, IfSome, length, take, drop, slice_index};
-ghost use Rattle.tt_exprs.specs.Plain.{plain_cut, plain_token, plain_tokens, TakesWithin};
+ghost use Rattle.tt_exprs.specs.Plain.{plain_cut, TakesWithin};
 ghost use Rattle.tt_exprs.specs.Tokens as tokens;
 ghost use Rattle.tt_script.specs.Plain.{plain_part};
 ghost use Rattle.tt_text.specs.Characters as characters;
@@ -40,19 +40,8 @@ pub(crate) enum Cut {
     NoneHere,
 }
 
-/// The tokens of a text, as far as they can be read.
-#[derive(Drop)]
-pub(crate) enum Tokens {
-    /// All of them.
-    Read(Vec<Token>),
-    /// To the first bare word that is none.
-    RefusedWord(Text),
-    /// To where no token begins.
-    Stopped,
-}
-
 /// Whether tokens may be parted by this byte: 9 to 13 and 32.
-fn is_white_space(byte: u8) -> bool
+pub(crate) fn is_white_space(byte: u8) -> bool
     ensures { result ≡ characters.is_white_space byte }
 {
     matches!(byte, 9..=13 | b' ')
@@ -119,18 +108,20 @@ fn script(alloc: Global, text: &[u8]) -> Result<Cut, NoMemory>
     }
 }
 
-/// A token whose first byte, this one, begins neither a number nor a word.
-fn other(alloc: Global, first: u8, text: &[u8]) -> Result<Cut, NoMemory>
-    requires { length text.now < usize.MAX }
-    ensures read { IfOk result (λ cut. plain_cut cut ≡ tokens.other first text.now) }
-    ensures within { IfOk result (λ cut. TakesWithin cut (length text.now + 1)) }
+/// The token that a text begins with, whose first byte begins neither a number nor a word.
+fn other(alloc: Global, text: &[u8]) -> Result<Cut, NoMemory>
+    ensures read { IfOk result (λ cut. plain_cut cut ≡ tokens.other text.now) }
+    ensures within { IfOk result (λ cut. TakesWithin cut (length text.now)) }
 {
-    match first {
-        b'"' => quoted(alloc, text),
-        b'{' => in_braces(alloc, text),
-        b'$' => variable(alloc, text),
-        b'[' => script(alloc, text),
-        _ => Ok(sign(first, text)),
+    let [first, rest @ ..] = text else {
+        return Ok(Cut::NoneHere);
+    };
+    match *first {
+        b'"' => quoted(alloc, rest),
+        b'{' => in_braces(alloc, rest),
+        b'$' => variable(alloc, rest),
+        b'[' => script(alloc, rest),
+        _ => Ok(sign(text)),
     }
 }
 
@@ -149,38 +140,16 @@ fn first_token(alloc: Global, first: u8, text: &[u8]) -> Result<Cut, NoMemory>
         let number = Text::from_bytes(alloc, &text[..digits])?;
         return Ok(Cut::One(Token::Operand(Expr::Leaf(number)), digits));
     }
-    other(alloc, first, &text[1..])
+    other(alloc, text)
 }
 
 /// The token that begins here.
-fn token_at(alloc: Global, text: &[u8], at: usize) -> Result<Cut, NoMemory>
+pub(crate) fn token_at(alloc: Global, text: &[u8], at: usize) -> Result<Cut, NoMemory>
     requires { at < length text.now }
-    ensures read { IfOk result (λ cut. plain_cut cut ≡ tokens.token (slice_index text.now at) (drop (at + 1) text.now)) }
+    ensures read { IfOk result
+        (λ cut. plain_cut cut ≡ tokens.token (slice_index text.now at) (drop (at + 1) text.now)) }
     ensures within { IfOk result (λ cut. TakesWithin cut (length text.now - at)) }
 {
     let cut = first_token(alloc, text[at], &text[at..])?;
     Ok(cut)
-}
-
-/// The tokens of a text, as far as they can be read.
-pub(crate) fn all_tokens(alloc: Global, text: &[u8]) -> Result<Tokens, NoMemory>
-    ensures { IfOk result (λ cut. plain_tokens cut ≡ tokens.tokens 0 text.now) }
-{
-    let mut tokens = Vec::new(alloc);
-    let mut at = 0;
-    while at < text.len() {
-        if is_white_space(text[at]) {
-            at += 1;
-            continue;
-        }
-        match token_at(alloc, text, at)? {
-            Cut::One(token, n) => {
-                tokens.push(token)?;
-                at += n;
-            }
-            Cut::Refused(word) => return Ok(Tokens::RefusedWord(word)),
-            Cut::NoneHere => return Ok(Tokens::Stopped),
-        }
-    }
-    Ok(Tokens::Read(tokens))
 }

@@ -1,12 +1,14 @@
 //! The bare words of an expression (expr(n), OPERANDS and OPERATORS).
 ghost use Rattle.std.specs.Prelude.{◌≡◌, ◌≤◌, ◌<◌, IfOk, length};
 ghost use Rattle.std.specs.List.{prefix_len};
-ghost use Rattle.std.specs.Str.{bytes_eq};
+ghost use Rattle.std.specs.Str.{str_eq_ignore_ascii_case};
+ghost use Rattle.tt_exprs.specs.Operators as operators;
 ghost use Rattle.tt_exprs.specs.Plain.{plain_cut, TakesWithin};
 ghost use Rattle.tt_exprs.specs.Tokens as tokens;
 
 use crate::expression::Expr;
 use crate::op::Op;
+use crate::operators::spelling;
 use crate::tokens::{Cut, Token};
 use std::alloc::Global;
 use tt_text::{NoMemory, Text};
@@ -42,64 +44,51 @@ fn word_length(text: &[u8]) -> usize
     n
 }
 
-/// Whether this is that word.
-fn is_word(word: &[u8], other: &[u8]) -> bool
-    ensures { result ≡ bytes_eq word.now other.now }
+/// The one of these operators that is spelled so.
+fn spelled_so(ops: &[Op], word: &[u8]) -> Option<Op>
+    ensures { result ≡ operators.spelled_so ops.now word.now }
 {
-    word == other
+    ops.iter().copied().find(|op| word == spelling(*op))
 }
 
 /// The operator that is spelled so.
 fn operator_word(word: &[u8]) -> Option<Op>
-    ensures { result ≡ tokens.operator_word word.now }
+    ensures { result ≡ operators.spelled_so operators.word_operators word.now }
 {
-    if is_word(word, b"eq") {
-        Some(Op::TextEqual)
-    } else if is_word(word, b"ne") {
-        Some(Op::TextNotEqual)
-    } else if is_word(word, b"in") {
-        Some(Op::Member)
-    } else if is_word(word, b"ni") {
-        Some(Op::NotMember)
-    } else {
-        None
-    }
+    spelled_so(
+        &[Op::TextEqual, Op::TextNotEqual, Op::Member, Op::NotMember],
+        word,
+    )
 }
 
 /// The function of this name.
 fn function_word(word: &[u8]) -> Option<Op>
-    ensures { result ≡ tokens.function_word word.now }
+    ensures { result ≡ operators.spelled_so operators.functions word.now }
 {
-    if is_word(word, b"abs") {
-        Some(Op::Abs)
-    } else if is_word(word, b"int") {
-        Some(Op::Int)
-    } else if is_word(word, b"max") {
-        Some(Op::Max)
-    } else if is_word(word, b"min") {
-        Some(Op::Min)
-    } else {
-        None
-    }
+    spelled_so(&[Op::Abs, Op::Int, Op::Max, Op::Min], word)
 }
 
 /// Whether two words are the same but for the case of their letters.
 fn is_same_word(word: &[u8], other: &[u8]) -> bool
-    ensures { result ≡ tokens.is_same_word word.now other.now }
+    ensures { result ≡ str_eq_ignore_ascii_case word.now other.now }
 {
     word.eq_ignore_ascii_case(other)
 }
 
-/// Whether this is a word for a truth.
-fn is_boolean_word(word: &[u8]) -> bool
-    ensures { result ≡ tokens.is_boolean_word word.now }
+/// The truth that a word says.
+pub(crate) fn boolean_word(word: &[u8]) -> Option<bool>
+    ensures { result ≡ operators.boolean_word word.now }
 {
-    is_same_word(word, b"true")
-        || is_same_word(word, b"yes")
-        || is_same_word(word, b"on")
-        || is_same_word(word, b"false")
+    if is_same_word(word, b"true") || is_same_word(word, b"yes") || is_same_word(word, b"on") {
+        Some(true)
+    } else if is_same_word(word, b"false")
         || is_same_word(word, b"no")
         || is_same_word(word, b"off")
+    {
+        Some(false)
+    } else {
+        None
+    }
 }
 
 /// What this bare word is.
@@ -115,7 +104,7 @@ fn bare_word(alloc: Global, word: &[u8]) -> Result<Cut, NoMemory>
         return Ok(Cut::One(Token::Function(op), word.len()));
     }
     let spelled = Text::from_bytes(alloc, word)?;
-    if is_boolean_word(word) {
+    if boolean_word(word).is_some() {
         return Ok(Cut::One(Token::Operand(Expr::Leaf(spelled)), word.len()));
     }
     Ok(Cut::Refused(spelled))

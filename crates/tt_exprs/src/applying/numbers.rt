@@ -51,7 +51,7 @@ pub(super) fn extreme(op: Op, operands: &[Text]) -> Result<i64, Refusal>
     Ok(best)
 }
 
-fn picked(op: Op, a: i64, b: i64) -> i64
+pub(super) fn picked(op: Op, a: i64, b: i64) -> i64
     ensures { result ≡ picked op a b }
 {
     match op {

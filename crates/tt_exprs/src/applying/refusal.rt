@@ -1,11 +1,12 @@
 //! Why an operator gives nothing, and how that is told.
-ghost use Rattle.std.specs.Prelude.{◌≡◌, ◌++◌, IfOk};
-ghost use Rattle.tt_exprs.specs.ApplyMessages.{arith_message, list_message, message_of, sign_of};
+ghost use Rattle.std.specs.Prelude.{◌≡◌, IfOk};
+ghost use Rattle.tt_exprs.specs.ApplyMessages.{boolean_message, message_of};
 
 use crate::op::Op;
+use crate::operators::spelling;
 use std::alloc::Global;
 use tt_lists::ListFault;
-use tt_number::ArithFault;
+use tt_number::{ArithFault, NumberFault};
 use tt_text::{NoMemory, Text};
 
 /// Why an operator gives nothing.
@@ -30,100 +31,30 @@ pub(super) fn message(alloc: Global, refusal: &Refusal) -> Result<Text, NoMemory
     ensures { IfOk result (λ message. message ≡ message_of refusal.now) }
 {
     match refusal {
-        Refusal::NotNumeric(op) => around(
-            alloc,
-            b"can't use non-numeric string as operand of \"",
-            sign(*op),
-            b"\"",
-        ),
-        Refusal::TooLarge => Text::from_bytes(alloc, b"integer overflow"),
-        Refusal::Float => Text::from_bytes(alloc, b"floating-point number refused"),
-        Refusal::Arith(fault) => Text::from_bytes(alloc, arith_message(*fault)),
-        Refusal::NotBoolean(text) => around(
-            alloc,
-            b"expected boolean value but got \"",
-            text.as_bytes(),
-            b"\"",
-        ),
-        Refusal::NotList(fault) => list_message(alloc, fault),
+        Refusal::NotNumeric(op) => not_numeric(alloc, *op),
+        Refusal::TooLarge => NumberFault::TooLarge.message(alloc, b""),
+        Refusal::Float => NumberFault::Float.message(alloc, b""),
+        Refusal::Arith(fault) => Text::from_bytes(alloc, fault.message()),
+        Refusal::NotBoolean(text) => not_boolean(alloc, text.as_bytes()),
+        Refusal::NotList(fault) => fault.message(alloc),
     }
 }
 
-fn arith_message(fault: ArithFault) -> &'static [u8]
-    ensures { result.now ≡ arith_message fault }
+fn not_numeric(alloc: Global, op: Op) -> Result<Text, NoMemory>
+    ensures { IfOk result (λ message. message ≡ message_of (Refusal.NotNumeric op)) }
 {
-    match fault {
-        ArithFault::Overflow => b"integer overflow",
-        ArithFault::DivideByZero => b"divide by zero",
-        ArithFault::NegativeShift => b"negative shift argument",
-        ArithFault::ZeroPower => b"exponentiation of zero by negative power",
-    }
+    let mut message = Text::from_bytes(alloc, b"can't use non-numeric string as operand of \"")?;
+    message.push_bytes(spelling(op))?;
+    message.push_bytes(b"\"")?;
+    Ok(message)
 }
 
-fn list_message(alloc: Global, fault: &ListFault) -> Result<Text, NoMemory>
-    ensures { IfOk result (λ message. message ≡ list_message fault.now) }
+/// That a text is no boolean value.
+pub(super) fn not_boolean(alloc: Global, text: &[u8]) -> Result<Text, NoMemory>
+    ensures { IfOk result (λ message. message ≡ boolean_message text.now) }
 {
-    match fault {
-        ListFault::OpenBrace => Text::from_bytes(alloc, b"unmatched open brace in list"),
-        ListFault::OpenQuote => Text::from_bytes(alloc, b"unmatched open quote in list"),
-        ListFault::AfterBrace(told) => around(
-            alloc,
-            b"list element in braces followed by \"",
-            told.as_bytes(),
-            b"\" instead of space",
-        ),
-        ListFault::AfterQuote(told) => around(
-            alloc,
-            b"list element in quotes followed by \"",
-            told.as_bytes(),
-            b"\" instead of space",
-        ),
-    }
-}
-
-fn around(alloc: Global, before: &[u8], told: &[u8], after: &[u8]) -> Result<Text, NoMemory>
-    ensures { IfOk result (λ message. message ≡ before.now ++ (told.now ++ after.now)) }
-{
-    let mut text = Text::from_bytes(alloc, before)?;
-    text.push_bytes(told)?;
-    text.push_bytes(after)?;
-    Ok(text)
-}
-
-// As it stands in an expression.
-fn sign(op: Op) -> &'static [u8]
-    ensures { result.now ≡ sign_of op }
-{
-    match op {
-        Op::Neg | Op::Sub => b"-",
-        Op::Plus | Op::Add => b"+",
-        Op::BitNot => b"~",
-        Op::Not => b"!",
-        Op::Pow => b"**",
-        Op::Mul => b"*",
-        Op::Div => b"/",
-        Op::Mod => b"%",
-        Op::Shl => b"<<",
-        Op::Shr => b">>",
-        Op::Less => b"<",
-        Op::Greater => b">",
-        Op::LessEqual => b"<=",
-        Op::GreaterEqual => b">=",
-        Op::Equal => b"==",
-        Op::NotEqual => b"!=",
-        Op::TextEqual => b"eq",
-        Op::TextNotEqual => b"ne",
-        Op::Member => b"in",
-        Op::NotMember => b"ni",
-        Op::BitAnd => b"&",
-        Op::BitXor => b"^",
-        Op::BitOr => b"|",
-        Op::And => b"&&",
-        Op::Or => b"||",
-        Op::Choose => b"?",
-        Op::Abs => b"abs",
-        Op::Int => b"int",
-        Op::Max => b"max",
-        Op::Min => b"min",
-    }
+    let mut message = Text::from_bytes(alloc, b"expected boolean value but got \"")?;
+    message.push_bytes(text)?;
+    message.push_bytes(b"\"")?;
+    Ok(message)
 }

@@ -1,10 +1,11 @@
 mod vectors;
 
-use crate::{Op, apply, boolean};
+use crate::{Op, apply, apply_to_numbers, boolean, result, truth};
 use std::alloc::Global;
 use std::process::Abort;
 use std::test::Fail;
 use tt_calls::Code;
+use tt_number::ArithFault;
 use tt_text::{NoMemory, Text, Texts};
 use vectors::{Answer, MANY, ONE, TWO};
 
@@ -75,4 +76,62 @@ fn booleans_are_read(rt: HostRuntime) {
     for (text, wanted) in &BOOLEANS {
         assert!(rt; boolean(text) == *wanted);
     }
+}
+
+const TRUTHS: [(&[u8], Result<bool, &[u8]>); 4] = [
+    (b"Yes", Ok(true)),
+    (b"0b0", Ok(false)),
+    (b"tru", Err(b"expected boolean value but got \"tru\"")),
+    (b"1.5", Err(b"expected boolean value but got \"1.5\"")),
+];
+
+#[test]
+fn truths_are_told(rt: HostRuntime) -> Result<(), NoMemory> {
+    for (text, wanted) in &TRUTHS {
+        match (truth(rt.alloc(), text)?, *wanted) {
+            (Ok(truth), Ok(wanted)) => assert!(rt; truth == wanted),
+            (Err(message), Err(wanted)) => assert!(rt; message.as_bytes() == wanted),
+            _ => assert!(rt; false, "{text:?}"),
+        }
+    }
+    Ok(())
+}
+
+// The value of a whole expression, and its result.
+const RESULTS: [(&[u8], Answer); 9] = [
+    (b"0x10", Ok(b"16")),
+    (b" 5 ", Ok(b"5")),
+    (b"-017", Ok(b"-15")),
+    (b"-0", Ok(b"0")),
+    (b"08", Ok(b"08")),
+    (b"a b", Ok(b"a b")),
+    (b"", Ok(b"")),
+    (b"1.5", Err(b"floating-point number refused")),
+    (b"9223372036854775808", Err(b"integer overflow")),
+];
+
+#[test]
+fn results_are_made(rt: HostRuntime) -> Result<(), Fail> {
+    for (value, wanted) in &RESULTS {
+        let outcome = result(rt.alloc(), Text::from_bytes(rt.alloc(), value)?)?;
+        match *wanted {
+            Ok(text) => {
+                assert!(rt; outcome.code == Code::Fine);
+                assert!(rt; outcome.value.as_bytes() == text);
+            }
+            Err(message) => {
+                assert!(rt; outcome.code == Code::Failed);
+                assert!(rt; outcome.value.as_bytes() == message);
+            }
+        }
+    }
+    Ok(())
+}
+
+#[test]
+fn operators_are_applied_to_numbers(rt: HostRuntime) {
+    assert!(rt; apply_to_numbers(Op::Max, &[3, 5, 4]) == Ok(5));
+    assert!(rt; apply_to_numbers(Op::Mod, &[-7, 2]) == Ok(1));
+    assert!(rt; apply_to_numbers(Op::Not, &[0]) == Ok(1));
+    assert!(rt; apply_to_numbers(Op::Div, &[1, 0]) == Err(ArithFault::DivideByZero));
 }

@@ -1,5 +1,5 @@
-use Rattle.std.proofs.Common.{◌≡◌, [], ap, sym, ◌∙◌, arith}
-use Rattle.tt_exprs.specs.Parsing.{PlainWaiting, gathered}
+use Rattle.std.proofs.Common.{◌≡◌, [], ap, sym, ◌∙◌}
+use Rattle.tt_exprs.specs.Parsing.{gathered}
 use Rattle.tt_exprs.specs.Stacks.{plain_pending, plain_stack, plain_value, plain_waiting}
 use Rattle.tt_exprs.proofs.StackSteps.{length-zero, stack-pushed, stack-popped, gathered-empty, gathered-takes, gathered-stops}
 use Rattle.tt_exprs.proofs.pending.gathered.Goals as goal

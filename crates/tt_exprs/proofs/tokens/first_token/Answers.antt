@@ -1,8 +1,8 @@
-use Rattle.std.proofs.Common.{◌≡◌, ◌∷◌, IfOk, drop, ap, sym, subst, ◌∙◌, arith}
+use Rattle.std.proofs.Common.{◌≡◌, IfOk, drop, ap, sym, subst, ◌∙◌, arith}
 use Rattle.tt_exprs.specs.Plain.{plain_cut}
-use Rattle.tt_exprs.specs.Tokens.{one, operand, word, other}
+use Rattle.tt_exprs.specs.Tokens.{one, operand, word}
 use Rattle.tt_exprs.proofs.Builds.{plain_leaf}
-use Rattle.tt_exprs.proofs.TokenSteps.{begun, whole, token-word, number-read, other-read}
+use Rattle.tt_exprs.proofs.TokenSteps.{begun, token-word, number-read, other-read}
 use Rattle.tt_exprs.proofs.tokens.first_token.Goals as goal
 
 pub returns-then-begins_word-clause-read : goal.returns-then-begins_word-clause-read
@@ -19,4 +19,4 @@ returns-then-digits-gt0-clause-read c =
 pub returns-clause-read : goal.returns-clause-read
 returns-clause-read c =
     subst (λ cut. IfOk c.other.result (λ found. plain_cut found ≡ cut)) (other-read c.args.text.now c.args.first c.number_length-digits.result c.requires.here c.requires.first (sym c.begins_word.ensures ∙ c.if-begins_word.false) c.number_length-digits.ensures.count (omega (arith, c.if-digits-gt0.false)))
-    (subst (λ rest. IfOk c.other.result (λ found. plain_cut found ≡ other c.args.first rest)) (whole 1 c.args.text.now) c.other.ensures.read)
+    c.other.ensures.read

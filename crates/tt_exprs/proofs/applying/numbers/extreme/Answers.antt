@@ -1,6 +1,6 @@
-use Rattle.std.proofs.Common.{arith, length, drop, take, ◌+◌, ◌-◌, ◌≡◌, ◌<◌, ◌∙◌, ℤ, sym, ap, rules, Err, to_z, of_z, w64}
+use Rattle.std.proofs.Common.{arith, length, drop, take, ◌+◌, ◌-◌, ◌≡◌, ◌∙◌, sym, ap, rules, Err, to_z, of_z, w64}
 use Rattle.std.proofs.lemmas.Int.{ints, to_z-of_z}
-use Rattle.tt_exprs.specs.Apply.{extreme_of, picked, wholes}
+use Rattle.tt_exprs.specs.Apply.{picked, wholes}
 use Rattle.tt_exprs.proofs.Extremes.{one_more, one_refused, first_whole, with_best}
 use Rattle.tt_exprs.proofs.applying.numbers.extreme.Goals as goal
 

@@ -1,9 +1,9 @@
 //! Boolean values.
 ghost use Rattle.std.specs.Prelude.{◌≡◌, length, IfOk};
-ghost use Rattle.std.specs.Str.{str_eq_ignore_ascii_case};
-ghost use Rattle.tt_exprs.specs.Apply.{boolean_of, boolean_word, negation_of};
+ghost use Rattle.tt_exprs.specs.Apply.{boolean_of, negation_of, truth_of};
 
-use super::refusal::Refusal;
+use super::refusal::{Refusal, not_boolean};
+use crate::words::boolean_word;
 use std::alloc::Global;
 use tt_number::read_whole;
 use tt_text::{NoMemory, Text};
@@ -22,22 +22,18 @@ pub fn boolean(text: &[u8]) -> Option<bool>
     }
 }
 
-fn boolean_word(text: &[u8]) -> Option<bool>
-    ensures { result ≡ boolean_word text.now }
+/// The truth of a condition, or of an operand of `&&`, `||` or `? :`, as `boolean` reads it (expr(n),
+/// Operators); or the message `expected boolean value but got "x"` of its error.
+///
+/// `NoMemory` where the memory for the message is refused.
+#[tactic(auto, unfolding(crate::specs::Apply::truth_of))]
+pub fn truth(alloc: Global, text: &[u8]) -> Result<Result<bool, Text>, NoMemory>
+    ensures answer { IfOk result (λ truth. truth ≡ truth_of text.now) }
 {
-    if is_word(text, b"true") || is_word(text, b"yes") || is_word(text, b"on") {
-        Some(true)
-    } else if is_word(text, b"false") || is_word(text, b"no") || is_word(text, b"off") {
-        Some(false)
-    } else {
-        None
+    match boolean(text) {
+        Some(truth) => Ok(Ok(truth)),
+        None => Ok(Err(not_boolean(alloc, text)?)),
     }
-}
-
-fn is_word(text: &[u8], word: &[u8]) -> bool
-    ensures { result ≡ str_eq_ignore_ascii_case text.now word.now }
-{
-    text.eq_ignore_ascii_case(word)
 }
 
 pub(super) fn negation(alloc: Global, operands: &[Text]) -> Result<Result<i64, Refusal>, NoMemory>
