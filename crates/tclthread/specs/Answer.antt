@@ -23,15 +23,20 @@ abbrev pub beginning_of : Replay → List ℕ → Beginning
 beginning_of replay script = record { script = script; name = replay.script; arguments = []; limit = default_limit }
 
 -- the words name a script and a schedule that have these bytes
-pub record AreThere (words : Option Replay) (names : Option Names) (named : Replay) (script text : List ℕ) : Type 0 where
+pub record AreThere (words : Option Replay) (names : Option Names) (named : Replay)
+    (script text : List ℕ) : Type 0 where
   pub read : words ≡ Some named
   pub script_told : Tells names named.script (Some script)
   pub text_told : Tells names named.schedule (Some text)
 
 -- the file that is missing is the script, or else the schedule
 abbrev pub IsMissing : Option Replay → Option Names → List ℕ → Type 0
-IsMissing words names name = (named : Replay) × (words ≡ Some named) × (((name ≡ named.script) × Tells names named.script None)
-    ⊎ ((name ≡ named.schedule) × ((script : List ℕ) × Tells names named.script (Some script)) × Tells names named.schedule None))
+IsMissing words names name =
+    (named : Replay) × (words ≡ Some named)
+    × (((name ≡ named.script) × Tells names named.script None)
+    ⊎ ((name ≡ named.schedule)
+    × ((script : List ℕ) × Tells names named.script (Some script))
+    × Tells names named.schedule None))
 
 -- the text under the schedule's name is no schedule's, and this is the place of its first wrong line
 pub record HasWrongText (words : Option Replay) (names : Option Names) (place : ℕ) : Type 0 where
@@ -53,7 +58,8 @@ pub record HasWrongScript (words : Option Replay) (names : Option Names) : Type 
   pub not_plain : ¬ (IsPlain script)
 
 -- a run that begins so, after this list: the text is the list's, and the script is plain
-pub record AsksFor (words : Option Replay) (names : Option Names) (beginning : Beginning) (given : List ℕ) : Type 0 where
+pub record AsksFor (words : Option Replay) (names : Option Names) (beginning : Beginning)
+    (given : List ℕ) : Type 0 where
   pub named : Replay
   pub script : List ℕ
   pub text : List ℕ
@@ -129,19 +135,26 @@ kept_by ReadFault = Some fault.ReadFault
 kept_by WriteFault = Some fault.WriteFault
 kept_by NoMemory = Some fault.NoMemory
 
--- The steps follow the given list and have a run; the sinks got what the machine after them wrote, less at most a part of
--- the last entry's piece where a write failed; that machine is at this end; and without a step the output is as it was.
-pub record HasRun {K E : Type 0} (status : Status) (beginning : Beginning) (given : List ℕ) (left : Left K E) : Type 0 where
+-- The steps follow the given list and have a run; the sinks got what the machine after them wrote, less at most a part
+-- of the last entry's piece where a write failed; that machine is at this end; and without a step the output is as it
+-- was.
+pub record HasRun {K E : Type 0} (status : Status) (beginning : Beginning) (given : List ℕ)
+    (left : Left K E) : Type 0 where
   pub machine : Machine
   pub follows : Follows Replaying given beginning left.schedule
   pub ran : run beginning left.schedule ≡ Some machine
-  pub out : HasWritten (kept_by status) beginning left.schedule (left.got_out left.old_output) (left.got_out left.new_output) (λ m. m.shared.out) machine
-  pub err : HasWritten (kept_by status) beginning left.schedule (left.got_err left.old_errors) (left.got_err left.new_errors) (λ m. m.shared.err) machine
+  pub out :
+      HasWritten (kept_by status) beginning left.schedule
+      (left.got_out left.old_output) (left.got_out left.new_output) (λ m. m.shared.out) machine
+  pub err :
+      HasWritten (kept_by status) beginning left.schedule
+      (left.got_err left.old_errors) (left.got_err left.new_errors) (λ m. m.shared.err) machine
   pub ends : EndsAs status machine left.schedule given
   pub untouched : left.schedule ≡ [] → left.new_output ≡ left.old_output
 
 -- a run that the words and the files ask for
-pub record Runs {K E : Type 0} (status : Status) (words : Option Replay) (names : Option Names) (left : Left K E) : Type 0 where
+pub record Runs {K E : Type 0} (status : Status) (words : Option Replay) (names : Option Names)
+    (left : Left K E) : Type 0 where
   pub beginning : Beginning
   pub given : List ℕ
   pub asks : AsksFor words names beginning given
@@ -151,8 +164,8 @@ pub record Runs {K E : Type 0} (status : Status) (words : Option Replay) (names 
 abbrev pub AreWords : Option Replay → Type 0
 AreWords words = (named : Replay) × (words ≡ Some named)
 
--- What is answered and left, by the status. A read fault or want of memory may come before the run, and a write fault or
--- want of memory may cut it off; each other status comes where its line holds.
+-- What is answered and left, by the status. A read fault or want of memory may come before the run, and a write fault
+-- or want of memory may cut it off; each other status comes where its line holds.
 abbrev pub Answers : {K E : Type 0} → Status → Option Replay → Option Names → Left K E → Type 0
 Answers Usage words names left = IsIdle left × (words ≡ None)
 Answers (NoFile name) words names left = IsIdle left × IsMissing words names name
@@ -181,5 +194,10 @@ IsSettled NoMemory = ⊥
 
 -- two settled answers to the same words and files are the same, and so are the steps
 abbrev pub OneAnswerLaw : (K E : Type 0) → Type 0
-OneAnswerLaw K E = (one other : Status) (words : Option Replay) (names : Names) (left right : Left K E) → IsSettled one → IsSettled other →
-    Answers one words (Some names) left → Answers other words (Some names) right → (one ≡ other) × (left.schedule ≡ right.schedule)
+OneAnswerLaw K E =
+    (one other : Status) (words : Option Replay) (names : Names) (left right : Left K E) →
+    IsSettled one →
+    IsSettled other →
+    Answers one words (Some names) left →
+    Answers other words (Some names) right →
+    (one ≡ other) × (left.schedule ≡ right.schedule)

@@ -14,21 +14,37 @@ IsGranted (Refused message) = ⊥
 
 -- no command of a plain script fails: in none of its runs is a thread refused anything
 abbrev pub NoRefusalLaw : Type 0
-NoRefusalLaw = (beginning : Beginning) (schedule : List ℕ) (machine : Machine) → IsPlain beginning.script → run beginning schedule ≡ Some machine → AllByRecursion (AllByRecursion IsGranted) machine.replies
+NoRefusalLaw =
+    (beginning : Beginning) (schedule : List ℕ) (machine : Machine) →
+    IsPlain beginning.script →
+    run beginning schedule ≡ Some machine →
+    AllByRecursion (AllByRecursion IsGranted) machine.replies
 
 -- thread 1 can step, and each living thread asks something
 pub record IsNotStuck (machine : Machine) : Type 0 where
   pub main : IsSome (step machine 1)
-  pub asks : (number : ℕ) (thread : Thread) → of_thread machine.shared.threads number ≡ Some thread → thread.life ≡ Live → IsSome (asked machine number)
+  pub asks :
+      (number : ℕ) (thread : Thread) →
+      of_thread machine.shared.threads number ≡ Some thread →
+      thread.life ≡ Live →
+      IsSome (asked machine number)
 
 -- a plain script is never stuck before its end
 abbrev pub NotStuckLaw : Type 0
-NotStuckLaw = (beginning : Beginning) (schedule : List ℕ) (machine : Machine) → IsPlain beginning.script → run beginning schedule ≡ Some machine → machine.shared.over ≡ None → IsNotStuck machine
+NotStuckLaw =
+    (beginning : Beginning) (schedule : List ℕ) (machine : Machine) →
+    IsPlain beginning.script →
+    run beginning schedule ≡ Some machine →
+    machine.shared.over ≡ None →
+    IsNotStuck machine
 
 -- the text is a list of `puts` commands with these words
 pub data PutsWords : List (List ℕ) → List ℕ → Type 0 where
   no_words : {text : List ℕ} → first text ≡ Nothing → PutsWords [] text
-  one_more : {words : List (List ℕ)} {text word rest : List ℕ} → first text ≡ Found (Puts word) rest → PutsWords words rest → PutsWords (word ∷ words) text
+  one_more : {words : List (List ℕ)} {text word rest : List ℕ} →
+      first text ≡ Found (Puts word) rest →
+      PutsWords words rest →
+      PutsWords (word ∷ words) text
 
 -- each word and a newline
 abbrev pub lines_of : List (List ℕ) → List ℕ
@@ -43,7 +59,10 @@ pub record RunsTo (beginning : Beginning) (schedule : List ℕ) (code : ℕ) (ou
 
 -- a script of `puts` commands alone writes its words in order
 abbrev pub PutsRunLaw : Type 0
-PutsRunLaw = (beginning : Beginning) (words : List (List ℕ)) → PutsWords words beginning.script → RunsTo beginning (replicate (suc (length words)) 1) 0 (lines_of words)
+PutsRunLaw =
+    (beginning : Beginning) (words : List (List ℕ)) →
+    PutsWords words beginning.script →
+    RunsTo beginning (replicate (suc (length words)) 1) 0 (lines_of words)
 
 -- a run of these lines, with a limit that they don't meet
 abbrev pub begun : List (List ℕ) → Beginning
@@ -51,7 +70,11 @@ begun lines = record { script = flat_map (λ line. line ++ 10 ∷ []) lines; nam
 
 -- two scripts are sent to a thread
 abbrev pub two_sends : Beginning
-two_sends = begun (codes "thread::create" ∷ codes "thread::send -async tid2 {puts a}" ∷ codes "thread::send -async tid2 {puts {b c}}" ∷ [])
+two_sends =
+    begun (codes "thread::create"
+    ∷ codes "thread::send -async tid2 {puts a}"
+    ∷ codes "thread::send -async tid2 {puts {b c}}"
+    ∷ [])
 
 -- one thread is made
 abbrev pub one_thread : Beginning
@@ -64,7 +87,9 @@ ending (Some machine) = Some (machine.shared.over, machine.shared.out)
 
 -- what is written by which schedule, and which steps can't be taken
 pub record WorkedRuns : Type 0 where
-  pub both_served : ending (run two_sends (1 ∷ 1 ∷ 1 ∷ 2 ∷ 2 ∷ 2 ∷ 2 ∷ 1 ∷ [])) ≡ Some (Some 0, lines_of (codes "a" ∷ codes "b c" ∷ []))
+  pub both_served :
+      ending (run two_sends (1 ∷ 1 ∷ 1 ∷ 2 ∷ 2 ∷ 2 ∷ 2 ∷ 1 ∷ []))
+      ≡ Some (Some 0, lines_of (codes "a" ∷ codes "b c" ∷ []))
   pub one_served : ending (run two_sends (1 ∷ 1 ∷ 1 ∷ 2 ∷ 2 ∷ 2 ∷ 1 ∷ [])) ≡ Some (Some 0, lines_of (codes "a" ∷ []))
   pub none_served : ending (run two_sends (1 ∷ 1 ∷ 1 ∷ 1 ∷ [])) ≡ Some (Some 0, [])
   pub going_on : ending (run two_sends (1 ∷ 1 ∷ 1 ∷ 2 ∷ 2 ∷ [])) ≡ Some (None, lines_of (codes "a" ∷ []))

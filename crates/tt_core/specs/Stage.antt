@@ -18,13 +18,14 @@ pub record Stage (S K E : Type 0) : Type 0 where
   pub errors : E
   pub kept : Option StepFault
 
--- More units than a thread of a plain script spends: one for each command that it evaluates, at most 5,000, one for each
--- event that it asks for, at most one more than the scripts that are sent to it, and one for its `thread::wait`.
+-- More units than a thread of a plain script spends: one for each command that it evaluates, at most 5,000, one for
+-- each event that it asks for, at most one more than the scripts that are sent to it, and one for its `thread::wait`.
 abbrev pub plain_units : ℕ
 plain_units = 10000
 
 -- what was written lacks at most a part of what the last entry wrote: the rest of its piece
-pub record IsCutShort (beginning : Beginning) (schedule : List ℕ) (old new : Option (List ℕ)) (written : Machine → List ℕ) (machine : Machine) : Type 0 where
+pub record IsCutShort (beginning : Beginning) (schedule : List ℕ) (old new : Option (List ℕ))
+    (written : Machine → List ℕ) (machine : Machine) : Type 0 where
   pub earlier : List ℕ
   pub last : ℕ
   pub entries : schedule ≡ earlier ++ last ∷ []
@@ -36,8 +37,10 @@ pub record IsCutShort (beginning : Beginning) (schedule : List ℕ) (old new : O
   pub grew : Grows old new (written before ++ part)
 
 -- what a sink got is what the machine wrote, cut short where that write failed
-abbrev pub HasWritten : Option StepFault → Beginning → List ℕ → Option (List ℕ) → Option (List ℕ) → (Machine → List ℕ) → Machine → Type 0
-HasWritten (Some WriteFault) beginning schedule old new written machine = IsCutShort beginning schedule old new written machine
+abbrev pub HasWritten : Option StepFault → Beginning → List ℕ → Option (List ℕ) → Option (List ℕ) →
+    (Machine → List ℕ) → Machine → Type 0
+HasWritten (Some WriteFault) beginning schedule old new written machine =
+    IsCutShort beginning schedule old new written machine
 HasWritten kept beginning schedule old new written machine = Grows old new (written machine)
 
 -- the machine after the steps of the schedule
@@ -75,7 +78,8 @@ pub record SameBeginning {S K E : Type 0} (old new : Stage S K E) : Type 0 where
   pub errors : new.began_errors ≡ old.began_errors
 
 -- the schedule has a run, and the sinks got what the machine wrote
-pub record IsFaithful (beginning : Beginning) (schedule : List ℕ) (kept : Option StepFault) (old_out new_out old_err new_err : Option (List ℕ)) : Type 0 where
+pub record IsFaithful (beginning : Beginning) (schedule : List ℕ) (kept : Option StepFault)
+    (old_out new_out old_err new_err : Option (List ℕ)) : Type 0 where
   pub machine : Machine
   pub ran : run beginning schedule ≡ Some machine
   pub out : HasWritten kept beginning schedule old_out new_out (λ m. m.shared.out) machine
