@@ -151,14 +151,22 @@ fn tell_brackets(rt: &(impl Clock + Print), alloc: Global) -> anyhow::Result<()>
     for depth in &[1, 10, 100] {
         let text = in_brackets(alloc, COMMANDS, MIB, *depth)?;
         let time = picoseconds(least_time(rt, alloc, &text, 1)?, text.len());
-        println!(rt; "{} bytes in {depth} brackets: {time} ps a byte", text.len())?;
+        println!(rt;
+            "{} bytes in {depth} brackets: {time} ps a byte",
+            text.len()
+        )?;
     }
     Ok(())
 }
 
 fn tell_bodies(rt: &(impl Clock + Print), alloc: Global) -> anyhow::Result<()> {
     tell_body(rt, alloc, "braces", &braced(alloc, COMMANDS, KIB)?)?;
-    tell_body(rt, alloc, "brackets", &in_brackets(alloc, COMMANDS, KIB, 1)?)
+    tell_body(
+        rt,
+        alloc,
+        "brackets",
+        &in_brackets(alloc, COMMANDS, KIB, 1)?,
+    )
 }
 
 fn tell_body(
@@ -168,7 +176,10 @@ fn tell_body(
     text: &[u8],
 ) -> anyhow::Result<()> {
     let time = picoseconds(least_time(rt, alloc, text, KIB)?, text.len()) / KIB as u128;
-    println!(rt; "a body of {} bytes in {what}: {time} ps a byte", text.len())?;
+    println!(rt;
+        "a body of {} bytes in {what}: {time} ps a byte",
+        text.len()
+    )?;
     Ok(())
 }
 
