@@ -38,12 +38,17 @@ module _ {T S N : Type 0} {tie : Ghosts T S N} where
 
   -- the state fits the notes of all passes, listed by number, that of this pass among them
   abbrev pub FitsNotes : (S → List N → Type 0) → Noted T S N → Pass T S N tie → S → Type 0
-  FitsNotes fits lock pass state = (notes : List N) × (length notes ≡ count_of lock) × Tells notes pass × fits state notes
+  FitsNotes fits lock pass state =
+      (notes : List N) × (length notes ≡ count_of lock) × Tells notes pass × fits state notes
 
   -- whatever the other notes are: if the state fitted as it was entered, it fits now with the new note
   abbrev pub KeepsFit : (S → List N → Type 0) → Noted T S N → Pass T S N tie → Turn T S N → N → Type 0
   KeepsFit fits lock pass turn note =
-      (notes : List N) → length notes ≡ count_of lock → Tells notes pass → fits (entered_of turn) notes → fits turn.state (slice_set notes (number_of pass - 1) note)
+      (notes : List N) →
+      length notes ≡ count_of lock →
+      Tells notes pass →
+      fits (entered_of turn) notes →
+      fits turn.state (slice_set notes (number_of pass - 1) note)
 
   -- the pass of a new lock that is at index k of them all, with this note
   pub record IsFresh (lock : Noted T S N) (note : N) (k : ℕ) (pass : Pass T S N tie) : Type 0 where
@@ -54,7 +59,9 @@ module _ {T S N : Type 0} {tie : Ghosts T S N} where
 
   -- the passes of a new lock, in order
   abbrev pub AreFresh : Noted T S N → ℕ → N → List (Pass T S N tie) → Type 0
-  AreFresh lock n note passes = (length passes ≡ n) × ((k : ℕ) (p : Pass T S N tie) → slice_get passes k ≡ Some p → IsFresh lock note k p)
+  AreFresh lock n note passes =
+      (length passes ≡ n)
+      × ((k : ℕ) (p : Pass T S N tie) → slice_get passes k ≡ Some p → IsFresh lock note k p)
 
   -- the pass is of the lock as before, with the same number
   abbrev pub IsSamePass : Noted T S N → Pass T S N tie → Pass T S N tie → Type 0
@@ -73,4 +80,5 @@ module _ {T S N : Type 0} {tie : Ghosts T S N} where
 
   -- the state fits the notes of these passes, listed by number
   abbrev pub FitsNotesOf : (S → List N → Type 0) → Noted T S N → List (Pass T S N tie) → S → Type 0
-  FitsNotesOf fits lock passes state = (notes : List N) × (length notes ≡ count_of lock) × All (Tells notes) passes × fits state notes
+  FitsNotesOf fits lock passes state =
+      (notes : List N) × (length notes ≡ count_of lock) × All (Tells notes) passes × fits state notes

@@ -56,17 +56,23 @@ module _ {S N : Type 0} where
 
   -- each note of the view stands at its place among all notes
   abbrev pub Agrees : View S N → List N → Type 0
-  Agrees v notes = (k place : ℕ) (note : N) → slice_get v.notes k ≡ Some (place, note) → slice_get notes place ≡ Some note
+  Agrees v notes =
+      (k place : ℕ) (note : N) → slice_get v.notes k ≡ Some (place, note) → slice_get notes place ≡ Some note
 
   -- the state fits all notes, those of the view among them
   abbrev pub FitsAll : (S → List N → Type 0) → View S N → S → Type 0
   FitsAll fits v state = (notes : List N) × (length notes ≡ v.count) × Agrees v notes × fits state notes
 
-  -- whatever the other notes are: if the state as it was taken fits with the view's one note, this one fits with the new note
+  -- whatever the other notes are: if the state as it was taken fits with the view's one note, this one fits with the
+  -- new note
   abbrev pub LeavesFit : (S → List N → Type 0) → View S N → S → N → Type 0
   LeavesFit fits v state note =
       (place : ℕ) × (old : N) × (entered : S) × (v.notes ≡ (place, old) ∷ []) × (v.turn ≡ Some entered)
-      × ((notes : List N) → length notes ≡ v.count → slice_get notes place ≡ Some old → fits entered notes → fits state (slice_set notes place note))
+      × ((notes : List N) →
+      length notes ≡ v.count →
+      slice_get notes place ≡ Some old →
+      fits entered notes →
+      fits state (slice_set notes place note))
 
   -- the slot has a state that fits the notes, and no view is the holder's
   pub record IsFree (fits : S → List N → Type 0) (notes : List N) (s : Board S N) : Type 0 where
@@ -87,7 +93,8 @@ module _ {S N : Type 0} where
     pub fit : fits state notes
     pub no_other : (at : ℕ) (v : View S N) → at ≢ holder → get_elem? s.views at ≡ some v → v.turn ≡ None
 
-  -- the note c, which a view has at index k, stands at its place among all notes. No other note has that place: `owner` says whose it is
+  -- the note c, which a view has at index k, stands at its place among all notes. No other note has that place:
+  -- `owner` says whose it is
   pub record Stands (notes : List N) (owner : ℕ → ℕ × ℕ) (count at k : ℕ) (v : View S N) (c : ℕ × N) : Type 0 where
     pub counted : v.count ≡ count
     pub stands : slice_get notes c.0 ≡ Some c.1
@@ -107,12 +114,17 @@ module _ {S N : Type 0} where
     pub owner : ℕ → ℕ × ℕ
     pub one_word : length s.words ≡ 1
     pub all : length notes ≡ count
-    pub each_note : (at k : ℕ) (v : View S N) (c : ℕ × N) → get_elem? s.views at ≡ some v → slice_get v.notes k ≡ Some c → Stands notes owner count at k v c
+    pub each_note :
+        (at k : ℕ) (v : View S N) (c : ℕ × N) →
+        get_elem? s.views at ≡ some v →
+        slice_get v.notes k ≡ Some c →
+        Stands notes owner count at k v c
     pub each_place : (place : ℕ) → place < count → HasPlace s.views owner place
     pub free : slice_index s.words 0 % 2 ≡ 0 → IsFree fits notes s
     pub held : slice_index s.words 0 % 2 ≡ 1 → IsHeld fits notes s
 
-  -- the seat is the holder's, and has the slot with a state that fits all notes. Where the word had changed, so did nothing
+  -- the seat is the holder's, and has the slot with a state that fits all notes. Where the word had changed, so did
+  -- nothing
   abbrev pub took : (S → List N → Type 0) → Step (Option S) → Sat S N → ℕ → Sat S N → Type 0
   took fits st m found m' =
       (found ≡ st.first → (state : S) × (m' ≡ (holding m.0 state, (0, Some state) ∷ m.1)) × FitsAll fits m.0 state)
