@@ -11,9 +11,9 @@ use Rattle.tt_exprs.specs.declared.values.Row.{Row}
 use Rattle.tt_exprs.specs.declared.values.Row.TheVariants as rows
 use Rattle.tt_exprs.specs.declared.pending.Pending.{Pending}
 use Rattle.tt_exprs.specs.declared.pending.Pending.TheVariants as pendings
-use Rattle.tt_exprs.specs.declared.pending.Waiting.{Waiting}
 use Rattle.tt_exprs.specs.declared.climbing.State.{State}
-use Rattle.tt_exprs.specs.declared.climbing.State.TheVariants as states
+use Rattle.tt_exprs.specs.declared.climbing.Phase.{Phase}
+use Rattle.tt_exprs.specs.declared.climbing.Phase.TheVariants as phases
 use Rattle.tt_exprs.specs.declared.climbing.Outcome.{Outcome}
 use Rattle.tt_exprs.specs.declared.climbing.Outcome.TheVariants as outcomes
 
@@ -37,14 +37,18 @@ plain_pending (pendings.Arguments op operands) = arguments op (plain_row operand
 abbrev pub plain_stack : List Pending → List PlainPending
 plain_stack pending = reverse (map plain_pending pending)
 
-abbrev pub plain_waiting : Waiting → PlainWaiting
-plain_waiting waiting = record { pending = plain_stack waiting.pending.items; value = plain_value waiting.value }
+abbrev pub plain_waiting : List Pending → Value → PlainWaiting
+plain_waiting pending value = record { pending = plain_stack pending; value = plain_value value }
+
+-- what waits, by what comes next
+abbrev pub plain_phase : List Pending → Phase → PlainState
+plain_phase pending phases.Wants = wants (plain_stack pending)
+plain_phase pending (phases.Calls op) = calls op (plain_stack pending)
+plain_phase pending (phases.Has value) = has (plain_waiting pending value)
+plain_phase pending phases.Wrong = wrong
 
 abbrev pub plain_state : State → PlainState
-plain_state (states.Wants pending) = wants (plain_stack pending.items)
-plain_state (states.Calls op pending) = calls op (plain_stack pending.items)
-plain_state (states.Has waiting) = has (plain_waiting waiting)
-plain_state states.Wrong = wrong
+plain_state state = plain_phase state.pending.items state.phase
 
 abbrev pub plain_outcome : Outcome → PlainOutcome
 plain_outcome (outcomes.Good expr) = good (plain_expr expr)

@@ -1,5 +1,5 @@
 //! How the tokens of an expression make a tree (expr(n), OPERATORS).
-ghost use Rattle.std.specs.Prelude.{◌≡◌, IfOk};
+ghost use Rattle.std.specs.Prelude.{◌≡◌, IfOk, OnOk};
 ghost use Rattle.tt_exprs.specs.Parsing as parsing;
 ghost use Rattle.tt_exprs.specs.Plain.{plain_token};
 ghost use Rattle.tt_exprs.specs.Stacks.{plain_outcome, plain_stack, plain_state, plain_pending, plain_value, plain_waiting};
@@ -7,23 +7,32 @@ ghost use Rattle.tt_exprs.specs.Stacks.{plain_outcome, plain_stack, plain_state,
 use crate::expression::Expr;
 use crate::op::Op;
 use crate::operators::{left_level, takes};
-use crate::pending::{Pending, Waiting, gathered};
+use crate::pending::{Pending, gathered};
 use crate::tokens::Token;
 use crate::values::{Row, Value, applied, parenthesized};
 use std::alloc::Global;
+use std::mem;
 use tt_text::NoMemory;
+
+/// What comes next.
+#[derive(Drop)]
+pub(crate) enum Phase {
+    /// An operand.
+    Wants,
+    /// The `(` of this function.
+    Calls(Op),
+    /// An operator, or the end: this operand is there.
+    Has(Value),
+    /// Nothing, after a fault of form.
+    Wrong,
+}
 
 /// What the tokens so far have come to.
 #[derive(Drop)]
-pub(crate) enum State {
-    /// An operand comes next.
-    Wants(Vec<Pending>),
-    /// The `(` of this function comes next.
-    Calls(Op, Vec<Pending>),
-    /// An operand is there.
-    Has(Waiting),
-    /// A fault of form.
-    Wrong,
+pub(crate) struct State {
+    /// What waits, the innermost last.
+    pub(crate) pending: Vec<Pending>,
+    pub(crate) phase: Phase,
 }
 
 /// The tree, or why there is none.
@@ -48,42 +57,61 @@ fn as_prefix(op: Op) -> Option<Op>
 }
 
 /// Something more that waits.
-fn wants(mut pending: Vec<Pending>, first: Pending) -> Result<State, NoMemory>
-    ensures { IfOk result
-        (λ state. plain_state state ≡ parsing.wants_after (plain_pending first) (plain_stack pending.items)) }
+fn wants(state: &mut State, first: Pending) -> Result<(), NoMemory>
+    ensures { OnOk result
+        (plain_state state.new ≡ parsing.wants_after (plain_pending first) (plain_stack state.old.pending.items)) }
 {
-    pending.push(first)?;
-    Ok(State::Wants(pending))
+    state.pending.push(first)?;
+    state.phase = Phase::Wants;
+    Ok(())
+}
+
+/// A fault of form.
+fn fails(state: &mut State) -> Result<(), NoMemory>
+    ensures { OnOk result (plain_state state.new ≡ parsing.wrong) }
+{
+    state.phase = Phase::Wrong;
+    Ok(())
+}
+
+/// An operand.
+fn has(state: &mut State, value: Value) -> Result<(), NoMemory>
+    ensures { OnOk result
+        (plain_state state.new
+        ≡ parsing.has record { pending = plain_stack state.old.pending.items; value = plain_value value }) }
+{
+    state.phase = Phase::Has(value);
+    Ok(())
 }
 
 /// A token where an operand is wanted.
-fn at_operand(alloc: Global, pending: Vec<Pending>, token: Token) -> Result<State, NoMemory>
-    ensures { IfOk result
-        (λ state. plain_state state ≡ parsing.at_operand (plain_stack pending.items) (plain_token token)) }
+fn at_operand(state: &mut State, token: Token) -> Result<(), NoMemory>
+    ensures { OnOk result
+        (plain_state state.new ≡ parsing.at_operand (plain_stack state.old.pending.items) (plain_token token)) }
 {
     match token {
-        Token::Operand(expr) => Ok(State::Has(Waiting {
-            pending,
-            value: Value::Nested(expr, 0),
-        })),
+        Token::Operand(expr) => has(state, Value::Nested(expr, 0)),
         Token::Operator(op) => match as_prefix(op) {
-            Some(op) => wants(pending, Pending::Unary(op)),
-            None => Ok(State::Wrong),
+            Some(op) => wants(state, Pending::Unary(op)),
+            None => fails(state),
         },
-        Token::Function(op) => Ok(State::Calls(op, pending)),
-        Token::Opening => wants(pending, Pending::Parenthesis),
-        Token::Closing | Token::Comma | Token::Colon => Ok(State::Wrong),
+        Token::Function(op) => {
+            state.phase = Phase::Calls(op);
+            Ok(())
+        }
+        Token::Opening => wants(state, Pending::Parenthesis),
+        Token::Closing | Token::Comma | Token::Colon => fails(state),
     }
 }
 
 /// A token after the name of a function.
-fn at_call(alloc: Global, op: Op, pending: Vec<Pending>, token: Token) -> Result<State, NoMemory>
-    ensures { IfOk result
-        (λ state. plain_state state ≡ parsing.at_call op (plain_stack pending.items) (plain_token token)) }
+fn at_call(alloc: Global, op: Op, state: &mut State, token: Token) -> Result<(), NoMemory>
+    ensures { OnOk result
+        (plain_state state.new ≡ parsing.at_call op (plain_stack state.old.pending.items) (plain_token token)) }
 {
     match token {
-        Token::Opening => wants(pending, Pending::Arguments(op, Row::new(alloc))),
-        _ => Ok(State::Wrong),
+        Token::Opening => wants(state, Pending::Arguments(op, Row::new(alloc))),
+        _ => fails(state),
     }
 }
 
@@ -98,91 +126,96 @@ fn with_left(op: Op, value: Value) -> Pending
 }
 
 /// An operator after an operand.
-fn operated(alloc: Global, op: Op, waiting: Waiting) -> Result<State, NoMemory>
-    ensures { IfOk result
-        (λ state. plain_state state ≡ parsing.operated op (parsing.left_level_of op) (plain_waiting waiting)) }
+fn operated(alloc: Global, op: Op, state: &mut State, value: Value) -> Result<(), NoMemory>
+    ensures { OnOk result
+        (plain_state state.new
+        ≡ parsing.operated op (parsing.left_level_of op) (plain_waiting state.old.pending.items value)) }
 {
     match left_level(op) {
         Some(bound) => {
-            let Waiting { pending, value } = gathered(alloc, bound, waiting)?;
-            wants(pending, with_left(op, value))
+            let left = gathered(alloc, bound, &mut state.pending, value)?;
+            wants(state, with_left(op, left))
         }
-        None => Ok(State::Wrong),
+        None => fails(state),
     }
 }
 
 /// A `:` after an operand that is whole.
-fn after_colon(waiting: Waiting) -> Result<State, NoMemory>
-    ensures { IfOk result
-        (λ state. plain_state state ≡ parsing.after_colon (plain_value waiting.value) (plain_stack waiting.pending.items)) }
+fn after_colon(state: &mut State, value: Value) -> Result<(), NoMemory>
+    ensures { OnOk result
+        (plain_state state.new
+        ≡ parsing.after_colon (plain_value value) (plain_stack state.old.pending.items)) }
 {
-    let Waiting { mut pending, value } = waiting;
-    match pending.pop() {
-        Some(Pending::Test(condition)) => wants(pending, Pending::Branch(condition, value)),
-        _ => Ok(State::Wrong),
+    match state.pending.pop() {
+        Some(Pending::Test(condition)) => wants(state, Pending::Branch(condition, value)),
+        _ => fails(state),
     }
 }
 
 /// A `)` after an operand that is whole.
-fn after_closing(waiting: Waiting) -> Result<State, NoMemory>
-    ensures { IfOk result
-        (λ state. plain_state state ≡ parsing.after_closing (plain_value waiting.value) (plain_stack waiting.pending.items)) }
+fn after_closing(state: &mut State, value: Value) -> Result<(), NoMemory>
+    ensures { OnOk result
+        (plain_state state.new
+        ≡ parsing.after_closing (plain_value value) (plain_stack state.old.pending.items)) }
 {
-    let Waiting { mut pending, value } = waiting;
-    match pending.pop() {
-        Some(Pending::Parenthesis) => Ok(State::Has(Waiting {
-            pending,
-            value: parenthesized(value),
-        })),
+    match state.pending.pop() {
+        Some(Pending::Parenthesis) => has(state, parenthesized(value)),
         Some(Pending::Arguments(op, operands)) => {
             let operands = operands.followed_by(value)?;
-            Ok(State::Has(Waiting {
-                pending,
-                value: applied(op, operands),
-            }))
+            has(state, applied(op, operands))
         }
-        _ => Ok(State::Wrong),
+        _ => fails(state),
     }
 }
 
 /// A `,` after an operand that is whole.
-fn after_comma(waiting: Waiting) -> Result<State, NoMemory>
-    ensures { IfOk result
-        (λ state. plain_state state ≡ parsing.after_comma (plain_value waiting.value) (plain_stack waiting.pending.items)) }
+fn after_comma(state: &mut State, value: Value) -> Result<(), NoMemory>
+    ensures { OnOk result
+        (plain_state state.new
+        ≡ parsing.after_comma (plain_value value) (plain_stack state.old.pending.items)) }
 {
-    let Waiting { mut pending, value } = waiting;
-    match pending.pop() {
+    match state.pending.pop() {
         Some(Pending::Arguments(op, operands)) if takes(op, 2) => {
             let operands = operands.followed_by(value)?;
-            wants(pending, Pending::Arguments(op, operands))
+            wants(state, Pending::Arguments(op, operands))
         }
-        _ => Ok(State::Wrong),
+        _ => fails(state),
     }
 }
 
 /// A token after an operand.
-fn at_operator(alloc: Global, waiting: Waiting, token: Token) -> Result<State, NoMemory>
-    ensures { IfOk result
-        (λ state. plain_state state ≡ parsing.at_operator (plain_waiting waiting) (plain_token token)) }
+fn at_operator(alloc: Global, state: &mut State, value: Value, token: Token) -> Result<(), NoMemory>
+    ensures { OnOk result
+        (plain_state state.new
+        ≡ parsing.at_operator (plain_waiting state.old.pending.items value) (plain_token token)) }
 {
     match token {
-        Token::Operator(op) => operated(alloc, op, waiting),
-        Token::Closing => after_closing(gathered(alloc, 0, waiting)?),
-        Token::Comma => after_comma(gathered(alloc, 0, waiting)?),
-        Token::Colon => after_colon(gathered(alloc, 0, waiting)?),
-        Token::Operand(_) | Token::Function(_) | Token::Opening => Ok(State::Wrong),
+        Token::Operator(op) => operated(alloc, op, state, value),
+        Token::Closing => {
+            let whole = gathered(alloc, 0, &mut state.pending, value)?;
+            after_closing(state, whole)
+        }
+        Token::Comma => {
+            let whole = gathered(alloc, 0, &mut state.pending, value)?;
+            after_comma(state, whole)
+        }
+        Token::Colon => {
+            let whole = gathered(alloc, 0, &mut state.pending, value)?;
+            after_colon(state, whole)
+        }
+        Token::Operand(_) | Token::Function(_) | Token::Opening => fails(state),
     }
 }
 
 /// One token more.
-pub(crate) fn step(alloc: Global, state: State, token: Token) -> Result<State, NoMemory>
-    ensures { IfOk result (λ next. plain_state next ≡ parsing.step (plain_state state) (plain_token token)) }
+pub(crate) fn step(alloc: Global, state: &mut State, token: Token) -> Result<(), NoMemory>
+    ensures { OnOk result (plain_state state.new ≡ parsing.step (plain_state state.old) (plain_token token)) }
 {
-    match state {
-        State::Wants(pending) => at_operand(alloc, pending, token),
-        State::Calls(op, pending) => at_call(alloc, op, pending, token),
-        State::Has(waiting) => at_operator(alloc, waiting, token),
-        State::Wrong => Ok(State::Wrong),
+    match mem::replace(&mut state.phase, Phase::Wrong) {
+        Phase::Wants => at_operand(state, token),
+        Phase::Calls(op) => at_call(alloc, op, state, token),
+        Phase::Has(value) => at_operator(alloc, state, value, token),
+        Phase::Wrong => fails(state),
     }
 }
 
@@ -190,10 +223,11 @@ pub(crate) fn step(alloc: Global, state: State, token: Token) -> Result<State, N
 pub(crate) fn finished(alloc: Global, state: State) -> Result<Outcome, NoMemory>
     ensures { IfOk result (λ outcome. plain_outcome outcome ≡ parsing.finished (plain_state state)) }
 {
-    let State::Has(waiting) = state else {
+    let State { mut pending, phase } = state;
+    let Phase::Has(value) = phase else {
         return Ok(Outcome::Malformed);
     };
-    let Waiting { pending, value } = gathered(alloc, 0, waiting)?;
+    let value = gathered(alloc, 0, &mut pending, value)?;
     if !pending.is_empty() {
         return Ok(Outcome::Malformed);
     }

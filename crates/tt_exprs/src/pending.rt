@@ -25,13 +25,6 @@ pub(crate) enum Pending {
     Arguments(Op, Row),
 }
 
-/// An operand with what waits before it, the innermost last.
-#[derive(Drop)]
-pub(crate) struct Waiting {
-    pub(crate) pending: Vec<Pending>,
-    pub(crate) value: Value,
-}
-
 /// Whether the level of an operator between operands is not below this bound.
 fn reaches(bound: u8, op: Op) -> bool
     ensures { result ≡ parsing.reaches bound (parsing.level_of op) }
@@ -77,14 +70,16 @@ fn closed(alloc: Global, pending: Pending, value: Value) -> Result<Value, NoMemo
 }
 
 /// What takes the operand before an operator that binds its left operand at this level.
-pub(crate) fn gathered(alloc: Global, bound: u8, waiting: Waiting) -> Result<Waiting, NoMemory>
+pub(crate) fn gathered(
+    alloc: Global,
+    bound: u8,
+    pending: &mut Vec<Pending>,
+    mut value: Value,
+) -> Result<Value, NoMemory>
     ensures { IfOk result
-        (λ left. plain_waiting left ≡ parsing.gathered bound (plain_stack waiting.pending.items) (plain_value waiting.value)) }
+        (λ left. plain_waiting pending.new.items left
+        ≡ parsing.gathered bound (plain_stack pending.old.items) (plain_value value)) }
 {
-    let Waiting {
-        mut pending,
-        mut value,
-    } = waiting;
     while let Some(last) = pending.pop() {
         if !binds(bound, &last) {
             pending.push(last)?;
@@ -92,5 +87,5 @@ pub(crate) fn gathered(alloc: Global, bound: u8, waiting: Waiting) -> Result<Wai
         }
         value = closed(alloc, last, value)?;
     }
-    Ok(Waiting { pending, value })
+    Ok(value)
 }

@@ -5,7 +5,7 @@ ghost use Rattle.tt_exprs.specs.Parsing.{wants};
 ghost use Rattle.tt_exprs.specs.Stacks.{plain_reading};
 ghost use Rattle.tt_exprs.specs.Tokens as tokens;
 
-use crate::climbing::{Outcome, State, finished, step};
+use crate::climbing::{Outcome, Phase, State, finished, step};
 use crate::tokens::{Cut, is_white_space, token_at};
 use std::alloc::Global;
 use tt_text::{NoMemory, Text};
@@ -26,7 +26,10 @@ pub(crate) fn read_tokens(alloc: Global, text: &[u8]) -> Result<Reading, NoMemor
     ensures { IfOk result
         (λ reading. plain_reading reading ≡ comes_to (wants []) (tokens.tokens 0 text.now)) }
 {
-    let mut state = State::Wants(Vec::new(alloc));
+    let mut state = State {
+        pending: Vec::new(alloc),
+        phase: Phase::Wants,
+    };
     let mut at = 0;
     while at < text.len() {
         if is_white_space(text[at]) {
@@ -35,7 +38,7 @@ pub(crate) fn read_tokens(alloc: Global, text: &[u8]) -> Result<Reading, NoMemor
         }
         match token_at(alloc, text, at)? {
             Cut::One(token, n) => {
-                state = step(alloc, state, token)?;
+                step(alloc, &mut state, token)?;
                 at += n;
             }
             Cut::Refused(word) => return Ok(Reading::RefusedAt(word)),

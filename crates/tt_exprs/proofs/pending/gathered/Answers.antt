@@ -22,7 +22,7 @@ returns c =
     let value = plain_value c.loop-last.value in
     elim c.match-pop.branch [
       | in-Some+then-not-binds+in_ok-push w ↦
-          ap (λ p. plain_waiting (record { pending = p; value = c.loop-last.value })) w.pending-is
+          ap (λ p. plain_waiting p.items c.loop-last.value) w.pending-is
           ∙ ap (λ s. record { pending = s; value = value }) (stack-pushed c.pop.new.self.items _ w.in-Some.last w.in_ok-push.ensures.items)
           ∙ sym (gathered-stops bound (plain_pending w.in-Some.last) stack value (sym w.binds.ensures ∙ w.if-not-binds.true))
           ∙ ap (λ s. gathered bound s value) (sym (stack-popped c.loop-last.pending.items c.pop.new.self.items c.pop.result w.in-Some.last c.pop.ensures.items w.in-Some.is))
@@ -30,7 +30,7 @@ returns c =
       | in_default w ↦
           let none : c.loop-last.pending.items ≡ [] = length-zero c.loop-last.pending.items (sym c.loop-last.pending.ok.0 ∙ w.in_default.ensures.cases.0) in
           let left : c.pop.new.self.items ≡ [] = length-zero c.pop.new.self.items (sym c.pop.new.self.ok.0 ∙ w.in_default.ensures.cases.1) in
-          ap (λ p. plain_waiting (record { pending = p; value = c.loop-last.value })) w.pending-is
+          ap (λ p. plain_waiting p.items c.loop-last.value) w.pending-is
           ∙ ap (λ items. record { pending = plain_stack items; value = value }) left
           ∙ sym (gathered-empty bound value)
           ∙ ap (λ items. gathered bound (plain_stack items) value) (sym none)

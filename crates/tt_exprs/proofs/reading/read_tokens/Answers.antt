@@ -24,7 +24,7 @@ loop-at-preserved c =
     record {
       within = omega (arith, sized.1);
       read =
-          ap (λ next. comes_to next later) c.in_ok-state-in-One.ensures
+          ap (λ next. comes_to next later) c.in_ok-step-in-One.ensures
           ∙ sym (comes_to-one state (plain_token c.in-One.token) later)
           ∙ ap (comes_to state) (sym (one-at text at (plain_token c.in-One.token) c.in-One.n (omega arith) (sym c.is_white_space.ensures ∙ c.if-is_white_space.false) (sym c.in_ok-token.ensures.read ∙ ap plain_cut c.in-One.is) sized.0))
           ∙ c.loop-at.invariant.read;
