@@ -1,0 +1,12 @@
+//! The ids of threads, locks, pools and channels as texts, and the numbers of jobs (thread(n), tpool(n), chan(n)).
+#![tactic(auto)]
+
+mod id;
+pub mod laws;
+mod number;
+
+pub use id::{IdKind, id_number, id_text};
+pub use number::{number_of, number_text};
+
+#[cfg(test)]
+mod tests;

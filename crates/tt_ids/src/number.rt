@@ -1,0 +1,41 @@
+ghost use Rattle.std.specs.Prelude.{◌≡◌, ◌≢◌, ◌<◌, ◌^◌, ℕ, IfNone, IfOk, IfSome};
+ghost use Rattle.std.specs.Fmt.{decimal};
+
+use itoa::Buffer;
+use std::alloc::Global;
+use tt_text::{NoMemory, Text};
+
+/// The number in decimal, without leading zeros, as jobs are named (tpool(n), tpool::post).
+///
+/// `NoMemory` where the memory for the text is refused.
+pub fn number_text(alloc: Global, number: u64) -> Result<Text, NoMemory>
+    ensures written { IfOk result (λ text. text ≡ decimal number) }
+{
+    let mut buffer = Buffer::new();
+    Text::from_bytes(alloc, buffer.format(number).as_bytes())
+}
+
+/// The number that the text writes in decimal without leading zeros; `None` exactly where it writes none below 2^64.
+/// It takes no memory.
+pub fn number_of(text: &[u8]) -> Option<u64>
+    ensures small { IfSome result (λ number. number < 2 ^ 64) }
+    ensures read { IfSome result (λ number. text.now ≡ decimal number) }
+    ensures none { IfNone result ((n : ℕ) → n < 2 ^ 64 → text.now ≢ decimal n) }
+{
+    match str::from_utf8(text) {
+        Ok(text) => written_number(text),
+        Err(_) => None,
+    }
+}
+
+// A number has one spelling: no plus, no leading zero.
+fn written_number(text: &str) -> Option<u64>
+    ensures small { IfSome result (λ number. number < 2 ^ 64) }
+    ensures read { IfSome result (λ number. text.now ≡ decimal number) }
+    ensures none { IfNone result ((n : ℕ) → n < 2 ^ 64 → text.now ≢ decimal n) }
+{
+    match text.parse::<u64>() {
+        Ok(number) if Buffer::new().format(number) == text => Some(number),
+        _ => None,
+    }
+}
