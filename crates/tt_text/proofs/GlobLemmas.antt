@@ -33,16 +33,16 @@ any_first {p} e (last_backslash f) = absurd (differ p 63 92 e f (omega arith))
 any_first e (itself o m) = absurd (o.no_any e)
 
 -- a text that begins with a character which a set lists
-record Listed (pattern text : List Character) : Type 0 where
-  first : Character
-  rest : List Character
-  after : List Character
-  cut : text ≡ first ∷ rest
-  closed : after_set pattern ≡ Some after
-  listed : IsTrue (is_listed (set_members pattern) first)
-  matches : Matches after rest
+pub record Listed (pattern text : List Character) : Type 0 where
+  pub first : Character
+  pub rest : List Character
+  pub after : List Character
+  pub cut : text ≡ first ∷ rest
+  pub closed : after_set pattern ≡ Some after
+  pub listed : IsTrue (is_listed (set_members pattern) first)
+  pub matches : Matches after rest
 
-set_first : {p : Character} {pattern text : List Character} → p ≡ codes "[" → Matches (p ∷ pattern) text → Listed pattern text
+pub set_first : {p : Character} {pattern text : List Character} → p ≡ codes "[" → Matches (p ∷ pattern) text → Listed pattern text
 set_first {p} e (run skipped f cut m) = absurd (differ p 91 42 e f (omega arith))
 set_first {p} e (any f m) = absurd (differ p 91 63 e f (omega arith))
 set_first e (set {c} {after} {text} f closed listed m) =
@@ -51,21 +51,21 @@ set_first {p} e (escape f m) = absurd (differ p 91 92 e f (omega arith))
 set_first {p} e (last_backslash f) = absurd (differ p 91 92 e f (omega arith))
 set_first e (itself o m) = absurd (o.no_set e)
 
-escape_first : {p c : Character} {pattern text : List Character} → p ≡ codes "\\" → Matches (p ∷ c ∷ pattern) text → MatchesAfter c pattern text
+pub escape_first : {p c : Character} {pattern text : List Character} → p ≡ codes "\\" → Matches (p ∷ c ∷ pattern) text → MatchesAfter c pattern text
 escape_first {p} e (run skipped f cut m) = absurd (differ p 92 42 e f (omega arith))
 escape_first {p} e (any f m) = absurd (differ p 92 63 e f (omega arith))
 escape_first {p} e (set f closed listed m) = absurd (differ p 92 91 e f (omega arith))
 escape_first e (escape {text} f m) = record { rest = text; cut = refl; matches = m }
 escape_first e (itself o m) = absurd (o.no_escape e)
 
-lone_first : {p : Character} {text : List Character} → p ≡ codes "\\" → Matches (p ∷ []) text → MatchesAfter p [] text
+pub lone_first : {p : Character} {text : List Character} → p ≡ codes "\\" → Matches (p ∷ []) text → MatchesAfter p [] text
 lone_first {p} e (run skipped f cut m) = absurd (differ p 92 42 e f (omega arith))
 lone_first {p} e (any f m) = absurd (differ p 92 63 e f (omega arith))
 lone_first {p} e (set f closed listed m) = absurd (differ p 92 91 e f (omega arith))
 lone_first e (last_backslash f) = record { rest = []; cut = refl; matches = empty }
 lone_first e (itself o m) = absurd (o.no_escape e)
 
-ordinary_first : {c : Character} {pattern text : List Character} → IsOrdinary c → Matches (c ∷ pattern) text → MatchesAfter c pattern text
+pub ordinary_first : {c : Character} {pattern text : List Character} → IsOrdinary c → Matches (c ∷ pattern) text → MatchesAfter c pattern text
 ordinary_first o (run skipped f cut m) = absurd (o.no_run f)
 ordinary_first o (any f m) = absurd (o.no_any f)
 ordinary_first o (set f closed listed m) = absurd (o.no_set f)

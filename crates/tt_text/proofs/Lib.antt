@@ -4,4 +4,5 @@ pub mod BraceSearch
 pub mod CharacterLemmas
 mod DefinitionExamples
 pub mod DigitLemmas
+pub mod GlobLaw
 pub mod GlobLemmas

@@ -4,6 +4,7 @@ pub mod BraceScan
 pub mod Characters
 pub mod Digits
 pub mod Glob
+pub mod GlobFunction
 pub mod GlobScan
 pub mod Kept
 pub mod ThreadNumbers

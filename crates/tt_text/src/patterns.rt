@@ -1,6 +1,7 @@
 //! Glob patterns.
 ghost use Rattle.std.specs.Prelude.{◌≡◌, ◌∷◌, ◌<◌, ◌≤◌, ◌↔◌, ◌≢◌, [], codes, length, IsTrue, MatchOption, IfSome};
 ghost use Rattle.tt_text.specs.Characters.{characters};
+ghost use Rattle.tt_text.specs.GlobFunction.{is_match};
 ghost use Rattle.tt_text.specs.Glob.{Matches};
 ghost use Rattle.tt_text.specs.GlobScan.{BeginsWithNoRun, IsSegmentOf, IsShorterThan, Means, RefusesFirst, TakesFirst};
 
@@ -21,6 +22,14 @@ enum Segment<'a> {
 ///
 /// Both are read as characters. It takes time up to the length of the pattern times that of the text.
 pub fn glob(pattern: &[u8], text: &[u8]) -> bool
+    ensures matches { IsTrue result ↔ Matches (characters pattern.now) (characters text.now) }
+    ensures answer { result ≡ is_match (characters pattern.now) (characters text.now) }
+{
+    let matches = scanned(pattern, text);
+    matches
+}
+
+fn scanned(pattern: &[u8], text: &[u8]) -> bool
     ensures { IsTrue result ↔ Matches (characters pattern.now) (characters text.now) }
 {
     let (mut left, mut rest) = match scan_segment(pattern, text) {
