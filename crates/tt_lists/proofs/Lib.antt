@@ -6,3 +6,4 @@ pub mod RunLaw
 pub mod Runs
 pub mod SplitLaw
 pub mod Splits
+pub mod Told

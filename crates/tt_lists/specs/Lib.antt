@@ -1,7 +1,10 @@
+pub mod Answers
 pub mod Growing
 pub mod Indices
 pub mod ListText
 pub mod Messages
+pub mod Parts
 pub mod Places
 pub mod Reading
+pub mod Searching
 pub mod Spelling

@@ -2,21 +2,28 @@
 //! indices are read.
 #![tactic(auto)]
 
+mod answer;
+mod commands;
 mod growing;
 mod indices;
 mod items;
 pub mod laws;
 mod messages;
+mod parts;
 mod place;
 mod run;
+mod searching;
 mod spelling;
 mod splitting;
 
+pub use answer::ListAnswer;
+pub use commands::{count, insert, item, range, replace};
 pub use growing::push_item;
 pub use indices::index;
 pub use items::{ListFault, Split};
 pub use messages::bad_index;
 pub use place::Index;
+pub use searching::{Matching, Search, find};
 pub use spelling::{element, join_list};
 pub use splitting::split;
 

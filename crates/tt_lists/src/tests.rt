@@ -1,3 +1,4 @@
+mod commands;
 mod vectors;
 
 use crate::{Index, Split, bad_index, element, index, join_list, push_item, split};

@@ -1,0 +1,203 @@
+ghost use Rattle.std.specs.Prelude.{◌≡◌, IfOk, decimal};
+ghost use Rattle.std.specs.Option.{option_map};
+ghost use Rattle.tt_lists.specs.Answers.{count_answer, insert_among, insert_answer, item_among, item_answer, item_of, range_among, range_answer, replace_among, replace_answer};
+ghost use Rattle.tt_lists.specs.Indices.{index_of};
+ghost use Rattle.tt_lists.specs.Messages.{bad_index_message, list_message};
+ghost use Rattle.tt_lists.specs.Places.{place_in};
+ghost use Rattle.tt_lists.specs.Spelling.{list_of};
+
+use crate::answer::ListAnswer;
+use crate::indices::index;
+use crate::items::{ListFault, Split};
+use crate::messages::bad_index;
+use crate::parts;
+use crate::spelling::join_list;
+use crate::splitting::split;
+use itoa::Buffer;
+use std::alloc::Global;
+use tt_text::{NoMemory, Text};
+
+/// How many items the list has, in decimal (llength(n)).
+///
+/// `Bad` where the text is no list. `NoMemory` where memory is refused.
+pub fn count(alloc: Global, list: &[u8]) -> Result<ListAnswer, NoMemory>
+    ensures answer { IfOk result (λ answer. answer ≡ count_answer list.now) }
+{
+    match split(alloc, list)? {
+        Split::Items(items) => {
+            let count = count_text(alloc, items.as_slice().len())?;
+            Ok(ListAnswer::Made(count))
+        }
+        Split::Bad(fault) => no_list(alloc, &fault),
+    }
+}
+
+/// The item that the indices name, each in the item that those before it named (lindex(n)). Outside a list it is
+/// empty. Without indices it is the text as it is.
+///
+/// `Bad` for the first from the left of a text that is no list and a word that is no index; a list is read before its
+/// index. `NoMemory` where memory is refused.
+pub fn item(alloc: Global, list: &[u8], words: &[Text]) -> Result<ListAnswer, NoMemory>
+    ensures answer { IfOk result (λ answer. answer ≡ item_answer list.now words.now) }
+{
+    let mut item = Text::from_bytes(alloc, list)?;
+    for word in words {
+        match item_of(alloc, item.as_bytes(), word.as_bytes())? {
+            ListAnswer::Made(inner) => item = inner,
+            ListAnswer::Bad(message) => return Ok(ListAnswer::Bad(message)),
+        }
+    }
+    Ok(ListAnswer::Made(item))
+}
+
+fn item_of(alloc: Global, list: &[u8], word: &[u8]) -> Result<ListAnswer, NoMemory>
+    ensures { IfOk result (λ answer. answer ≡ item_of list.now word.now) }
+{
+    match split(alloc, list)? {
+        Split::Items(items) => item_among(alloc, items.as_slice(), word),
+        Split::Bad(fault) => no_list(alloc, &fault),
+    }
+}
+
+fn item_among(alloc: Global, items: &[Text], word: &[u8]) -> Result<ListAnswer, NoMemory>
+    ensures { IfOk result (λ answer. answer ≡ item_among items.now word.now) }
+{
+    let Some(place) = place_in(word, items.len()) else {
+        return no_index(alloc, word);
+    };
+    let item = Text::from_bytes(alloc, parts::item_in(items, place))?;
+    Ok(ListAnswer::Made(item))
+}
+
+pub(crate) fn no_list(alloc: Global, fault: &ListFault) -> Result<ListAnswer, NoMemory>
+    ensures { IfOk result (λ answer. answer ≡ ListAnswer.Bad (list_message fault.now)) }
+{
+    let message = fault.message(alloc)?;
+    Ok(ListAnswer::Bad(message))
+}
+
+/// A count or a place, in decimal.
+pub(crate) fn count_text(alloc: Global, count: usize) -> Result<Text, NoMemory>
+    ensures { IfOk result (λ text. text ≡ decimal count) }
+{
+    let mut buffer = Buffer::new();
+    Text::from_bytes(alloc, buffer.format(count).as_bytes())
+}
+
+fn no_index(alloc: Global, word: &[u8]) -> Result<ListAnswer, NoMemory>
+    ensures { IfOk result (λ answer. answer ≡ ListAnswer.Bad (bad_index_message word.now)) }
+{
+    let message = bad_index(alloc, word)?;
+    Ok(ListAnswer::Bad(message))
+}
+
+fn made(alloc: Global, items: &[Text]) -> Result<ListAnswer, NoMemory>
+    ensures { IfOk result (λ answer. answer ≡ ListAnswer.Made (list_of items.now)) }
+{
+    let text = join_list(alloc, items)?;
+    Ok(ListAnswer::Made(text))
+}
+
+fn place_in(word: &[u8], count: usize) -> Option<i128>
+    ensures { result ≡ option_map (λ index. place_in index count) (index_of word.now) }
+{
+    index(word).map(|index| index.place(count))
+}
+
+/// The list of the items from the first index up to the last one (lrange(n)).
+///
+/// `Bad` where the text is no list or a word is no index, tested in this order. `NoMemory` where memory is refused.
+pub fn range(alloc: Global, list: &[u8], first: &[u8], last: &[u8]) -> Result<ListAnswer, NoMemory>
+    ensures answer { IfOk result (λ answer. answer ≡ range_answer list.now first.now last.now) }
+{
+    match split(alloc, list)? {
+        Split::Items(items) => range_of(alloc, items.as_slice(), first, last),
+        Split::Bad(fault) => no_list(alloc, &fault),
+    }
+}
+
+fn range_of(
+    alloc: Global,
+    items: &[Text],
+    first: &[u8],
+    last: &[u8],
+) -> Result<ListAnswer, NoMemory>
+    ensures { IfOk result (λ answer. answer ≡ range_among items.now first.now last.now) }
+{
+    let Some(from) = place_in(first, items.len()) else {
+        return no_index(alloc, first);
+    };
+    let Some(to) = place_in(last, items.len()) else {
+        return no_index(alloc, last);
+    };
+    made(alloc, parts::range(items, from, to))
+}
+
+/// The list with others put before the item at the index, where `end` is the place after the last item (linsert(n)).
+///
+/// `Bad` where the text is no list or the word no index, tested in this order. `NoMemory` where memory is refused.
+pub fn insert(
+    alloc: Global,
+    list: &[u8],
+    word: &[u8],
+    others: &[Text],
+) -> Result<ListAnswer, NoMemory>
+    ensures answer { IfOk result (λ answer. answer ≡ insert_answer list.now word.now others.now) }
+{
+    match split(alloc, list)? {
+        Split::Items(items) => insert_among(alloc, items.as_slice(), word, others),
+        Split::Bad(fault) => no_list(alloc, &fault),
+    }
+}
+
+fn insert_among(
+    alloc: Global,
+    items: &[Text],
+    word: &[u8],
+    others: &[Text],
+) -> Result<ListAnswer, NoMemory>
+    ensures { IfOk result (λ answer. answer ≡ insert_among items.now word.now others.now) }
+{
+    let Some(place) = place_in(word, items.len() + 1) else {
+        return no_index(alloc, word);
+    };
+    let all = parts::with_items(alloc, items, place, others)?;
+    made(alloc, all.as_slice())
+}
+
+/// The list with others in place of the items from the first index up to the last one (lreplace(n)).
+///
+/// `Bad` where the text is no list or a word is no index, tested in this order. `NoMemory` where memory is refused.
+pub fn replace(
+    alloc: Global,
+    list: &[u8],
+    first: &[u8],
+    last: &[u8],
+    others: &[Text],
+) -> Result<ListAnswer, NoMemory>
+    ensures answer { IfOk result (λ answer. answer ≡ replace_answer list.now first.now last.now others.now) }
+{
+    match split(alloc, list)? {
+        Split::Items(items) => replace_among(alloc, items.as_slice(), first, last, others),
+        Split::Bad(fault) => no_list(alloc, &fault),
+    }
+}
+
+fn replace_among(
+    alloc: Global,
+    items: &[Text],
+    first: &[u8],
+    last: &[u8],
+    others: &[Text],
+) -> Result<ListAnswer, NoMemory>
+    ensures { IfOk result (λ answer. answer ≡ replace_among items.now first.now last.now others.now) }
+{
+    let Some(from) = place_in(first, items.len()) else {
+        return no_index(alloc, first);
+    };
+    let Some(to) = place_in(last, items.len()) else {
+        return no_index(alloc, last);
+    };
+    let all = parts::with_replaced(alloc, items, from, to, others)?;
+    made(alloc, all.as_slice())
+}

@@ -1,0 +1,116 @@
+ghost use Rattle.std.specs.Prelude.{◌≡◌, ◌↔◌, IfOk, IsTrue};
+ghost use Rattle.tt_lists.specs.Searching.{IsMatch, IsSearchAmong, IsSearchAnswer, IsTold, IsWanted, search_result, told_of};
+
+use crate::answer::ListAnswer;
+use crate::commands::{count_text, no_list};
+use crate::items::Split;
+use crate::spelling::join_list;
+use crate::splitting::split;
+use std::alloc::Global;
+use tt_text::{NoMemory, Text, Texts, glob};
+
+/// How items are compared with a pattern (lsearch(n)).
+#[derive(Clone, Copy, Debug, PartialEq, Eq)]
+pub enum Matching {
+    /// An item matches the pattern that is the same text.
+    Exact,
+    /// An item matches a pattern as string(n), `string match`, says.
+    Glob,
+}
+
+/// What is looked for in a list, and what is told of it (lsearch(n)).
+#[derive(Clone, Copy, Debug, PartialEq, Eq)]
+pub struct Search {
+    /// How items are compared with the pattern.
+    pub matching: Matching,
+    /// Whether all that are wanted are told, as a list, or the first alone.
+    pub all: bool,
+    /// Whether the items are told, or their places, from 0.
+    pub inline: bool,
+    /// Whether those are wanted that don't match.
+    pub not: bool,
+}
+
+/// What a search of a list tells (lsearch(n)): the place of the first item that is wanted and -1 where there is none,
+/// or what `how` asks for in place of that.
+///
+/// `Bad` where the text is no list. `NoMemory` where memory is refused.
+pub fn find(alloc: Global, how: Search, list: &[u8], pattern: &[u8]) -> Result<ListAnswer, NoMemory>
+    ensures answer { IfOk result (IsSearchAnswer how list.now pattern.now) }
+{
+    match split(alloc, list)? {
+        Split::Items(items) => find_among(alloc, how, items.as_slice(), pattern),
+        Split::Bad(fault) => no_list(alloc, &fault),
+    }
+}
+
+fn find_among(
+    alloc: Global,
+    how: Search,
+    items: &[Text],
+    pattern: &[u8],
+) -> Result<ListAnswer, NoMemory>
+    ensures { IfOk result (IsSearchAmong how pattern.now items.now) }
+{
+    let told = told_of_items(alloc, how, items, pattern)?;
+    let text = search_result(alloc, how, told.as_slice())?;
+    Ok(ListAnswer::Made(text))
+}
+
+fn told_of_items(
+    alloc: Global,
+    how: Search,
+    items: &[Text],
+    pattern: &[u8],
+) -> Result<Texts, NoMemory>
+    ensures { IfOk result (λ told. IsTold how pattern.now 0 items.now told) }
+{
+    let mut told = Texts::new(alloc);
+    for (place, item) in items.iter().enumerate() {
+        if is_wanted(how, pattern, item.as_bytes()) {
+            told.push(told_of(alloc, how, place, item)?)?;
+            if !how.all {
+                return Ok(told);
+            }
+        }
+    }
+    Ok(told)
+}
+
+fn is_wanted(how: Search, pattern: &[u8], item: &[u8]) -> bool
+    ensures { IsTrue result ↔ IsWanted how pattern.now item.now }
+{
+    is_match(how.matching, pattern, item) != how.not
+}
+
+fn is_match(matching: Matching, pattern: &[u8], item: &[u8]) -> bool
+    ensures { IsTrue result ↔ IsMatch matching pattern.now item.now }
+{
+    match matching {
+        Matching::Exact => item == pattern,
+        Matching::Glob => glob(pattern, item),
+    }
+}
+
+fn told_of(alloc: Global, how: Search, place: usize, item: &Text) -> Result<Text, NoMemory>
+    ensures { IfOk result (λ told. told ≡ told_of how place item.now) }
+{
+    if how.inline {
+        item.copy()
+    } else {
+        count_text(alloc, place)
+    }
+}
+
+fn search_result(alloc: Global, how: Search, told: &[Text]) -> Result<Text, NoMemory>
+    ensures { IfOk result (λ text. text ≡ search_result how told.now) }
+{
+    if how.all {
+        return join_list(alloc, told);
+    }
+    match told.first() {
+        Some(first) => first.copy(),
+        None if how.inline => Ok(Text::new(alloc)),
+        None => Text::from_bytes(alloc, b"-1"),
+    }
+}
