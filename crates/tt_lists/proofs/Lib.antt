@@ -6,4 +6,3 @@ pub mod RunLaw
 pub mod Runs
 pub mod SplitLaw
 pub mod Splits
-pub mod Told

@@ -1,5 +1,6 @@
-ghost use Rattle.std.specs.Prelude.{◌≡◌, ◌↔◌, IfOk, IsTrue};
-ghost use Rattle.tt_lists.specs.Searching.{IsMatch, IsSearchAmong, IsSearchAnswer, IsTold, IsWanted, search_result, told_of};
+ghost use Rattle.std.specs.Prelude.{◌≡◌, IfOk};
+ghost use Rattle.tt_lists.specs.Searching.{is_alike, is_wanted, search_answer, search_result, told_from, told_of};
+ghost use Rattle.tt_lists.specs.declared.answer.ListAnswer.TheVariants.{Made};
 
 use crate::answer::ListAnswer;
 use crate::commands::{count_text, no_list};
@@ -36,7 +37,7 @@ pub struct Search {
 ///
 /// `Bad` where the text is no list. `NoMemory` where memory is refused.
 pub fn find(alloc: Global, how: Search, list: &[u8], pattern: &[u8]) -> Result<ListAnswer, NoMemory>
-    ensures answer { IfOk result (IsSearchAnswer how list.now pattern.now) }
+    ensures answer { IfOk result (λ answer. answer ≡ search_answer how list.now pattern.now) }
 {
     match split(alloc, list)? {
         Split::Items(items) => find_among(alloc, how, items.as_slice(), pattern),
@@ -50,7 +51,7 @@ fn find_among(
     items: &[Text],
     pattern: &[u8],
 ) -> Result<ListAnswer, NoMemory>
-    ensures { IfOk result (IsSearchAmong how pattern.now items.now) }
+    ensures { IfOk result (λ answer. answer ≡ Made (search_result how (told_from how pattern.now 0 items.now))) }
 {
     let told = told_of_items(alloc, how, items, pattern)?;
     let text = search_result(alloc, how, told.as_slice())?;
@@ -63,7 +64,7 @@ fn told_of_items(
     items: &[Text],
     pattern: &[u8],
 ) -> Result<Texts, NoMemory>
-    ensures { IfOk result (λ told. IsTold how pattern.now 0 items.now told) }
+    ensures { IfOk result (λ told. told ≡ told_from how pattern.now 0 items.now) }
 {
     let mut told = Texts::new(alloc);
     for (place, item) in items.iter().enumerate() {
@@ -78,13 +79,13 @@ fn told_of_items(
 }
 
 fn is_wanted(how: Search, pattern: &[u8], item: &[u8]) -> bool
-    ensures { IsTrue result ↔ IsWanted how pattern.now item.now }
+    ensures { result ≡ is_wanted how pattern.now item.now }
 {
-    is_match(how.matching, pattern, item) != how.not
+    is_alike(how.matching, pattern, item) != how.not
 }
 
-fn is_match(matching: Matching, pattern: &[u8], item: &[u8]) -> bool
-    ensures { IsTrue result ↔ IsMatch matching pattern.now item.now }
+fn is_alike(matching: Matching, pattern: &[u8], item: &[u8]) -> bool
+    ensures { result ≡ is_alike matching pattern.now item.now }
 {
     match matching {
         Matching::Exact => item == pattern,
