@@ -24,7 +24,7 @@ pub use items::{ListFault, Split};
 pub use messages::bad_index;
 pub use place::Index;
 pub use searching::{Matching, Search, find};
-pub use spelling::{element, join_list};
+pub use spelling::{element, join_list, push_later_items};
 pub use splitting::split;
 
 #[cfg(test)]

@@ -55,13 +55,16 @@ fn canonical(alloc: Global, items: &[Text]) -> Result<Text, NoMemory>
     let mut text = Text::new(alloc);
     if let Some((first, later)) = items.split_first() {
         push_spelling(&mut text, Place::First, first.as_bytes())?;
-        push_later(&mut text, later)?;
+        push_later_items(&mut text, later)?;
     }
     Ok(text)
 }
 
-fn push_later(text: &mut Text, items: &[Text]) -> Result<(), NoMemory>
-    ensures { OnOk result (text.new ≡ text.old ++ flat_map later_item items.now) }
+/// Puts items after the first one of a list's text, each with the space before it (list(n)).
+///
+/// `NoMemory` where the memory for them is refused.
+pub fn push_later_items(text: &mut Text, items: &[Text]) -> Result<(), NoMemory>
+    ensures pushed { OnOk result (text.new ≡ text.old ++ flat_map later_item items.now) }
 {
     for item in items {
         push_later_item(text, item.as_bytes())?;

@@ -54,8 +54,9 @@ fn without_white_back(mut text: &[u8]) -> &[u8]
     text
 }
 
+/// A text without the white space at its front and at its back (expr(n), OPERANDS; concat(n)).
 #[tactic(auto, unfolding(crate::specs::Numerals::trimmed))]
-fn trimmed(text: &[u8]) -> &[u8]
+pub fn trimmed(text: &[u8]) -> &[u8]
     ensures { result.now ≡ trimmed text.now }
 {
     without_white_back(without_white_front(text))

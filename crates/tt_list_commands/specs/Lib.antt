@@ -1,0 +1,5 @@
+pub mod Concatenating
+pub mod Joining
+pub mod Repeating
+pub mod Reversing
+pub mod Sorting

@@ -1,0 +1,44 @@
+ghost use Rattle.std.specs.Prelude.{◌≡◌, ◌++◌, IfOk, OnOk};
+ghost use Rattle.std.specs.List.{flat_map};
+ghost use Rattle.tt_list_commands.specs.Joining.{join_answer, joined};
+
+use std::alloc::Global;
+use tt_lists::{ListAnswer, Split, split};
+use tt_text::{NoMemory, Text};
+
+/// The text of a list's items with the separator between each two (join(n)).
+///
+/// `Bad` where the text is no list. `NoMemory` where memory is refused.
+pub fn join(alloc: Global, list: &[u8], separator: &[u8]) -> Result<ListAnswer, NoMemory>
+    ensures answer { IfOk result (λ answer. answer ≡ join_answer list.now separator.now) }
+{
+    match split(alloc, list)? {
+        Split::Items(items) => {
+            let text = joined(alloc, separator, items.as_slice())?;
+            Ok(ListAnswer::Made(text))
+        }
+        Split::Bad(fault) => Ok(ListAnswer::Bad(fault.message(alloc)?)),
+    }
+}
+
+/// The texts with the separator between each two.
+pub(crate) fn joined(alloc: Global, separator: &[u8], texts: &[Text]) -> Result<Text, NoMemory>
+    ensures { IfOk result (λ text. text ≡ joined separator.now texts.now) }
+{
+    let Some((first, later)) = texts.split_first() else {
+        return Ok(Text::new(alloc));
+    };
+    let mut all = first.copy()?;
+    push_separated(&mut all, separator, later)?;
+    Ok(all)
+}
+
+fn push_separated(all: &mut Text, separator: &[u8], texts: &[Text]) -> Result<(), NoMemory>
+    ensures { OnOk result (all.new ≡ all.old ++ flat_map (λ text. separator.now ++ text) texts.now) }
+{
+    for text in texts {
+        all.push_bytes(separator)?;
+        all.push_bytes(text.as_bytes())?;
+    }
+    Ok(())
+}

@@ -1,0 +1,110 @@
+ghost use Rattle.std.specs.Prelude.{◌≡◌, ◌≢◌, ◌+◌, ◌*◌, ◌<◌, ◌^◌, ◌++◌, [], IfOk, codes, length, nat_le};
+ghost use Rattle.std.specs.List.{flat_map, repeat};
+ghost use Rattle.tt_lists.specs.Spelling.{later_item};
+ghost use Rattle.tt_list_commands.specs.Repeating.{repeat_answer, times, unless_long};
+
+use std::alloc::Global;
+use tt_lists::{ListAnswer, join_list, push_later_items};
+use tt_number::read_whole;
+use tt_text::{NoMemory, Text};
+
+/// The most bytes of a list that repeats items.
+pub const LONGEST: usize = 268_435_456;
+
+/// The list of the values as many times as the count says (lrepeat(n)).
+///
+/// `Bad` where the count is no whole number, where it is negative, and where the list would have more than `LONGEST`
+/// bytes; then it isn't made. `NoMemory` where memory is refused.
+pub fn repeat(alloc: Global, count: &[u8], values: &[Text]) -> Result<ListAnswer, NoMemory>
+    ensures answer { IfOk result (λ answer. answer ≡ repeat_answer count.now values.now) }
+{
+    match read_whole(count) {
+        Ok(number) => times(alloc, number, count, values),
+        Err(fault) => Ok(ListAnswer::Bad(fault.message(alloc, count)?)),
+    }
+}
+
+fn times(
+    alloc: Global,
+    number: i64,
+    count: &[u8],
+    values: &[Text],
+) -> Result<ListAnswer, NoMemory>
+    ensures { IfOk result (λ answer. answer ≡ times number count.now values.now) }
+{
+    if number < 0 {
+        return bad_count(alloc, count);
+    }
+    repeated(alloc, number.unsigned_abs(), values)
+}
+
+fn bad_count(alloc: Global, count: &[u8]) -> Result<ListAnswer, NoMemory>
+    ensures { IfOk result (λ answer. answer ≡ ListAnswer.Bad (codes "bad count \"" ++ (count.now ++ codes "\""))) }
+{
+    let mut message = Text::from_bytes(alloc, b"bad count \"")?;
+    message.push_bytes(count)?;
+    message.push_bytes(b"\"")?;
+    Ok(ListAnswer::Bad(message))
+}
+
+fn repeated(alloc: Global, count: u64, values: &[Text]) -> Result<ListAnswer, NoMemory>
+    ensures { IfOk result (λ answer. answer ≡ unless_long (repeat count values.now)) }
+{
+    match values {
+        [] => nothing(alloc, count),
+        _ if count == 0 => Ok(ListAnswer::Made(Text::new(alloc))),
+        _ => repeated_after(alloc, count - 1, values),
+    }
+}
+
+#[tactic(auto, using(crate::proofs::Repeats::nothing_repeated))]
+fn nothing(alloc: Global, count: u64) -> Result<ListAnswer, NoMemory>
+    ensures { IfOk result (λ answer. answer ≡ unless_long (repeat count [])) }
+{
+    Ok(ListAnswer::Made(Text::new(alloc)))
+}
+
+fn repeated_after(alloc: Global, later: u64, values: &[Text]) -> Result<ListAnswer, NoMemory>
+    requires some { values.now ≢ [] }
+    requires fits { later + 1 < 2 ^ 64 }
+    ensures { IfOk result (λ answer. answer ≡ unless_long (repeat (later + 1) values.now)) }
+{
+    let first = join_list(alloc, values)?;
+    let again = later_text(alloc, values)?;
+    if !fits(&first, later, &again) {
+        return Ok(ListAnswer::Bad(Text::from_bytes(alloc, b"result too long")?));
+    }
+    let text = with_repeats(alloc, first, later as usize, &again)?;
+    Ok(ListAnswer::Made(text))
+}
+
+fn later_text(alloc: Global, values: &[Text]) -> Result<Text, NoMemory>
+    ensures { IfOk result (λ text. text ≡ flat_map later_item values.now) }
+{
+    let mut text = Text::new(alloc);
+    push_later_items(&mut text, values)?;
+    Ok(text)
+}
+
+fn with_repeats(
+    alloc: Global,
+    mut text: Text,
+    times: usize,
+    again: &Text,
+) -> Result<Text, NoMemory>
+    ensures { IfOk result (λ all. all ≡ text ++ repeat times again.now) }
+{
+    let later = again.as_bytes().repeat(alloc, times)?;
+    text.push_bytes(later.as_slice())?;
+    Ok(text)
+}
+
+fn fits(first: &Text, later: u64, again: &Text) -> bool
+    ensures { result ≡ nat_le (length first.now + later * length again.now) LONGEST }
+{
+    usize::try_from(later)
+        .ok()
+        .and_then(|times| times.checked_mul(again.len()))
+        .and_then(|length| length.checked_add(first.len()))
+        .is_some_and(|length| length <= LONGEST)
+}

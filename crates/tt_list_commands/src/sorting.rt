@@ -1,0 +1,138 @@
+ghost use Rattle.std.specs.Prelude.{◌≡◌, IfOk, OnOk};
+ghost use Rattle.tt_lists.specs.Spelling.{list_of};
+ghost use Rattle.tt_list_commands.specs.Sorting.{IsInOrder, IsSortAnswer, IsSortUnless, equals_next, fault_of, increasing, kept, last_of_equals, number_fault, number_of, order};
+
+use std::alloc::Global;
+use std::cmp::{Ordering, Reverse};
+use tt_lists::{ListAnswer, Split, join_list, split};
+use tt_number::read_whole;
+use tt_text::{NoMemory, Text, Texts};
+
+/// How items are put in order (lsort(n)).
+#[derive(Clone, Copy, Debug, PartialEq, Eq)]
+pub struct Sorting {
+    /// Whether they are compared as whole numbers, or by their bytes.
+    pub integer: bool,
+    /// Whether the greatest comes first, or the least.
+    pub decreasing: bool,
+    /// Whether of equals the last alone stays.
+    pub unique: bool,
+}
+
+/// The list of a list's items in order (lsort(n)). Equals stay in the order that they have.
+///
+/// `Bad` where the text is no list, and else with `integer` for the first item that is no whole number. `NoMemory`
+/// where memory is refused.
+pub fn sort(alloc: Global, how: Sorting, list: &[u8]) -> Result<ListAnswer, NoMemory>
+    ensures answer { IfOk result (IsSortAnswer how list.now) }
+{
+    match split(alloc, list)? {
+        Split::Items(items) => sort_items(alloc, how, items),
+        Split::Bad(fault) => Ok(ListAnswer::Bad(fault.message(alloc)?)),
+    }
+}
+
+fn sort_items(alloc: Global, how: Sorting, items: Texts) -> Result<ListAnswer, NoMemory>
+    ensures { IfOk result (IsSortUnless (fault_of how items) how items) }
+{
+    if let Some(message) = fault_of(alloc, how, items.as_slice())? {
+        return Ok(ListAnswer::Bad(message));
+    }
+    let mut items = items.into_vec();
+    put_in_order(how, &mut items)?;
+    let text = kept_text(alloc, how, items.as_slice())?;
+    Ok(ListAnswer::Made(text))
+}
+
+fn fault_of(alloc: Global, how: Sorting, items: &[Text]) -> Result<Option<Text>, NoMemory>
+    ensures { IfOk result (λ fault. fault ≡ fault_of how items.now) }
+{
+    if how.integer {
+        number_fault(alloc, items)
+    } else {
+        Ok(None)
+    }
+}
+
+fn number_fault(alloc: Global, items: &[Text]) -> Result<Option<Text>, NoMemory>
+    ensures { IfOk result (λ fault. fault ≡ number_fault items.now) }
+{
+    for item in items {
+        if let Err(fault) = read_whole(item.as_bytes()) {
+            let message = fault.message(alloc, item.as_bytes())?;
+            return Ok(Some(message));
+        }
+    }
+    Ok(None)
+}
+
+fn put_in_order(how: Sorting, items: &mut Vec<Text>) -> Result<(), NoMemory>
+    ensures { OnOk result (IsInOrder how items.old.items items.new.items) }
+{
+    match (how.integer, how.decreasing) {
+        (false, false) => items.sort()?,
+        (false, true) => items.sort_by(|a, b| b.cmp(a))?,
+        (true, false) => items.sort_by_cached_key(|item| number_of(item.as_bytes()))?,
+        (true, true) => items.sort_by_cached_key(|item| Reverse(number_of(item.as_bytes())))?,
+    }
+    Ok(())
+}
+
+fn number_of(item: &[u8]) -> i64
+    ensures { result ≡ number_of item.now }
+{
+    read_whole(item).unwrap_or(0)
+}
+
+fn kept_text(alloc: Global, how: Sorting, sorted: &[Text]) -> Result<Text, NoMemory>
+    ensures { IfOk result (λ text. text ≡ list_of (kept how sorted.now)) }
+{
+    if !how.unique {
+        return join_list(alloc, sorted);
+    }
+    let last = last_of_equals(alloc, how, sorted)?;
+    let text = join_list(alloc, last.as_slice())?;
+    Ok(text)
+}
+
+fn last_of_equals(alloc: Global, how: Sorting, sorted: &[Text]) -> Result<Texts, NoMemory>
+    ensures { IfOk result (λ last. last ≡ last_of_equals how sorted.now) }
+{
+    let mut last = Texts::new(alloc);
+    let mut rest = sorted;
+    while let [item, later @ ..] = rest {
+        if !equals_next(how, item.as_bytes(), later) {
+            last.push(item.copy()?)?;
+        }
+        rest = later;
+    }
+    Ok(last)
+}
+
+fn equals_next(how: Sorting, item: &[u8], later: &[Text]) -> bool
+    ensures { result ≡ equals_next how item.now later.now }
+{
+    later
+        .first()
+        .is_some_and(|next| order(how, item, next.as_bytes()) == Ordering::Equal)
+}
+
+fn order(how: Sorting, a: &[u8], b: &[u8]) -> Ordering
+    ensures { result ≡ order how a.now b.now }
+{
+    if how.decreasing {
+        increasing(how, b, a)
+    } else {
+        increasing(how, a, b)
+    }
+}
+
+fn increasing(how: Sorting, a: &[u8], b: &[u8]) -> Ordering
+    ensures { result ≡ increasing how a.now b.now }
+{
+    if how.integer {
+        number_of(a).cmp(&number_of(b))
+    } else {
+        a.cmp(b)
+    }
+}
