@@ -1,0 +1,16 @@
+//! The locks of scripts: mutexes, read-write locks and condition variables (thread(n)).
+#![tactic(auto)]
+
+mod answers;
+mod holders;
+mod lock;
+mod locks;
+mod numbers;
+
+pub use holders::Holders;
+pub use lock::Lock;
+pub use locks::Locks;
+pub use numbers::Numbers;
+
+#[cfg(test)]
+mod tests;
