@@ -1,0 +1,4 @@
+pub mod Answers
+pub mod Channels
+pub mod Ends
+pub mod Lines
