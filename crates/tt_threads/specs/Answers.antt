@@ -1,5 +1,5 @@
 -- What the requests on the table of threads do to it, and what they are answered: a case each (thread(n)).
-use Rattle.std.specs.Prelude.{ℕ, zero, suc, Bool, true, false, ◌&&◌, ◌==◌, not, List, [], ◌∷◌, ◌++◌, codes, Option, Some, None, if◌then◌else◌, slice_get, slice_set, option_and_then, is_some, ℤ, pos, negsuc, ◌+ℤ◌}
+use Rattle.std.specs.Prelude.{ℕ, zero, suc, Bool, true, false, ◌&&◌, ◌==◌, not, nat_lt, length, List, [], ◌∷◌, ◌++◌, codes, Option, Some, None, if◌then◌else◌, slice_get, slice_set, option_and_then, is_some, ℤ, pos, negsuc, ◌+ℤ◌}
 use Rattle.std.specs.Result.{result_ok}
 use Rattle.std.specs.Fmt.{decimal, signed_decimal}
 use Rattle.std.specs.Int.RustNames.{unsigned_abs}
@@ -149,19 +149,20 @@ set_found rows place now (Some row) = slice_set rows place (put_settings row now
 abbrev pub set : List Row → ℕ → Settings → List Row
 set rows place now = set_found rows place now (slice_get rows place)
 
-abbrev pub tells : List Row → Option (List ℕ) → Answered
-tells rows None = is_not_asked rows
-tells rows (Some value) = answers rows value
-
 abbrev pub sets : List Row → ℕ → Row → Option Settings → Answered
 sets rows number row None = is_not_asked rows
 sets rows number row (Some now) = record { rows = with_row rows number (put_settings row now); reply = Go }
 
+-- no word tells all settings, and one word the setting of that option
+abbrev pub told_reply : Settings → List (List ℕ) → Reply
+told_reply now [] = Value (list_of (settings now))
+told_reply now (name ∷ words) = elim (setting_of now name) [ Some value ↦ Value value | None ↦ Refused [] ]
+
+-- more words set what they say
 abbrev pub configures_row : List Row → ℕ → Row → List (List ℕ) → Answered
-configures_row rows number row [] = answers rows (list_of (settings (settings_of row)))
-configures_row rows number row (name ∷ []) = tells rows (setting_of (settings_of row) name)
-configures_row rows number row (name ∷ value ∷ words) =
-    sets rows number row (with_settings (name ∷ value ∷ words) (settings_of row))
+configures_row rows number row words =
+    if nat_lt (length words) 2 then record { rows = rows; reply = told_reply (settings_of row) words } else
+    sets rows number row (with_settings words (settings_of row))
 
 abbrev pub configures_at : List Row → ℕ → List (List ℕ) → Option Row → Answered
 configures_at rows number words None = is_not_asked rows

@@ -2,7 +2,7 @@ ghost use Rattle.std.specs.Prelude.{◌≡◌, ◌<◌, ◌-◌, ◌^◌, ◌++�
 ghost use Rattle.std.specs.List.{All};
 ghost use Rattle.tt_calls.specs.declared.reply.Reply.TheVariants.{Value};
 ghost use Rattle.tt_lists.specs.Spelling.{list_of};
-ghost use Rattle.tt_threads.specs.Answers.{act, bit, configures_at, counts_at, exits, has_no_thread, joins, joins_at, linked_ids, named, preserved, released, set};
+ghost use Rattle.tt_threads.specs.Answers.{act, bit, configures_at, counts_at, exits, has_no_thread, joins, joins_at, linked_ids, named, preserved, released, set, told_reply};
 ghost use Rattle.tt_threads.specs.Rows.{IsCounter, linked, made, row_of};
 
 use crate::configure::{Settings, bit};
@@ -101,7 +101,6 @@ impl Threads {
     }
 
     // The settings of a thread are told or changed.
-    #[tactic(auto, using(crate::proofs::Turns::more_words))]
     fn configure(&mut self, number: u32, words: &[Text]) -> Result<Reply, NoMemory>
         ensures rows { OnOk result (self.new ≡ (configures_at self.old number words.now (row_of self.old number)).rows) }
         ensures reply { IfOk result (λ reply. reply ≡ (configures_at self.old number words.now (row_of self.old number)).reply) }
@@ -110,22 +109,15 @@ impl Threads {
             return Ok(Reply::Refused(Text::new(self.alloc)));
         };
         let settings = Settings::of(&self.rows[place]);
-        match words {
-            [] => {
-                let text = settings.all(self.alloc)?;
-                Ok(Reply::Value(text))
+        if words.len() < 2 {
+            return told(self.alloc, settings, words);
+        }
+        match settings.with_all(words) {
+            Some(settings) => {
+                self.set(place, settings);
+                Ok(Reply::Go)
             }
-            [option] => match settings.one(self.alloc, option.as_bytes())? {
-                Some(value) => Ok(Reply::Value(value)),
-                None => Ok(Reply::Refused(Text::new(self.alloc))),
-            },
-            _ => match settings.with_all(words) {
-                Some(settings) => {
-                    self.set(place, settings);
-                    Ok(Reply::Go)
-                }
-                None => Ok(Reply::Refused(Text::new(self.alloc))),
-            },
+            None => Ok(Reply::Refused(Text::new(self.alloc))),
         }
     }
 
@@ -246,4 +238,18 @@ fn linked_ids(alloc: Global, rows: &[Row]) -> Result<Texts, NoMemory>
         }
     }
     Ok(ids)
+}
+
+// All settings where no word asks for one.
+fn told(alloc: Global, settings: Settings, words: &[Text]) -> Result<Reply, NoMemory>
+    ensures { IfOk result (λ reply. reply ≡ told_reply settings words.now) }
+{
+    let Some(option) = words.first() else {
+        let text = settings.all(alloc)?;
+        return Ok(Reply::Value(text));
+    };
+    match settings.one(alloc, option.as_bytes())? {
+        Some(value) => Ok(Reply::Value(value)),
+        None => Ok(Reply::Refused(Text::new(alloc))),
+    }
 }
