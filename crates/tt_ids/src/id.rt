@@ -1,5 +1,5 @@
 ghost use Rattle.std.specs.Prelude.{◌≡◌, ◌≢◌, ◌<◌, ◌^◌, ℕ, IfNone, IfOk, IfSome};
-ghost use Rattle.tt_ids.specs.Ids.{id, letters};
+ghost use Rattle.tt_ids.specs.Ids.{id, id_named, letters};
 
 use crate::number::number_of;
 use itoa::Buffer;
@@ -57,6 +57,16 @@ pub fn id_text(alloc: Global, kind: IdKind, number: u64) -> Result<Text, NoMemor
 /// The number of the one of this kind that has this id; `None` exactly where no number below 2^64 has it. It takes no
 /// memory.
 pub fn id_number(kind: IdKind, text: &[u8]) -> Option<u64>
+    ensures small { IfSome result (λ number. number < 2 ^ 64) }
+    ensures read { IfSome result (λ number. text.now ≡ id kind number) }
+    ensures none { IfNone result ((n : ℕ) → n < 2 ^ 64 → text.now ≢ id kind n) }
+    ensures named { result ≡ id_named kind text.now }
+{
+    let number = read_id(kind, text);
+    number
+}
+
+fn read_id(kind: IdKind, text: &[u8]) -> Option<u64>
     ensures small { IfSome result (λ number. number < 2 ^ 64) }
     ensures read { IfSome result (λ number. text.now ≡ id kind number) }
     ensures none { IfNone result ((n : ℕ) → n < 2 ^ 64 → text.now ≢ id kind n) }

@@ -1,5 +1,6 @@
 ghost use Rattle.std.specs.Prelude.{◌≡◌, ◌≢◌, ◌<◌, ◌^◌, ℕ, IfNone, IfOk, IfSome};
 ghost use Rattle.std.specs.Fmt.{decimal};
+ghost use Rattle.tt_ids.specs.Ids.{number_named};
 
 use itoa::Buffer;
 use std::alloc::Global;
@@ -18,6 +19,16 @@ pub fn number_text(alloc: Global, number: u64) -> Result<Text, NoMemory>
 /// The number that the text writes in decimal without leading zeros; `None` exactly where it writes none below 2^64.
 /// It takes no memory.
 pub fn number_of(text: &[u8]) -> Option<u64>
+    ensures small { IfSome result (λ number. number < 2 ^ 64) }
+    ensures read { IfSome result (λ number. text.now ≡ decimal number) }
+    ensures none { IfNone result ((n : ℕ) → n < 2 ^ 64 → text.now ≢ decimal n) }
+    ensures named { result ≡ number_named text.now }
+{
+    let number = read_number(text);
+    number
+}
+
+fn read_number(text: &[u8]) -> Option<u64>
     ensures small { IfSome result (λ number. number < 2 ^ 64) }
     ensures read { IfSome result (λ number. text.now ≡ decimal number) }
     ensures none { IfNone result ((n : ℕ) → n < 2 ^ 64 → text.now ≢ decimal n) }

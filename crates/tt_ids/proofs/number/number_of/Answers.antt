@@ -1,11 +1,12 @@
-use Rattle.std.proofs.Common.{◌≡◌, rules, sym, subst}
-use Rattle.std.proofs.lemmas.Fmt.{IsAscii-decimal}
-use Rattle.std.proofs.lemmas.Str.{IsUtf8-from_ascii}
-use Rattle.std.specs.Str.{IsUtf8}
+use Rattle.tt_ids.proofs.Named.{named_is}
 use Rattle.tt_ids.proofs.number.number_of.Goals as goal
 
--- digits are UTF-8
-pub returns-in-Err-clause-none : goal.returns-in-Err-clause-none
-returns-in-Err-clause-none c n small e =
-    let valid = subst IsUtf8 (sym e) (IsUtf8-from_ascii _ (IsAscii-decimal n small)) in
-    absurd (c.in-Err.ensures.cases.0 valid)
+pub returns : goal.returns
+returns c =
+    let said = c.read_number-number.ensures in
+    record {
+      small = said.small;
+      read = said.read;
+      none = said.none;
+      named = named_is c.args.text.now c.read_number-number.result said.small said.read said.none;
+    }
