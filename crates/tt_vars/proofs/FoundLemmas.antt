@@ -1,0 +1,110 @@
+-- What is found by a name is what reading and removing the name work on.
+use Rattle.std.proofs.Common.{◌≡◌, ℕ, List, Option, Some, None, Result, Ok, Err, bytes_eq, slice_get, position, remove, refl, ap, sym, ◌∙◌, is_some, true≢false}
+use Rattle.std.specs.Map.{keys_of, values_of, lookup, remove_entry}
+use Rattle.std.specs.Option.{ok_or}
+use Rattle.indexmap.specs.IndexMap.{set_value_at, insert_entry}
+use Rattle.indexmap.proofs.MapLemmas.{Found-position, Missing-position, remove_entry-first, insert_entry-first, some_index}
+use Rattle.tt_vars.specs.declared.answers.VarFault.{VarFault}
+use Rattle.tt_vars.specs.declared.answers.VarFault.TheVariants.{NoSuchElement, IsArray}
+use Rattle.tt_vars.specs.declared.variable.Variable.{Variable}
+use Rattle.tt_vars.specs.declared.variable.Variable.TheVariants.{Scalar, Array, Link}
+use Rattle.tt_vars.specs.Variables.{Name, Frame, named, leads, read, with, without_element, removed, result_of}
+use Rattle.tt_vars.specs.Found.{element_in, text_in, removed_in}
+
+err_is_ok : {X E : Type 0} {e : E} {x : X} → Err e ≡ Ok x → ⊥
+err_is_ok h = cc
+
+module _ {X : Type 0} (es : List (Name × X)) (n : Name) (i : ℕ) (p : position (bytes_eq n) (keys_of es) ≡ Some i) where
+  at_place : lookup (bytes_eq n) es ≡ slice_get (values_of es) i
+  at_place = (Found-position (bytes_eq n) es i p).value
+
+  removed_place : remove_entry (bytes_eq n) es ≡ remove es i
+  removed_place = remove_entry-first (bytes_eq n) es i (Found-position (bytes_eq n) es i p).first
+
+  put_place : (w : X) → insert_entry bytes_eq es n w ≡ set_value_at es i w
+  put_place w = insert_entry-first bytes_eq n w es i (Found-position (bytes_eq n) es i p).first
+
+same_ok : {X : Type 0} {x y : X} → ◌≡◌ {A = Result X VarFault} (Ok x) (Ok y) → x ≡ y
+same_ok h = cc
+
+same_err : {X : Type 0} {x y : VarFault} → ◌≡◌ {A = Result X VarFault} (Err x) (Err y) → x ≡ y
+same_err h = cc
+
+no_link_found : (v : Variable) (index : Option Name) (e : Option ℕ) → element_in v index ≡ Ok e → leads (Some v) ≡ None
+no_link_found (Scalar text) index e is = refl
+no_link_found (Array elements) index e is = refl
+no_link_found (Link to) index e is = absurd (err_is_ok is)
+
+Faults : VarFault → Frame → Name → Variable → Option Name → VarFault → Type 0
+Faults missing frame n v index fault = (removed missing frame n (Some v) index ≡ Err fault) × (read missing (Some v) index ≡ Err fault)
+
+faults : (missing : VarFault) (frame : Frame) (n : Name) (v : Variable) (index : Option Name) (fault : VarFault) → element_in v index ≡ Err fault → Faults missing frame n v index fault
+unfolding Faults
+faults missing frame n (Scalar text) None fault is = absurd (err_is_ok (sym is))
+faults missing frame n (Array elements) None fault is = absurd (err_is_ok (sym is))
+faults missing frame n (Scalar text) (Some index) fault is = (ap Err (same_err is), ap Err (same_err is))
+faults missing frame n (Link to) index fault is = (ap Err (same_err is), ap Err (same_err is))
+faults missing frame n (Array elements) (Some index) fault is = by (position (bytes_eq index) (keys_of elements)) refl is
+  where
+    by : (r : Option ℕ) → position (bytes_eq index) (keys_of elements) ≡ r → result_of Some (ok_or r NoSuchElement) ≡ Err fault
+        → (without_element frame n elements index (lookup (bytes_eq index) elements) ≡ Err fault) × (ok_or (lookup (bytes_eq index) elements) NoSuchElement ≡ Err fault)
+    by (Some place) p is = absurd (err_is_ok (sym is))
+    by None p is =
+        let none = (Missing-position (bytes_eq index) elements p).value in
+        (ap (without_element frame n elements index) none ∙ ap Err (same_err is), ap (λ r. ok_or r NoSuchElement) none ∙ ap Err (same_err is))
+
+Finds : VarFault → Frame → Name → Variable → ℕ → Option Name → Option ℕ → Type 0
+Finds missing frame n v i index e =
+    (removed missing frame n (Some v) index ≡ Ok (removed_in frame i (Some v) e)) × (read missing (Some v) index ≡ ok_or (text_in (Some v) e) IsArray)
+
+finds : (missing : VarFault) (frame : Frame) (n : Name) (v : Variable) (i : ℕ) (index : Option Name) (e : Option ℕ) →
+    position (bytes_eq n) (keys_of frame) ≡ Some i → element_in v index ≡ Ok e → Finds missing frame n v i index e
+unfolding Finds
+finds missing frame n (Scalar text) i None e p is =
+    let none : None ≡ e = same_ok is in
+    (ap Ok (removed_place frame n i p) ∙ ap (λ e. Ok (removed_in frame i (Some (Scalar text)) e)) none, ap (λ e. ok_or (text_in (Some (Scalar text)) e) IsArray) none)
+finds missing frame n (Array elements) i None e p is =
+    let none : None ≡ e = same_ok is in
+    (ap Ok (removed_place frame n i p) ∙ ap (λ e. Ok (removed_in frame i (Some (Array elements)) e)) none, ap (λ e. ok_or (text_in (Some (Array elements)) e) IsArray) none)
+finds missing frame n (Scalar text) i (Some index) e p is = absurd (err_is_ok is)
+finds missing frame n (Link to) i index e p is = absurd (err_is_ok is)
+finds missing frame n (Array elements) i (Some index) e p is =
+    by (position (bytes_eq index) (keys_of elements)) (lookup (bytes_eq index) elements) refl refl is
+  where
+    by : (r : Option ℕ) (t : Option (List ℕ)) → position (bytes_eq index) (keys_of elements) ≡ r → lookup (bytes_eq index) elements ≡ t → result_of Some (ok_or r NoSuchElement) ≡ Ok e
+        → (without_element frame n elements index (lookup (bytes_eq index) elements) ≡ Ok (removed_in frame i (Some (Array elements)) e))
+        × (ok_or (lookup (bytes_eq index) elements) NoSuchElement ≡ ok_or (text_in (Some (Array elements)) e) IsArray)
+    by None t q l is = absurd (err_is_ok is)
+    by (Some j) None q l is = absurd (true≢false (ap is_some (sym q) ∙ some_index (bytes_eq index) elements ∙ ap is_some l))
+    by (Some j) (Some text) q l is = (
+      ap (without_element frame n elements index) l
+          ∙ ap Ok (ap (λ ps. with frame n (Array ps)) (removed_place elements index j q) ∙ put_place frame n i p (Array (remove elements j)))
+          ∙ ap (λ e. Ok (removed_in frame i (Some (Array elements)) e)) (same_ok is),
+      ap (λ r. ok_or r NoSuchElement) l
+          ∙ ap (λ r. ok_or r IsArray) (sym l ∙ at_place elements index j q)
+          ∙ ap (λ e. ok_or (text_in (Some (Array elements)) e) IsArray) (same_ok is),
+    )
+
+module _ (missing : VarFault) (frame : Frame) (n : Name) (v : Variable) (index : Option Name) (named_is : named frame n ≡ Some v) where
+  pub find-fault : (fault : VarFault) → element_in v index ≡ Err fault → removed missing frame n (named frame n) index ≡ Err fault
+  unfolding Faults
+  find-fault fault is = ap (λ s. removed missing frame n s index) named_is ∙ (faults missing frame n v index fault is).0
+
+  pub find-no_text : (fault : VarFault) → element_in v index ≡ Err fault → read missing (named frame n) index ≡ Err fault
+  unfolding Faults
+  find-no_text fault is = ap (λ s. read missing s index) named_is ∙ (faults missing frame n v index fault is).1
+
+  module _ (i : ℕ) (e : Option ℕ) (p : position (bytes_eq n) (keys_of frame) ≡ Some i) (is : element_in v index ≡ Ok e) where
+    there : Some v ≡ slice_get (values_of frame) i
+    there = sym named_is ∙ at_place frame n i p
+
+    pub find-removed : removed missing frame n (named frame n) index ≡ Ok (removed_in frame i (slice_get (values_of frame) i) e)
+    unfolding Finds
+    find-removed = ap (λ s. removed missing frame n s index) named_is ∙ (finds missing frame n v i index e p is).0 ∙ ap (λ s. Ok (removed_in frame i s e)) there
+
+    pub find-text : read missing (named frame n) index ≡ ok_or (text_in (slice_get (values_of frame) i) e) IsArray
+    unfolding Finds
+    find-text = ap (λ s. read missing s index) named_is ∙ (finds missing frame n v i index e p is).1 ∙ ap (λ s. ok_or (text_in s e) IsArray) there
+
+    pub find-no_link : leads (slice_get (values_of frame) i) ≡ None
+    find-no_link = ap leads (sym there) ∙ no_link_found v index e is

@@ -1,0 +1,6 @@
+mod EndLemmas
+mod FollowLemmas
+mod FoundLemmas
+mod FrameLemmas
+mod LinkLemmas
+mod StandsLemmas

@@ -1,0 +1,14 @@
+use Rattle.std.proofs.Common.{rules}
+use Rattle.tt_vars.proofs.FrameLemmas.{puts-through, set_value_same_frame}
+use Rattle.tt_vars.proofs.LinkLemmas.{keeps-new}
+use Rattle.tt_vars.proofs.frame.Frame.write.Goals as goal
+
+pub returns-in-Some-clause-written : goal.returns-in-Some-clause-written
+returns-in-Some-clause-written c = search (puts-through, rules)
+
+pub returns-in-Some-clause-unchanged : goal.returns-in-Some-clause-unchanged
+returns-in-Some-clause-unchanged c = search (set_value_same_frame, rules)
+
+pub returns-clause-links : goal.returns-clause-links
+returns-clause-links c =
+    keeps-new c.args.self.now c.insert.new.self.entries c.args.name c.in_ok-variable.variable (search rules) (search rules) (search rules)

@@ -1,0 +1,71 @@
+-- What is found by a name, by its place in its frame.
+use Rattle.std.specs.Prelude.{◌≡◌, ℕ, ◌<◌, List, Option, None, Some, Result, Ok, Err, bytes_eq, length, position, slice_get, remove}
+use Rattle.std.specs.Map.{keys_of, values_of}
+use Rattle.std.specs.Option.{ok_or, option_copied}
+use Rattle.indexmap.specs.IndexMap.{set_value_at}
+use Rattle.tt_vars.specs.declared.answers.VarFault.{VarFault}
+use Rattle.tt_vars.specs.declared.answers.VarFault.TheVariants.{NoSuchElement, IsArray, NotArray}
+use Rattle.tt_vars.specs.declared.variable.Found.{Found}
+use Rattle.tt_vars.specs.declared.links.Spot.{Spot}
+use Rattle.tt_vars.specs.declared.variable.Place.{Place}
+use Rattle.tt_vars.specs.declared.variable.Variable.{Variable}
+use Rattle.tt_vars.specs.declared.variable.Variable.TheVariants.{Scalar, Array, Link}
+use Rattle.tt_vars.specs.Variables.{Name, Frame, result_of}
+use Rattle.tt_vars.specs.Links.{StandsFor, frame_at, place_of, read_at, removed_of, with_frame}
+
+-- which element an index names
+abbrev pub element_in : Variable → Option Name → Result (Option ℕ) VarFault
+element_in (Scalar text) None = Ok None
+element_in (Array elements) None = Ok None
+element_in (Array elements) (Some index) =
+    result_of Some (ok_or (position (bytes_eq index) (keys_of elements)) NoSuchElement)
+element_in (Scalar text) (Some index) = Err NotArray
+element_in (Link to) index = Err NotArray
+
+-- the text at a place that was found
+abbrev pub text_in : Option Variable → Option ℕ → Option (List ℕ)
+text_in (Some (Scalar text)) None = Some text
+text_in (Some (Array elements)) (Some element) = slice_get (values_of elements) element
+text_in (Some (Scalar text)) (Some element) = None
+text_in (Some (Array elements)) None = None
+text_in (Some (Link to)) element = None
+text_in None element = None
+
+abbrev pub text_at : Frame → Found → Option (List ℕ)
+text_at frame found = text_in (slice_get (values_of frame) found.variable) found.element
+
+-- an array without the element at a place
+abbrev pub without_at : Variable → ℕ → Variable
+without_at (Scalar text) element = Scalar text
+without_at (Array elements) element = Array (remove elements element)
+without_at (Link to) element = Link to
+
+-- the frame without what is at a place that was found
+abbrev pub removed_in : Frame → ℕ → Option Variable → Option ℕ → Frame
+removed_in frame place variable None = remove frame place
+removed_in frame place None (Some element) = frame
+removed_in frame place (Some variable) (Some element) = set_value_at frame place (without_at variable element)
+
+abbrev pub removed_at : Frame → Found → Frame
+removed_at frame found = removed_in frame found.variable (slice_get (values_of frame) found.variable) found.element
+
+-- a place that was lent, as a place
+abbrev pub place_at : Spot → Place
+place_at spot = place_of spot.frame spot.name.now (option_copied spot.index)
+
+-- what was found for a name: what is removed by it, and what is read
+abbrev pub IsFound : List Frame → Option Name → Option Place → Result (ℕ × Found) VarFault → Type 0
+IsFound frames index stands (Err fault) =
+    (removed_of frames index stands ≡ Err fault)
+    × (read_at frames index stands ≡ Err fault)
+IsFound frames index stands (Ok found) =
+    (found.0 < length frames)
+    × (removed_of frames index stands ≡ Ok (with_frame frames found.0 (removed_at (frame_at frames found.0) found.1)))
+    × (read_at frames index stands ≡ ok_or (text_at (frame_at frames found.0) found.1) IsArray)
+
+-- it was found after the links
+abbrev pub FindsAt : List Frame → Place → Result (ℕ × Found) VarFault → Type 0
+FindsAt frames place found =
+    (stands : Option Place)
+    × StandsFor frames place stands
+    × IsFound frames place.index stands found

@@ -1,0 +1,118 @@
+ghost use Rattle.std.specs.Prelude.{◌≡◌, ◌∷◌, [], ◌<◌, length, map, position, remove, bytes_eq, slice_get, IfOk, OnOk, OnErr, IfSome};
+ghost use Rattle.std.specs.Option.{option_map, option_copied};
+ghost use Rattle.std.specs.Map.{lookup, keys_of, values_of};
+ghost use Rattle.indexmap.specs.IndexMap.{insert_entry};
+ghost use Rattle.tt_lists.specs.Reading.{split_of};
+ghost use Rattle.tt_number.specs.Numerals.{whole_of};
+
+use indexmap::IndexMap;
+use std::alloc::Global;
+use std::marker::Model;
+use tt_lists::Split;
+use tt_number::NumberFault;
+use tt_text::{NoMemory, Text, Texts};
+use tt_value::Value;
+
+/// The elements of an array (array(n)), in the order of their first insertion. Contracts see the list of pairs of
+/// an index and a value's text.
+#[derive(Debug, Drop)]
+pub(crate) struct Elements {
+    map: IndexMap<Text, Value>,
+}
+
+impl Model for Elements {
+    ghost use Rattle.std.specs.Prelude.{ℕ, List};
+
+    ghost Value = { List (List ℕ × List ℕ) };
+
+    ghost view = { λ elements. elements.map.entries };
+}
+
+impl Elements {
+    /// One element.
+    ///
+    /// `NoMemory` where memory for it is refused.
+    pub(crate) fn one(alloc: Global, index: Text, value: Value) -> Result<Self, NoMemory>
+        ensures one { IfOk result (λ elements. elements ≡ (index, value) ∷ []) }
+    {
+        let mut map = IndexMap::new(alloc);
+        map.insert(index, value)?;
+        Ok(Elements { map })
+    }
+
+    /// The value at an index; None where there is none.
+    pub(crate) fn get(&self, index: &Text) -> Option<&Value>
+        ensures found { option_copied result ≡ lookup (bytes_eq index.now) self.now }
+    {
+        self.map.get(index)
+    }
+
+    /// Which of the elements has this index, counted from 0; None where there is none.
+    pub(crate) fn position(&self, index: &Text) -> Option<usize>
+        ensures found { result ≡ position (bytes_eq index.now) (keys_of self.now) }
+    {
+        self.map.get_index_of(index)
+    }
+
+    /// Gives an index this value. An index that is there keeps its place, and a new one goes last.
+    ///
+    /// `NoMemory` where memory for it is refused; then the elements are as they were.
+    pub(crate) fn put(&mut self, index: Text, value: Value) -> Result<(), NoMemory>
+        ensures put { OnOk result (self.new ≡ insert_entry bytes_eq self.old index value) }
+        ensures unchanged { OnErr result (self.new ≡ self.old) }
+    {
+        self.map.insert(index, value)?;
+        Ok(())
+    }
+
+    /// Takes out the element at a place; those after it move up.
+    pub(crate) fn remove_at(&mut self, place: usize)
+        ensures removed { self.new ≡ remove self.old place }
+    {
+        self.map.shift_remove_index(place);
+    }
+
+    /// How many there are.
+    pub(crate) fn len(&self) -> usize
+        ensures len { result ≡ length self.now }
+    {
+        self.map.len()
+    }
+
+    /// What the value at a place is read as as a whole number.
+    pub(crate) fn whole_at(&mut self, place: usize) -> Option<Result<i64, NumberFault>>
+        ensures answer { result ≡ option_map whole_of (slice_get (values_of self.old) place) }
+        ensures same { self.new ≡ self.old }
+    {
+        let value = self.map.get_index_mut(place)?;
+        Some(value.whole())
+    }
+
+    /// What the value at a place is split into as a list.
+    ///
+    /// `NoMemory` where memory for the items is refused.
+    pub(crate) fn items_at(&mut self, place: usize) -> Result<Option<Split>, NoMemory>
+        ensures answer { IfOk result (λ items. items ≡ option_map split_of (slice_get (values_of self.old) place)) }
+        ensures same { self.new ≡ self.old }
+    {
+        let alloc = *self.map.allocator();
+        let Some(value) = self.map.get_index_mut(place) else {
+            return Ok(None);
+        };
+        let items = value.items(alloc)?;
+        Ok(Some(items))
+    }
+
+    /// The indices, in order.
+    ///
+    /// `NoMemory` where memory for them is refused.
+    pub(crate) fn names(&self) -> Result<Texts, NoMemory>
+        ensures names { IfOk result (λ names. names ≡ keys_of self.now) }
+    {
+        let mut names = Texts::new(*self.map.allocator());
+        for name in self.map.keys() {
+            names.push(name.copy()?)?;
+        }
+        Ok(names)
+    }
+}

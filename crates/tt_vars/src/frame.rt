@@ -1,0 +1,231 @@
+ghost use Rattle.std.specs.Prelude.{◌≡◌, [], None, Some, Ok, Err, cond, length, slice_get, remove, bytes_eq, IfOk, IfErr, OnOk, OnErr};
+ghost use Rattle.std.specs.Map.{keys_of, values_of};
+ghost use Rattle.std.specs.Option.{option_copied, option_map, ok_or};
+ghost use Rattle.tt_lists.specs.Reading.{split_of};
+ghost use Rattle.tt_number.specs.Numerals.{whole_of};
+ghost use Rattle.tt_vars.specs.declared.answers.VarFault.TheVariants.{IsArray};
+ghost use Rattle.tt_vars.specs.declared.variable.Variable.TheVariants.{Link};
+ghost use Rattle.tt_vars.specs.Variables.{Name, named, is_set, leads, elements_of, read, written, with, removed, result_of, Puts};
+ghost use Rattle.tt_vars.specs.Found.{element_in, text_at, removed_at, removed_in};
+ghost use Rattle.tt_vars.specs.Ending.{KeepsLinks};
+
+use crate::variable::{
+    Found, Place, Variable, first_written, items_in, remove_from, whole_in, write_to,
+};
+use crate::{VarFault, Written};
+use indexmap::IndexMap;
+use std::alloc::Global;
+use std::marker::Model;
+use tt_lists::Split;
+use tt_number::NumberFault;
+use tt_text::{NoMemory, Text, Texts};
+use tt_value::Value;
+
+/// The variables of a procedure, or the global ones, in order of insertion. Contracts see the list of pairs of a
+/// name and what it is.
+#[derive(Debug, Drop)]
+pub(crate) struct Frame {
+    map: IndexMap<Text, Variable>,
+}
+
+impl Model for Frame {
+    ghost use Rattle.std.specs.Prelude.{ℕ, List};
+    ghost use Rattle.tt_vars.specs.declared.variable.Variable.{Variable as AnyVariable};
+
+    ghost Value = { List (List ℕ × AnyVariable) };
+
+    ghost view = { λ frame. frame.map.entries };
+}
+
+impl Frame {
+    /// No variables. It takes no memory.
+    pub(crate) fn new(alloc: Global) -> Self
+        ensures empty { result ≡ [] }
+    {
+        Frame {
+            map: IndexMap::new(alloc),
+        }
+    }
+
+    /// Where a link leads; None where the name is no link.
+    pub(crate) fn link(&self, name: &Text) -> Option<&Option<Place>>
+        ensures link { option_copied result ≡ leads (named self.now name.now) }
+    {
+        match self.map.get(name)? {
+            Variable::Link(to) => Some(to),
+            Variable::Scalar(_) | Variable::Array(_) => None,
+        }
+    }
+
+    /// The value of a name, or of its element; `missing` is the fault where there is no such name.
+    pub(crate) fn read(
+        &self,
+        name: &Text,
+        index: Option<&Text>,
+        missing: VarFault,
+    ) -> Result<&Value, VarFault>
+        ensures value { IfOk result (λ value. read missing (named self.now name.now) (option_copied index.entry) ≡ Ok value.now) }
+        ensures fault { IfErr result (λ fault. read missing (named self.now name.now) (option_copied index.entry) ≡ Err fault) }
+    {
+        match (self.map.get(name).ok_or(missing)?, index) {
+            (Variable::Scalar(value), None) => Ok(value),
+            (Variable::Array(elements), Some(index)) => {
+                elements.get(index).ok_or(VarFault::NoSuchElement)
+            }
+            (Variable::Array(_), None) => Err(VarFault::IsArray),
+            (Variable::Scalar(_) | Variable::Link(_), _) => Err(VarFault::NotArray),
+        }
+    }
+
+    /// Writes a value to a name, or to its element. A new name goes last.
+    ///
+    /// `NoMemory` where memory for it is refused; then the frame is as it was.
+    pub(crate) fn write(
+        &mut self,
+        name: Text,
+        index: Option<Text>,
+        value: Value,
+    ) -> Result<Written, NoMemory>
+        ensures written { IfOk result (λ answer. Puts (result_of (with self.old name) (written (named self.old name) index value)) self.old self.new answer) }
+        ensures unchanged { OnErr result (self.new ≡ self.old) }
+        ensures links { KeepsLinks self.old self.new }
+    {
+        if let Some(variable) = self.map.get_mut(&name) {
+            return write_to(variable, index, value);
+        }
+        let variable = first_written(*self.map.allocator(), index, value)?;
+        self.map.insert(name, variable)?;
+        Ok(Written::Yes)
+    }
+
+    /// Makes a name a link. A new name goes last.
+    ///
+    /// `NoMemory` where memory for it is refused; then the frame is as it was.
+    pub(crate) fn put_link(&mut self, name: Text, to: Option<Place>) -> Result<(), NoMemory>
+        ensures put { OnOk result (self.new ≡ with self.old name (Link to)) }
+        ensures named { OnOk result ((other : Name) → named self.new other ≡ cond (bytes_eq name other) (Some (Link to)) (named self.old other)) }
+        ensures unchanged { OnErr result (self.new ≡ self.old) }
+    {
+        self.map.insert(name, Variable::Link(to))?;
+        Ok(())
+    }
+
+    /// Finds what is read or removed by a name; `missing` is the fault where there is no such name.
+    pub(crate) fn find(
+        &self,
+        name: &Text,
+        index: Option<&Text>,
+        missing: VarFault,
+    ) -> Result<Found, VarFault>
+        ensures removed { IfOk result (λ found. removed missing self.now name.now (named self.now name.now) (option_copied index.entry) ≡ Ok (removed_at self.now found)) }
+        ensures text { IfOk result (λ found. read missing (named self.now name.now) (option_copied index.entry) ≡ ok_or (text_at self.now found) IsArray) }
+        ensures fault { IfErr result (λ fault. removed missing self.now name.now (named self.now name.now) (option_copied index.entry) ≡ Err fault) }
+        ensures no_text { IfErr result (λ fault. read missing (named self.now name.now) (option_copied index.entry) ≡ Err fault) }
+    {
+        let (variable, _, named) = self.map.get_full(name).ok_or(missing)?;
+        let element = place_in(named, index)?;
+        Ok(Found { variable, element })
+    }
+
+    /// Removes what was found. The names after it move up.
+    pub(crate) fn remove_at(&mut self, found: Found)
+        ensures removed { self.new ≡ removed_at self.old found }
+        ensures links { KeepsLinks self.old self.new }
+    {
+        match found.element {
+            None => self.remove_variable(found.variable),
+            Some(element) => self.remove_element(found.variable, element),
+        }
+    }
+
+    // Removes the variable at a place.
+    fn remove_variable(&mut self, place: usize)
+        ensures removed { self.new ≡ remove self.old place }
+        ensures links { KeepsLinks self.old self.new }
+    {
+        drop(self.map.shift_remove_index(place));
+    }
+
+    // Removes an element of the array at a place.
+    fn remove_element(&mut self, place: usize, element: usize)
+        ensures removed { self.new ≡ removed_in self.old place (slice_get (values_of self.old) place) (Some element) }
+        ensures links { KeepsLinks self.old self.new }
+    {
+        if let Some(variable) = self.map.get_index_mut(place) {
+            remove_from(variable, element);
+        }
+    }
+
+    /// What the value that was found is read as as a whole number; None where it is an array.
+    pub(crate) fn whole_at(&mut self, found: Found) -> Option<Result<i64, NumberFault>>
+        ensures answer { result ≡ option_map whole_of (text_at self.old found) }
+        ensures same { self.new ≡ self.old }
+    {
+        let variable = self.map.get_index_mut(found.variable)?;
+        whole_in(variable, found.element)
+    }
+
+    /// What the value that was found is split into as a list; None where it is an array.
+    ///
+    /// `NoMemory` where memory for the items is refused.
+    pub(crate) fn items_at(&mut self, found: Found) -> Result<Option<Split>, NoMemory>
+        ensures answer { IfOk result (λ items. items ≡ option_map split_of (text_at self.old found)) }
+        ensures same { self.new ≡ self.old }
+    {
+        let alloc = *self.map.allocator();
+        let Some(variable) = self.map.get_index_mut(found.variable) else {
+            return Ok(None);
+        };
+        items_in(alloc, variable, found.element)
+    }
+
+    /// The indices of an array, in order; None where the name is no array.
+    ///
+    /// `NoMemory` where memory for them is refused.
+    pub(crate) fn names(&self, name: &Text) -> Result<Option<Texts>, NoMemory>
+        ensures names { IfOk result (λ names. names ≡ option_map keys_of (elements_of (named self.now name.now))) }
+    {
+        match self.map.get(name) {
+            Some(Variable::Array(elements)) => {
+                let names = elements.names()?;
+                Ok(Some(names))
+            }
+            _ => Ok(None),
+        }
+    }
+
+    /// Whether a name is a scalar or an array.
+    pub(crate) fn is_set(&self, name: &Text) -> bool
+        ensures set { result ≡ is_set (named self.now name.now) }
+    {
+        matches!(
+            self.map.get(name),
+            Some(Variable::Scalar(_) | Variable::Array(_))
+        )
+    }
+
+    /// How many elements an array has; None where the name is no array.
+    pub(crate) fn size(&self, name: &Text) -> Option<usize>
+        ensures size { result ≡ option_map length (elements_of (named self.now name.now)) }
+    {
+        match self.map.get(name)? {
+            Variable::Array(elements) => Some(elements.len()),
+            Variable::Scalar(_) | Variable::Link(_) => None,
+        }
+    }
+}
+
+// Which element of a variable an index names; None without an index.
+fn place_in(variable: &Variable, index: Option<&Text>) -> Result<Option<usize>, VarFault>
+    ensures element { IfOk result (λ element. element_in variable.now (option_copied index.entry) ≡ Ok element) }
+    ensures fault { IfErr result (λ fault. element_in variable.now (option_copied index.entry) ≡ Err fault) }
+{
+    match (variable, index) {
+        (Variable::Scalar(_) | Variable::Array(_), None) => Ok(None),
+        (Variable::Array(elements), Some(index)) => {
+            let element = elements.position(index).ok_or(VarFault::NoSuchElement)?;
+            Ok(Some(element))
+        }
+        (Variable::Scalar(_) | Variable::Link(_), _) => Err(VarFault::NotArray),
+    }
+}

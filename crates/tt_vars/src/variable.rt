@@ -1,0 +1,126 @@
+ghost use Rattle.std.specs.Prelude.{◌≡◌, Some, None, Ok, IfOk, OnErr};
+ghost use Rattle.tt_vars.specs.Variables.{leads, written, Puts};
+ghost use Rattle.tt_vars.specs.Found.{without_at, text_in};
+ghost use Rattle.std.specs.Option.{option_map};
+ghost use Rattle.tt_lists.specs.Reading.{split_of};
+ghost use Rattle.tt_number.specs.Numerals.{whole_of};
+
+use crate::elements::Elements;
+use crate::{VarFault, Written};
+use std::alloc::Global;
+use tt_lists::Split;
+use tt_number::NumberFault;
+use tt_text::{NoMemory, Text};
+use tt_value::Value;
+
+/// Where a name or a link leads: a variable of a frame, or one of its elements.
+#[derive(Debug, Drop)]
+pub(crate) struct Place {
+    pub(crate) frame: u64,
+    pub(crate) name: Text,
+    pub(crate) index: Option<Text>,
+}
+
+/// Which variable of a frame, counted from 0, and which of its elements.
+#[derive(Clone, Copy, Debug)]
+pub(crate) struct Found {
+    pub(crate) variable: usize,
+    pub(crate) element: Option<usize>,
+}
+
+/// What a name is in its frame (Tcl(n), upvar(n)).
+#[derive(Debug, Drop)]
+pub(crate) enum Variable {
+    Scalar(Value),
+    Array(Elements),
+    /// None where the other name was that of an element of an element, which stands for nothing.
+    Link(Option<Place>),
+}
+
+/// What a missing name is once a value was written to it, or to an element.
+///
+/// `NoMemory` where memory for it is refused.
+pub(crate) fn first_written(
+    alloc: Global,
+    index: Option<Text>,
+    value: Value,
+) -> Result<Variable, NoMemory>
+    ensures made { IfOk result (λ variable. written None index value ≡ Ok variable) }
+    ensures link { IfOk result (λ variable. leads (Some variable) ≡ None) }
+{
+    match index {
+        None => Ok(Variable::Scalar(value)),
+        Some(index) => {
+            let elements = Elements::one(alloc, index, value)?;
+            Ok(Variable::Array(elements))
+        }
+    }
+}
+
+/// Writes a value to a variable that is there, or to an element.
+///
+/// `NoMemory` where memory for it is refused; then the variable is as it was.
+pub(crate) fn write_to(
+    variable: &mut Variable,
+    index: Option<Text>,
+    value: Value,
+) -> Result<Written, NoMemory>
+    ensures written { IfOk result (λ answer. Puts (written (Some variable.old) index value) variable.old variable.new answer) }
+    ensures unchanged { OnErr result (variable.new ≡ variable.old) }
+    ensures link { leads (Some variable.new) ≡ leads (Some variable.old) }
+{
+    match (variable, index) {
+        (Variable::Scalar(scalar), None) => *scalar = value,
+        (Variable::Array(elements), Some(index)) => elements.put(index, value)?,
+        (Variable::Array(_), None) => return Ok(Written::No(VarFault::IsArray)),
+        (Variable::Scalar(_) | Variable::Link(_), _) => {
+            return Ok(Written::No(VarFault::NotArray));
+        }
+    }
+    Ok(Written::Yes)
+}
+
+/// Removes an element of an array.
+pub(crate) fn remove_from(variable: &mut Variable, element: usize)
+    ensures removed { variable.new ≡ without_at variable.old element }
+{
+    if let Variable::Array(elements) = variable {
+        elements.remove_at(element);
+    }
+}
+
+/// What a scalar, or an element, is read as as a whole number; None where there is no such value.
+pub(crate) fn whole_in(
+    variable: &mut Variable,
+    element: Option<usize>,
+) -> Option<Result<i64, NumberFault>>
+    ensures answer { result ≡ option_map whole_of (text_in (Some variable.old) element) }
+    ensures same { variable.new ≡ variable.old }
+{
+    match (variable, element) {
+        (Variable::Scalar(value), None) => Some(value.whole()),
+        (Variable::Array(elements), Some(element)) => elements.whole_at(element),
+        _ => None,
+    }
+}
+
+/// What a scalar, or an element, is split into as a list; None where there is no such value.
+///
+/// `NoMemory` where memory for the items is refused.
+pub(crate) fn items_in(
+    alloc: Global,
+    variable: &mut Variable,
+    element: Option<usize>,
+) -> Result<Option<Split>, NoMemory>
+    ensures answer { IfOk result (λ items. items ≡ option_map split_of (text_in (Some variable.old) element)) }
+    ensures same { variable.new ≡ variable.old }
+{
+    match (variable, element) {
+        (Variable::Scalar(value), None) => {
+            let items = value.items(alloc)?;
+            Ok(Some(items))
+        }
+        (Variable::Array(elements), Some(element)) => elements.items_at(element),
+        _ => Ok(None),
+    }
+}

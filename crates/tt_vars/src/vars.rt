@@ -1,0 +1,372 @@
+ghost use Rattle.std.specs.Prelude.{◌≡◌, ◌+◌, ◌-◌, ◌<◌, ◌≤◌, ◌++◌, ◌∷◌, [], None, Some, take, length, IfOk, IfSome, OnOk, OnErr};
+ghost use Rattle.std.specs.Option.{option_copied, option_map};
+ghost use Rattle.std.specs.Map.{keys_of};
+ghost use Rattle.tt_lists.specs.Reading.{split_of};
+ghost use Rattle.tt_number.specs.Numerals.{whole_of};
+ghost use Rattle.tt_vars.specs.declared.variable.Variable.TheVariants.{Link};
+ghost use Rattle.tt_vars.specs.Variables.{with, Puts};
+ghost use Rattle.tt_vars.specs.Links.{AreSame, HasNames, HasSize, Links, Reads, ReadsAs, Removes, Writes, frame_at, lent, link_answer, place_of, read_at, with_frame, written_at};
+ghost use Rattle.tt_vars.specs.Ending.{CanLink, LinksEnd};
+ghost use Rattle.tt_vars.specs.Found.{FindsAt, IsFound, place_at};
+
+use crate::frame::Frame;
+use crate::links::{Spot, follow, frame_in, is_of, is_same, is_variable, missing, owned};
+use crate::variable::{Found, Place};
+use crate::{Linked, VarFault, Written};
+use std::alloc::Global;
+use std::marker::Model;
+use tt_lists::Split;
+use tt_number::NumberFault;
+use tt_text::{NoMemory, Text, Texts};
+use tt_value::Value;
+
+/// Variables: the frame of the global ones, 0, and one for each procedure that is called (upvar(n), uplevel(n)).
+/// Contracts see the list of frames, from the global one; a frame is the list of its names in order of insertion,
+/// each with a scalar's text, an array's pairs in order of insertion, or what a link leads to.
+///
+/// A name is that of a variable, or with an index that of an element of an array. Nothing is cut from a name: a
+/// leading `::` or an index in parentheses is the caller's to read.
+#[derive(Debug, Drop)]
+pub struct Vars {
+    frames: Vec<Frame>,
+}
+
+impl Model for Vars {
+    ghost use Rattle.std.specs.Prelude.{ℕ, List, ◌<◌, length};
+    ghost use Rattle.tt_vars.specs.declared.variable.Variable.{Variable as AnyVariable};
+    ghost use Rattle.tt_vars.specs.Ending.{LinksEnd};
+
+    ghost Value = { List (List (List ℕ × AnyVariable)) };
+
+    ghost view = { λ vars. vars.frames.items };
+
+    ghost invariant = { λ vars. (0 < length vars.frames.items) × LinksEnd vars.frames.items };
+}
+
+impl Vars {
+    /// The global frame alone, with no variables.
+    ///
+    /// `NoMemory` where memory for it is refused.
+    pub fn new(alloc: Global) -> Result<Self, NoMemory>
+        ensures one { IfOk result (λ vars. vars ≡ [] ∷ []) }
+    {
+        let mut frames = Vec::new(alloc);
+        frames.push(Frame::new(alloc))?;
+        Ok(Vars { frames })
+    }
+
+    /// Adds a frame above all others.
+    ///
+    /// `NoMemory` where memory for it is refused; then nothing has changed.
+    pub fn push_frame(&mut self) -> Result<(), NoMemory>
+        ensures pushed { OnOk result (self.new ≡ self.old ++ [] ∷ []) }
+        ensures unchanged { OnErr result (self.new ≡ self.old) }
+    {
+        let frame = Frame::new(*self.frames.allocator());
+        self.frames.push(frame)?;
+        Ok(())
+    }
+
+    /// Takes the highest frame away, with its variables. The global one stays.
+    pub fn pop_frame(&mut self)
+        requires { 1 < length self.old }
+        ensures { self.new ≡ take (length self.old - 1) self.old }
+    {
+        drop(self.frames.pop());
+    }
+
+    /// The number of the highest frame.
+    pub fn depth(&self) -> u64
+        ensures { result + 1 ≡ length self.now }
+    {
+        self.frames.len() as u64 - 1
+    }
+
+    /// The value of a name (set(n)).
+    pub fn read(&self, frame: u64, name: &Text, index: Option<&Text>) -> Result<&Value, VarFault>
+        requires { frame < length self.now }
+        ensures read { Reads self.now (place_of frame name.now (option_copied index.entry)) (lent result) }
+    {
+        let frames = self.frames.as_slice();
+        let spot = follow(frames, Spot { frame, name, index });
+        read_spot(frames, index, spot)
+    }
+
+    /// Writes a value to a name (set(n)).
+    ///
+    /// `NoMemory` where memory for it is refused; then nothing has changed.
+    pub fn write(
+        &mut self,
+        frame: u64,
+        name: &Text,
+        index: Option<&Text>,
+        value: Value,
+    ) -> Result<Written, NoMemory>
+        requires { frame < length self.old }
+        ensures written { IfOk result (λ answer. Writes self.old (place_of frame name.now (option_copied index.entry)) value self.new answer) }
+        ensures unchanged { OnErr result (self.new ≡ self.old) }
+    {
+        let spot = follow(self.frames.as_slice(), Spot { frame, name, index });
+        let Some(place) = owned(spot)? else {
+            return Ok(Written::No(VarFault::NotArray));
+        };
+        write_place(self.frames.as_mut_slice(), place, value)
+    }
+
+    /// Removes a name (unset(n)): what it stands for after its links, which stay.
+    pub fn unset(&mut self, frame: u64, name: &Text, index: Option<&Text>) -> Result<(), VarFault>
+        requires { frame < length self.old }
+        ensures { Removes self.old (place_of frame name.now (option_copied index.entry)) self.new result }
+    {
+        let (number, found) = self.find(frame, name, index)?;
+        self.frames[number].remove_at(found);
+        Ok(())
+    }
+
+    /// What the value of a name is read as as a whole number (expr(n)), with the faults of `read`. No text changes.
+    pub fn whole(
+        &mut self,
+        frame: u64,
+        name: &Text,
+        index: Option<&Text>,
+    ) -> Result<Result<i64, NumberFault>, VarFault>
+        requires { frame < length self.old }
+        ensures answer { ReadsAs whole_of self.old (place_of frame name.now (option_copied index.entry)) result }
+        ensures same { self.new ≡ self.old }
+    {
+        let (number, found) = self.find(frame, name, index)?;
+        let number = self.frames[number].whole_at(found);
+        number.ok_or(VarFault::IsArray)
+    }
+
+    /// What the value of a name is split into as a list (Tcl(n)), with the faults of `read`. No text changes.
+    ///
+    /// `NoMemory` where memory for the items is refused.
+    pub fn items(
+        &mut self,
+        frame: u64,
+        name: &Text,
+        index: Option<&Text>,
+    ) -> Result<Result<Split, VarFault>, NoMemory>
+        requires { frame < length self.old }
+        ensures answer { IfOk result (λ answer. ReadsAs split_of self.old (place_of frame name.now (option_copied index.entry)) answer) }
+        ensures same { self.new ≡ self.old }
+    {
+        let (number, found) = match self.find(frame, name, index) {
+            Ok(found) => found,
+            Err(fault) => return Ok(Err(fault)),
+        };
+        let items = self.frames[number].items_at(found)?;
+        Ok(items.ok_or(VarFault::IsArray))
+    }
+
+    /// Makes a name a link to what another name stands for after its own links (upvar(n)). A name that is a link is
+    /// linked anew. A link makes no variable.
+    ///
+    /// `NoMemory` where memory for it is refused; then nothing has changed.
+    pub fn link(
+        &mut self,
+        frame: u64,
+        name: &Text,
+        other: u64,
+        other_name: &Text,
+        other_index: Option<&Text>,
+    ) -> Result<Linked, NoMemory>
+        requires there { frame < length self.old }
+        requires lower { other ≤ frame }
+        ensures linked { IfOk result (λ answer. Links self.old frame name.now (place_of other other_name.now (option_copied other_index.entry)) self.new answer) }
+        ensures unchanged { OnErr result (self.new ≡ self.old) }
+    {
+        let frames = self.frames.as_slice();
+        let variable = Spot {
+            frame: other,
+            name: other_name,
+            index: None,
+        };
+        let whole = follow(frames, variable);
+        let stands = follow(
+            frames,
+            Spot {
+                index: other_index,
+                ..variable
+            },
+        );
+        let answer = link_answer(frames, frame, name, whole, stands);
+        if let Linked::Yes = answer {
+            let to = owned(stands)?;
+            let name = name.copy()?;
+            put_link(self.frames.as_mut_slice(), frame, name, to)?;
+        }
+        Ok(answer)
+    }
+
+    /// The indices of an array, in order of insertion (array(n), names); None where the name is no array.
+    ///
+    /// `NoMemory` where memory for them is refused.
+    pub fn names(&self, frame: u64, array: &Text) -> Result<Option<Texts>, NoMemory>
+        requires { frame < length self.now }
+        ensures { IfOk result (λ names. HasNames self.now (place_of frame array.now None) names) }
+    {
+        let frames = self.frames.as_slice();
+        let spot = follow(
+            frames,
+            Spot {
+                frame,
+                name: array,
+                index: None,
+            },
+        );
+        match spot {
+            Some(
+                Spot {
+                    frame,
+                    name,
+                    index: None,
+                },
+            ) => frame_in(frames, frame).names(name),
+            _ => Ok(None),
+        }
+    }
+
+    /// How many elements an array has (array(n), size); None where the name is no array.
+    pub fn size(&self, frame: u64, array: &Text) -> Option<usize>
+        requires { frame < length self.now }
+        ensures { HasSize self.now (place_of frame array.now None) result }
+    {
+        let frames = self.frames.as_slice();
+        let spot = follow(
+            frames,
+            Spot {
+                frame,
+                name: array,
+                index: None,
+            },
+        );
+        match spot {
+            Some(
+                Spot {
+                    frame,
+                    name,
+                    index: None,
+                },
+            ) => frame_in(frames, frame).size(name),
+            _ => None,
+        }
+    }
+
+    /// Whether a name and another one in the global frame stand for the same variable or element.
+    pub fn same(
+        &self,
+        frame: u64,
+        name: &Text,
+        index: Option<&Text>,
+        other: &Text,
+        other_index: Option<&Text>,
+    ) -> bool
+        requires { frame < length self.now }
+        ensures { AreSame self.now (place_of frame name.now (option_copied index.entry)) (place_of 0 other.now (option_copied other_index.entry)) result }
+    {
+        let frames = self.frames.as_slice();
+        let stands = follow(frames, Spot { frame, name, index });
+        let other = Spot {
+            frame: 0,
+            name: other,
+            index: other_index,
+        };
+        is_same(stands, follow(frames, other))
+    }
+
+    // The frame of what a name stands for, and which of its variables and elements that is.
+    fn find(
+        &self,
+        frame: u64,
+        name: &Text,
+        index: Option<&Text>,
+    ) -> Result<(usize, Found), VarFault>
+        requires { frame < length self.now }
+        ensures { FindsAt self.now (place_of frame name.now (option_copied index.entry)) result }
+    {
+        let frames = self.frames.as_slice();
+        let spot = follow(frames, Spot { frame, name, index });
+        find_spot(frames, index, spot)
+    }
+}
+
+// The value of what a name with this index, or without, stands for.
+fn read_spot<'a>(
+    frames: &'a [Frame],
+    index: Option<&Text>,
+    spot: Option<Spot<'_>>,
+) -> Result<&'a Value, VarFault>
+    requires { IfSome spot (λ spot. spot.frame < length frames.now) }
+    ensures { lent result ≡ read_at frames.now (option_copied index.entry) (option_map place_at spot.entry) }
+{
+    let Some(spot) = spot else {
+        return Err(VarFault::NotArray);
+    };
+    frame_in(frames, spot.frame).read(spot.name, spot.index, missing(index, spot.index))
+}
+
+// Where the value is of what a name with this index, or without, stands for.
+fn find_spot(
+    frames: &[Frame],
+    index: Option<&Text>,
+    spot: Option<Spot>,
+) -> Result<(usize, Found), VarFault>
+    requires { IfSome spot (λ spot. spot.frame < length frames.now) }
+    ensures { IsFound frames.now (option_copied index.entry) (option_map place_at spot.entry) result }
+{
+    let Some(spot) = spot else {
+        return Err(VarFault::NotArray);
+    };
+    let found = frame_in(frames, spot.frame).find(
+        spot.name,
+        spot.index,
+        missing(index, spot.index),
+    )?;
+    Ok((spot.frame as usize, found))
+}
+
+// Writes a value to a place that is no link.
+fn write_place(frames: &mut [Frame], place: Place, value: Value) -> Result<Written, NoMemory>
+    requires there { place.frame < length frames.old }
+    requires ends { LinksEnd frames.old }
+    ensures written { IfOk result (λ answer. Puts (written_at frames.old (Some place) value) frames.old frames.new answer) }
+    ensures unchanged { OnErr result (frames.new ≡ frames.old) }
+    ensures ends { LinksEnd frames.new }
+{
+    let Place { frame, name, index } = place;
+    frames[frame as usize].write(name, index, value)
+}
+
+// The answer of a link from a name to what another stands for; `whole` is what that stands for without its index.
+fn link_answer(
+    frames: &[Frame],
+    frame: u64,
+    name: &Text,
+    whole: Option<Spot>,
+    stands: Option<Spot>,
+) -> Linked
+    requires { frame < length frames.now }
+    ensures { result ≡ link_answer frames.now frame name.now (option_map place_at whole.entry) (option_map place_at stands.entry) }
+{
+    if is_variable(frame, name, stands) {
+        Linked::Itself
+    } else if frame_in(frames, frame).is_set(name) || is_of(frame, name, whole) {
+        Linked::Exists
+    } else {
+        Linked::Yes
+    }
+}
+
+// Makes a name a link.
+fn put_link(frames: &mut [Frame], frame: u64, name: Text, to: Option<Place>) -> Result<(), NoMemory>
+    requires there { frame < length frames.old }
+    requires ends { LinksEnd frames.old }
+    requires free { CanLink frames.old frame name to }
+    ensures put { OnOk result (frames.new ≡ with_frame frames.old frame (with (frame_at frames.old frame) name (Link to))) }
+    ensures unchanged { OnErr result (frames.new ≡ frames.old) }
+    ensures ends { LinksEnd frames.new }
+{
+    frames[frame as usize].put_link(name, to)
+}
