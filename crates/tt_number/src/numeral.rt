@@ -54,8 +54,9 @@ fn without_white_back(mut text: &[u8]) -> &[u8]
     text
 }
 
+/// The text without the white space around it (concat(n)): none of its bytes 9 to 13 and 32 at the ends.
 #[tactic(auto, unfolding(crate::specs::Numerals::trimmed))]
-fn trimmed(text: &[u8]) -> &[u8]
+pub fn trimmed(text: &[u8]) -> &[u8]
     ensures { result.now ≡ trimmed text.now }
 {
     without_white_back(without_white_front(text))
@@ -89,7 +90,10 @@ fn number_of(unsigned: &[u8]) -> Option<u64>
     }
 }
 
-fn digits_of(base: u32, digits: &[u8]) -> Option<u64>
+/// The number that digits of this base write, or the greatest `u64` where it is past that (expr(n), OPERANDS).
+///
+/// `None` where there are none or one is no digit of the base.
+pub fn digits_of(base: u32, digits: &[u8]) -> Option<u64>
     requires least { 2 ≤ base }
     requires most { base ≤ 16 }
     ensures { result ≡ option_map (λ n. min n (2 ^ 64 - 1)) (number_of (base, digits.now)) }
