@@ -134,12 +134,21 @@ fn is_told(step: &Step, answer: &str) -> bool {
     }
 }
 
-/// A turn of thread 9 gives the channel to thread 2.
-fn turn(chans: &mut Chans, thread: u32, call: &ChanCall) -> Result<Step, NoMemory> {
+/// A turn of a thread, with thread 2 as the target that is linked; one of thread 9 gives the channel to thread 2 first.
+fn turn(
+    chans: &mut Chans,
+    thread: u32,
+    call: &ChanCall,
+    target: Option<u32>,
+) -> Result<Step, NoMemory> {
     if let (9, ChanCall::AwaitMove { chan }) = (thread, call) {
         chans.give(2, chan);
     }
-    chans.apply(thread, call, Some(2))
+    if chans.can_draw() {
+        chans.apply(thread, call, target)
+    } else {
+        Ok(Step::Wait)
+    }
 }
 
 #[test]
@@ -147,17 +156,17 @@ fn each_call_is_answered_in_turn(rt: HostRuntime) -> Result<(), Fail> {
     let alloc = rt.alloc();
     let mut chans = Chans::new(alloc);
     for (thread, ask, id, answer) in TURNS {
-        let step = turn(&mut chans, thread, &call(alloc, ask, id)?)?;
+        let step = turn(&mut chans, thread, &call(alloc, ask, id)?, Some(2))?;
         assert!(rt; is_told(&step, answer), "{thread}: {id}: {answer}");
     }
     let lost = call(alloc, Ask::Transfer, "chan1")?;
-    let refused = chans.apply(3, &lost, None)?;
+    let refused = turn(&mut chans, 3, &lost, None)?;
     assert!(rt; is_told(&refused, "thread \"tid2\" does not exist"));
     chans.end(2);
-    let back = chans.apply(3, &call(alloc, Ask::AwaitMove, "chan4")?, None)?;
+    let back = turn(&mut chans, 3, &call(alloc, Ask::AwaitMove, "chan4")?, None)?;
     assert!(rt; is_told(&back, "died"));
     chans.end(3);
-    let gone = chans.apply(3, &call(alloc, Ask::Eof, "chan4")?, None)?;
+    let gone = turn(&mut chans, 3, &call(alloc, Ask::Eof, "chan4")?, None)?;
     assert!(rt; is_told(&gone, "can not find channel named \"chan4\""));
     Ok(())
 }

@@ -46,6 +46,13 @@ impl Locks {
         }
     }
 
+    /// Whether the numbers of new locks are far from their end, below 2^62, as they are in any run.
+    pub fn can_draw(&self) -> bool
+        ensures { IsTrue result → AreCounters self.now.next }
+    {
+        self.next.are_counters()
+    }
+
     // The lock of an id, where it is one of this family.
     pub(crate) fn find(&self, family: Family, id: &Text) -> Option<&Lock>
         ensures { option_copied result ≡ lock_in self.now family id.now }

@@ -1,4 +1,4 @@
-ghost use Rattle.std.specs.Prelude.{◌≡◌};
+ghost use Rattle.std.specs.Prelude.{◌≡◌, IsTrue};
 ghost use Rattle.tt_locks.specs.Table.{drawn, names_of, number_of};
 ghost use Rattle.tt_locks.specs.Answers.{AreCounters};
 
@@ -14,7 +14,19 @@ pub struct Numbers {
     pub condition: u64,
 }
 
+const MOST: u64 = 1 << 62;
+
 impl Numbers {
+    // Whether each is below 2^62.
+    pub(crate) fn are_counters(self) -> bool
+        ensures { IsTrue result → AreCounters self }
+    {
+        self.exclusive < MOST
+            && self.recursive < MOST
+            && self.read_write < MOST
+            && self.condition < MOST
+    }
+
     // The number of the next of a kind.
     pub(crate) fn of(self, kind: Kind) -> u64
         ensures { result ≡ number_of kind self }

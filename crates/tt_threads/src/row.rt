@@ -1,4 +1,4 @@
-ghost use Rattle.std.specs.Prelude.{◌≡◌};
+ghost use Rattle.std.specs.Prelude.{◌≡◌, ◌↔◌, IsTrue};
 ghost use Rattle.tt_threads.specs.Answers.{life_at, released};
 ghost use Rattle.tt_threads.specs.Rows.{IsCounter, is_linked, lives, new_row};
 
@@ -75,6 +75,13 @@ impl Row {
             eventmark: 0,
             unwind: false,
         }
+    }
+
+    // Whether its count is within 2^62.
+    pub(crate) fn is_counter(&self) -> bool
+        ensures { IsTrue result ↔ IsCounter self.now }
+    {
+        self.count.unsigned_abs() < 1 << 62
     }
 
     // One hold less.

@@ -1,5 +1,6 @@
 ghost use Rattle.std.specs.Prelude.{◌≡◌, ◌<◌, ◌^◌, ◌-◌, [], length, IfOk, OnOk, IsTrue, option_copied};
-ghost use Rattle.tt_threads.specs.Rows.{is_living, linked, living, new_row, number_made, row_of, with_end, with_made};
+ghost use Rattle.std.specs.List.{All};
+ghost use Rattle.tt_threads.specs.Rows.{IsCounter, is_living, linked, living, new_row, number_made, row_of, with_end, with_made};
 
 use crate::{Life, Row, find};
 use std::alloc::Global;
@@ -62,6 +63,22 @@ impl Threads {
         self.rows.push(Row::new(start, joinable, preserved))?;
         self.lives += 1;
         Ok(Some(self.rows.len() as u32))
+    }
+
+    /// Whether the numbers of threads and the counts of their holds are far from their ends, as they are in any run:
+    /// fewer than 2^32 - 1,000 threads were made, and each count is within 2^62.
+    pub fn can_count(&self) -> bool
+        ensures few { IsTrue result → length self.now < 2 ^ 32 - 1000 }
+        ensures counters { IsTrue result → All IsCounter self.now }
+    {
+        self.rows.len() < (1 << 32) - 1000 && self.rows.iter().all(|row| row.is_counter())
+    }
+
+    /// Whether a thread was made and has not ended. It takes no memory.
+    pub fn lives(&self, thread: u32) -> bool
+        ensures lives { result ≡ is_living self.now thread }
+    {
+        self.row(thread).is_some_and(|row| row.life.lives())
     }
 
     /// The number of the linked thread of this id; `None` exactly where no thread that lives and isn't marked has it. It
