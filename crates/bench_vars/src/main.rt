@@ -1,7 +1,7 @@
 //! One variable is read and written again and again, among 10, 1,000 and 100,000 others, through no link and
 //! through ten.
 //!
-//! Without arguments it says what was read. With the argument `times` it prints how long each takes.
+//! Without arguments it says what was read among 10. With the argument `times` it prints how long each takes.
 #![tactic(auto)]
 
 use std::alloc::Global;
@@ -24,29 +24,35 @@ const ROUNDS: usize = 16;
 
 fn main(rt: HostRuntime) -> anyhow::Result<()> {
     let is_timed = env::args(&rt)?.any(|word| word.as_str() == "times");
+    if !is_timed {
+        return tell(&rt, rt.alloc());
+    }
     for others in [10, 1_000, 100_000] {
-        run(&rt, rt.alloc(), others, is_timed)?;
+        run(&rt, rt.alloc(), others)?;
     }
     Ok(())
 }
 
-fn run(
-    rt: &(impl Clock + Print),
-    alloc: Global,
-    others: i64,
-    is_timed: bool,
-) -> anyhow::Result<()> {
+// What is read among 10 others.
+fn tell(rt: &impl Print, alloc: Global) -> anyhow::Result<()> {
+    let name = Text::from_bytes(alloc, b"variable")?;
+    let vars = variables(alloc, &name, 10)?;
+    for frame in [0, LINKS] {
+        let bytes = read_often(&vars, frame, &name, 100)?;
+        println!(rt; "among 10, through {frame} links: {bytes} bytes read")?;
+    }
+    Ok(())
+}
+
+fn run(rt: &(impl Clock + Print), alloc: Global, others: i64) -> anyhow::Result<()> {
     let name = Text::from_bytes(alloc, b"variable")?;
     let mut vars = variables(alloc, &name, others)?;
     for frame in [0, LINKS] {
-        if is_timed {
-            let reading = least_time(rt, alloc, &mut vars, frame, &name, false)?;
-            let writing = least_time(rt, alloc, &mut vars, frame, &name, true)?;
-            println!(rt; "among {others}, through {frame} links: read in {reading} ps, written in {writing} ps")?;
-        } else {
-            let bytes = read_often(&vars, frame, &name)?;
-            println!(rt; "among {others}, through {frame} links: {bytes} bytes read")?;
-        }
+        let reading = least_time(rt, alloc, &mut vars, frame, &name, false)?;
+        let writing = least_time(rt, alloc, &mut vars, frame, &name, true)?;
+        println!(rt;
+            "among {others}, through {frame} links: read in {reading} ps, written in {writing} ps"
+        )?;
     }
     Ok(())
 }
@@ -55,7 +61,12 @@ fn run(
 fn variables(alloc: Global, name: &Text, others: i64) -> anyhow::Result<Vars> {
     let mut vars = Vars::new(alloc)?;
     for number in 0..others {
-        set(&mut vars, 0, &whole_text(alloc, number)?, Value::from_whole(alloc, number)?)?;
+        set(
+            &mut vars,
+            0,
+            &whole_text(alloc, number)?,
+            Value::from_whole(alloc, number)?,
+        )?;
     }
     set(&mut vars, 0, name, Value::from_whole(alloc, 12345)?)?;
     for _ in 0..LINKS {
@@ -91,7 +102,7 @@ fn least_time(
         if is_written {
             write_often(alloc, vars, frame, name)?;
         } else {
-            read_often(vars, frame, name)?;
+            read_often(vars, frame, name, TIMES)?;
         }
         let time = start.elapsed(rt)?;
         least = least.min(time.as_nanos() * 1000 / u128::from(TIMES));
@@ -99,9 +110,9 @@ fn least_time(
     Ok(least)
 }
 
-fn read_often(vars: &Vars, frame: u64, name: &Text) -> anyhow::Result<u64> {
+fn read_often(vars: &Vars, frame: u64, name: &Text, times: u32) -> anyhow::Result<u64> {
     let mut bytes = 0_u64;
-    for _ in 0..TIMES {
+    for _ in 0..times {
         anyhow::ensure!(frame <= vars.depth(), "no such frame");
         if let Ok(value) = vars.read(frame, name, None) {
             bytes = bytes.wrapping_add(value.text().len() as u64);
