@@ -38,17 +38,20 @@ at_most (Some n) value = joined (take n (characters value))
 -- a field that prints a number; `left` says that it is filled at its end, and `rest` is the template after it
 abbrev pub number_piece : Base → (flags : List ℕ) (left : Bool) (width : ℕ) (rest : List ℕ) → List (List ℕ) → Piece
 number_piece base flags left width rest values =
-    with_number values (λ n later. Printed (layout (fill_of left (has_flag 48 flags)) width (sign base flags n) (numeral base n)) rest later)
+    with_number values (λ n later.
+    Printed (layout (fill_of left (has_flag 48 flags)) width (sign base flags n) (numeral base n)) rest later)
 
 -- a field that prints the character of a code point
 abbrev pub code_piece : (left : Bool) (width : ℕ) (rest : List ℕ) → List (List ℕ) → Piece
 code_piece left width rest values =
-    with_number values (λ n later. Printed (layout (fill_of left false) width [] (character_of (code_point n))) rest later)
+    with_number values (λ n later.
+    Printed (layout (fill_of left false) width [] (character_of (code_point n))) rest later)
 
 -- a field that prints a value, or its first characters
 abbrev pub text_piece : (left : Bool) (width : ℕ) (most : Option ℕ) (rest : List ℕ) → List (List ℕ) → Piece
 text_piece left width most rest [] = Refused not_enough
-text_piece left width most rest (value ∷ later) = Printed (layout (fill_of left false) width [] (at_most most value)) rest later
+text_piece left width most rest (value ∷ later) =
+    Printed (layout (fill_of left false) width [] (at_most most value)) rest later
 
 -- a field that prints a percent sign, and takes no value
 abbrev pub percent_piece : (left : Bool) (width : ℕ) (rest : List ℕ) → List (List ℕ) → Piece
