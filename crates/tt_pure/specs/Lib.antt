@@ -1,0 +1,7 @@
+pub mod Flags
+pub mod Lists
+pub mod Searching
+pub mod Sorting
+pub mod Table
+pub mod Texts
+pub mod Usages
