@@ -112,9 +112,7 @@ fn last_of_equals(alloc: Global, how: Sorting, sorted: &[Text]) -> Result<Texts,
 fn equals_next(how: Sorting, item: &[u8], later: &[Text]) -> bool
     ensures { result ≡ equals_next how item.now later.now }
 {
-    later
-        .first()
-        .is_some_and(|next| order(how, item, next.as_bytes()) == Ordering::Equal)
+    later.first().is_some_and(|next| order(how, item, next.as_bytes()) == Ordering::Equal)
 }
 
 fn order(how: Sorting, a: &[u8], b: &[u8]) -> Ordering

@@ -1,5 +1,6 @@
 pub mod Flags
 pub mod Lists
+pub mod Rows
 pub mod Searching
 pub mod Sorting
 pub mod Table

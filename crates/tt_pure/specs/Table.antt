@@ -5,6 +5,7 @@ use Rattle.std.specs.Option.{is_some}
 use Rattle.tt_calls.specs.declared.outcome.Outcome.{Outcome}
 use Rattle.tt_lists.specs.declared.answer.ListAnswer.{ListAnswer}
 use Rattle.tt_pure.specs.Lists.{lindex, linsert, list, llength, lrange, lrepeat, lreplace, lreverse}
+use Rattle.tt_pure.specs.Rows.{Row, always, is, row}
 use Rattle.tt_pure.specs.Searching.{IsLsearch}
 use Rattle.tt_pure.specs.Sorting.{IsLsort}
 use Rattle.tt_pure.specs.Texts.{concat, join}
@@ -12,57 +13,22 @@ use Rattle.tt_pure.specs.Usages.{outcome_of, wrong_number}
 use Rattle.tt_pure.specs.declared.command.Command.{Command}
 use Rattle.tt_pure.specs.declared.command.Command.TheVariants as command
 
--- whether an answer is the right one to words, where another is the one to a wrong number of them
-abbrev pub Meaning : Type 1
-Meaning = (wrong : ListAnswer) → (words : List (List ℕ)) → ListAnswer → Type 0
-
--- one answer is right, and no number of words is wrong
-abbrev pub always : (List (List ℕ) → ListAnswer) → Meaning
-always right wrong words answer = answer ≡ right words
-
--- one answer is right
-abbrev pub is : (ListAnswer → List (List ℕ) → ListAnswer) → Meaning
-is right wrong words answer = answer ≡ right wrong words
-
-pub record Row : Type 1 where
-  pub name : List ℕ
-  pub usage : List ℕ
-  pub meaning : Meaning
-
 -- the table
 abbrev pub row_of : Command → Row
-row_of command.Concat =
-    record { name = codes "concat"; usage = codes "concat ?arg ...?"; meaning = always concat }
-row_of command.Join =
-    record { name = codes "join"; usage = codes "join list ?joinString?"; meaning = is join }
-row_of command.Lindex =
-    record { name = codes "lindex"; usage = codes "lindex list ?index ...?"; meaning = is lindex }
-row_of command.Linsert =
-    record { name = codes "linsert"; usage = codes "linsert list index ?element ...?"; meaning = is linsert }
-row_of command.List =
-    record { name = codes "list"; usage = codes "list ?value ...?"; meaning = always list }
-row_of command.Llength =
-    record { name = codes "llength"; usage = codes "llength list"; meaning = is llength }
-row_of command.Lrange =
-    record { name = codes "lrange"; usage = codes "lrange list first last"; meaning = is lrange }
-row_of command.Lrepeat =
-    record { name = codes "lrepeat"; usage = codes "lrepeat count ?value ...?"; meaning = is lrepeat }
-row_of command.Lreplace =
-    record { name = codes "lreplace"; usage = codes "lreplace list first last ?element ...?"; meaning = is lreplace }
-row_of command.Lreverse =
-    record { name = codes "lreverse"; usage = codes "lreverse list"; meaning = is lreverse }
+row_of command.Concat = row (codes "concat") (codes "concat ?arg ...?") (always concat)
+row_of command.Join = row (codes "join") (codes "join list ?joinString?") (is join)
+row_of command.Lindex = row (codes "lindex") (codes "lindex list ?index ...?") (is lindex)
+row_of command.Linsert = row (codes "linsert") (codes "linsert list index ?element ...?") (is linsert)
+row_of command.List = row (codes "list") (codes "list ?value ...?") (always list)
+row_of command.Llength = row (codes "llength") (codes "llength list") (is llength)
+row_of command.Lrange = row (codes "lrange") (codes "lrange list first last") (is lrange)
+row_of command.Lrepeat = row (codes "lrepeat") (codes "lrepeat count ?value ...?") (is lrepeat)
+row_of command.Lreplace = row (codes "lreplace") (codes "lreplace list first last ?element ...?") (is lreplace)
+row_of command.Lreverse = row (codes "lreverse") (codes "lreverse list") (is lreverse)
 row_of command.Lsearch =
-    record {
-      name = codes "lsearch";
-      usage = codes "lsearch ?-exact? ?-glob? ?-all? ?-inline? ?-not? list pattern";
-      meaning = IsLsearch;
-    }
+    row (codes "lsearch") (codes "lsearch ?-exact? ?-glob? ?-all? ?-inline? ?-not? list pattern") IsLsearch
 row_of command.Lsort =
-    record {
-      name = codes "lsort";
-      usage = codes "lsort ?-ascii? ?-integer? ?-increasing? ?-decreasing? ?-unique? list";
-      meaning = IsLsort;
-    }
+    row (codes "lsort") (codes "lsort ?-ascii? ?-integer? ?-increasing? ?-decreasing? ?-unique? list") IsLsort
 
 -- the commands of the table
 abbrev pub commands : List Command
