@@ -19,8 +19,8 @@ fn beginning(text: &[u8]) -> usize
     text.iter().filter(|b| !continues_character(**b)).count()
 }
 
-// The first character, and the text after it.
-pub(crate) fn split_character(text: &[u8]) -> Option<(&[u8], &[u8])>
+/// The first character, and the text after it (string(n), string index); `None` where the text is empty.
+pub fn split_character(text: &[u8]) -> Option<(&[u8], &[u8])>
     ensures cases { MatchOption result (text.now ≡ []) (λ parts. characters text.now ≡ parts.0.now ∷ characters parts.1.now) }
     ensures shorter { IfSome result (λ parts. length parts.1.now < length text.now) }
 {
@@ -35,7 +35,8 @@ fn continuing(text: &[u8]) -> usize
     text.iter().take_while(|b| continues_character(**b)).count()
 }
 
-fn continues_character(byte: u8) -> bool
+/// Whether the byte goes on a character that began before it (string(n)): 0x80 to 0xBF.
+pub fn continues_character(byte: u8) -> bool
     ensures { result ≡ continues_character byte }
 {
     matches!(byte, 0x80..=0xBF)

@@ -18,7 +18,7 @@ mod white_space;
 
 pub use backslashes::backslash;
 pub use braces::{is_balanced, matching_brace};
-pub use characters::char_count;
+pub use characters::{char_count, continues_character, split_character};
 pub use no_memory::NoMemory;
 pub use numeral::number_at;
 pub use patterns::glob;

@@ -1,0 +1,10 @@
+pub mod Copies
+pub mod Cuts
+pub mod EndCuts
+pub mod Fields
+pub mod Keys
+pub mod Pairs
+pub mod Ranges
+pub mod Searches
+pub mod Standing
+pub mod Trims

@@ -1,0 +1,20 @@
+//! Strings by their characters (string(n), split(n)).
+#![tactic(auto)]
+
+mod ends;
+mod finding;
+mod making;
+mod mapping;
+mod places;
+mod splitting;
+mod trimming;
+
+pub use finding::{first_place, last_place};
+pub use making::{LONGEST, Repetition, compare, lower, repeated, reversed, upper};
+pub use mapping::mapped;
+pub use places::{character_at, range};
+pub use splitting::split_at;
+pub use trimming::{Side, WHITE_SPACE, trim};
+
+#[cfg(test)]
+mod tests;

@@ -1,0 +1,76 @@
+//! Characters by their places.
+ghost use Rattle.std.specs.Prelude.{◌≡◌, length, take, drop, min};
+ghost use Rattle.tt_text.specs.Characters.{characters};
+ghost use Rattle.tt_strings.specs.Places.{character_at, joined, places_before, places_through, range};
+
+use tt_text::split_character;
+
+/// The character at a place (string(n), string index): empty where the text has no such place.
+///
+/// The first character is at place 0.
+#[tactic(auto, using(crate::proofs::Ranges::one_character))]
+pub fn character_at(text: &[u8], place: i128) -> &[u8]
+    ensures { result.now ≡ character_at place (characters text.now) }
+{
+    range(text, place, place)
+}
+
+/// The characters from the place `first` to the place `last`, as far as there are any (string(n), string range).
+///
+/// The first character is at place 0.
+#[tactic(auto, using(crate::proofs::Ranges::between, crate::proofs::Ranges::text_of))]
+pub fn range(text: &[u8], first: i128, last: i128) -> &[u8]
+    ensures text { result.now ≡ joined (range first last (characters text.now)) }
+    ensures characters { characters result.now ≡ range first last (characters text.now) }
+{
+    let front = leading(text, places_through(last, text.len()));
+    after(front, places_before(first, text.len()))
+}
+
+// How many places are less than this one, and at most so many.
+fn places_before(place: i128, most: usize) -> usize
+    ensures { result ≡ min (places_before place) most }
+{
+    if place < 0 {
+        0
+    } else if place < most as i128 {
+        place as usize
+    } else {
+        most
+    }
+}
+
+// How many places are at most this one, and at most so many.
+fn places_through(place: i128, most: usize) -> usize
+    ensures { result ≡ min (places_through place) most }
+{
+    if place < 0 {
+        0
+    } else if place < most as i128 {
+        place as usize + 1
+    } else {
+        most
+    }
+}
+
+// The first characters of a text, so many.
+fn leading(text: &[u8], count: usize) -> &[u8]
+    ensures { characters result.now ≡ take count (characters text.now) }
+{
+    let rest = after(text, count);
+    &text[..text.len() - rest.len()]
+}
+
+// The text after its first characters, so many.
+fn after(mut text: &[u8], mut count: usize) -> &[u8]
+    ensures { characters result.now ≡ drop count (characters text.entry.now) }
+{
+    while count > 0 {
+        let Some((_, rest)) = split_character(text) else {
+            return text;
+        };
+        text = rest;
+        count -= 1;
+    }
+    text
+}
