@@ -77,8 +77,10 @@ pub(crate) fn no_list(alloc: Global, fault: &ListFault) -> Result<ListAnswer, No
 }
 
 /// A count or a place, in decimal.
-pub(crate) fn count_text(alloc: Global, count: usize) -> Result<Text, NoMemory>
-    ensures { IfOk result (λ text. text ≡ decimal count) }
+///
+/// `NoMemory` where the memory for it is refused.
+pub fn count_text(alloc: Global, count: usize) -> Result<Text, NoMemory>
+    ensures written { IfOk result (λ text. text ≡ decimal count) }
 {
     let mut buffer = Buffer::new();
     Text::from_bytes(alloc, buffer.format(count).as_bytes())

@@ -3,6 +3,8 @@ pub mod Lists
 pub mod Rows
 pub mod Searching
 pub mod Sorting
+pub mod Strings
+pub mod StringTable
 pub mod Table
 pub mod Texts
 pub mod Usages

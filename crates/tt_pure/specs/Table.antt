@@ -8,7 +8,8 @@ use Rattle.tt_pure.specs.Lists.{lindex, linsert, list, llength, lrange, lrepeat,
 use Rattle.tt_pure.specs.Rows.{Row, always, is, row}
 use Rattle.tt_pure.specs.Searching.{IsLsearch}
 use Rattle.tt_pure.specs.Sorting.{IsLsort}
-use Rattle.tt_pure.specs.Texts.{concat, join}
+use Rattle.tt_pure.specs.StringTable.{IsString}
+use Rattle.tt_pure.specs.Texts.{IsSplitAnswer, concat, join}
 use Rattle.tt_pure.specs.Usages.{outcome_of, wrong_number}
 use Rattle.tt_pure.specs.declared.command.Command.{Command}
 use Rattle.tt_pure.specs.declared.command.Command.TheVariants as command
@@ -29,12 +30,15 @@ row_of command.Lsearch =
     row (codes "lsearch") (codes "lsearch ?-exact? ?-glob? ?-all? ?-inline? ?-not? list pattern") IsLsearch
 row_of command.Lsort =
     row (codes "lsort") (codes "lsort ?-ascii? ?-integer? ?-increasing? ?-decreasing? ?-unique? list") IsLsort
+row_of command.Split = row (codes "split") (codes "split string ?splitChars?") IsSplitAnswer
+row_of command.String = row (codes "string") (codes "string length s") IsString
 
 -- the commands of the table
 abbrev pub commands : List Command
 commands =
     command.Concat ∷ command.Join ∷ command.Lindex ∷ command.Linsert ∷ command.List ∷ command.Llength ∷
-    command.Lrange ∷ command.Lrepeat ∷ command.Lreplace ∷ command.Lreverse ∷ command.Lsearch ∷ command.Lsort ∷ []
+    command.Lrange ∷ command.Lrepeat ∷ command.Lreplace ∷ command.Lreverse ∷ command.Lsearch ∷ command.Lsort ∷
+    command.Split ∷ command.String ∷ []
 
 -- the first of these that has a name
 abbrev pub first_named : List Command → (name : List ℕ) → Option Command

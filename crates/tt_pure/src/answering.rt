@@ -4,6 +4,7 @@ ghost use Rattle.tt_pure.specs.Table as table;
 use crate::command::{Command, command_of, usage};
 use crate::searching::lsearch;
 use crate::sorting::lsort;
+use crate::strings::string;
 use crate::usages::outcome_of;
 use crate::{lists, texts};
 use std::alloc::Global;
@@ -56,5 +57,7 @@ fn answer(alloc: Global, command: Command, words: &[Text]) -> Result<ListAnswer,
         Command::Lreverse => lists::lreverse(alloc, usage, words),
         Command::Lsearch => lsearch(alloc, usage, words),
         Command::Lsort => lsort(alloc, usage, words),
+        Command::Split => texts::split(alloc, usage, words),
+        Command::String => string(alloc, usage, words),
     }
 }

@@ -2,6 +2,8 @@
 ghost use Rattle.std.specs.Prelude.{◌≡◌};
 ghost use Rattle.tt_pure.specs.Table as table;
 
+use crate::row::Row;
+
 /// A command of the table.
 #[derive(Clone, Copy, Debug, PartialEq, Eq)]
 pub(crate) enum Command {
@@ -17,9 +19,11 @@ pub(crate) enum Command {
     Lreverse,
     Lsearch,
     Lsort,
+    Split,
+    String,
 }
 
-const COMMANDS: [Command; 12] = [
+const COMMANDS: [Command; 14] = [
     Command::Concat,
     Command::Join,
     Command::Lindex,
@@ -32,23 +36,9 @@ const COMMANDS: [Command; 12] = [
     Command::Lreverse,
     Command::Lsearch,
     Command::Lsort,
+    Command::Split,
+    Command::String,
 ];
-
-/// What the table says of a command.
-#[derive(Clone, Copy)]
-struct Row {
-    name: &'static [u8],
-    usage: &'static [u8],
-}
-
-impl Row {
-    fn new(name: &'static [u8], usage: &'static [u8]) -> Self
-        ensures name { result.name.now ≡ name.now }
-        ensures usage { result.usage.now ≡ usage.now }
-    {
-        Row { name, usage }
-    }
-}
 
 /// The table.
 fn row_of(command: Command) -> Row
@@ -74,6 +64,8 @@ fn row_of(command: Command) -> Row
             b"lsort",
             b"lsort ?-ascii? ?-integer? ?-increasing? ?-decreasing? ?-unique? list",
         ),
+        Command::Split => Row::new(b"split", b"split string ?splitChars?"),
+        Command::String => Row::new(b"string", b"string length s"),
     }
 }
 

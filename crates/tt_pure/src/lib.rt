@@ -1,4 +1,4 @@
-//! The commands that answer by their words alone (list(n), lsearch(n), lsort(n) and others): a table of names, usages
+//! The commands that answer by their words alone (list(n), lsearch(n), lsort(n), string(n) and others): a table of names, usages
 //! and meanings.
 #![tactic(auto)]
 
@@ -6,8 +6,11 @@ mod answering;
 mod command;
 mod flags;
 mod lists;
+mod row;
 mod searching;
 mod sorting;
+mod strings;
+mod subcommand;
 mod texts;
 mod usages;
 

@@ -6,7 +6,7 @@ use std::process::Abort;
 use std::test::Fail;
 use tt_calls::Code;
 use tt_lists::{Split, split};
-use vectors::{ERRORS, LISTS, OWN, SEARCHING, TEXTS};
+use vectors::{ERRORS, LISTS, OWN, SEARCHING, STRINGS, TEXTS};
 
 fn expect_outcome(
     rt: &impl Abort,
@@ -43,6 +43,7 @@ fn commands_answer(rt: HostRuntime) -> Result<(), Fail> {
     expect_outcomes(&rt, rt.alloc(), Code::Fine, &LISTS)?;
     expect_outcomes(&rt, rt.alloc(), Code::Fine, &SEARCHING)?;
     expect_outcomes(&rt, rt.alloc(), Code::Fine, &TEXTS)?;
+    expect_outcomes(&rt, rt.alloc(), Code::Fine, &STRINGS)?;
     expect_outcomes(&rt, rt.alloc(), Code::Failed, &ERRORS)?;
     expect_outcomes(&rt, rt.alloc(), Code::Failed, &OWN)?;
     Ok(())

@@ -136,8 +136,82 @@ pub(super) static TEXTS: [(&str, &str); 19] = [
     ("concat c\\\\\\  d", "c\\ d"),
 ];
 
+/// Strings (string(n), split(n)).
+pub(super) static STRINGS: [(&str, &str); 70] = [
+    ("string length abc", "3"),
+    ("string length {}", "0"),
+    ("string length é", "1"),
+    ("string length aéb", "3"),
+    ("string index abc 1", "b"),
+    ("string index abc end", "c"),
+    ("string index abc end-1", "b"),
+    ("string index abc 3", ""),
+    ("string index abc -1", ""),
+    ("string index aéb 1", "é"),
+    ("string range abcd 1 2", "bc"),
+    ("string range abcd 0 end", "abcd"),
+    ("string range abcd end-1 99", "cd"),
+    ("string range abcd 3 1", ""),
+    ("string range abcd -5 1", "ab"),
+    ("string range aéb 1 end", "éb"),
+    ("string reverse abc", "cba"),
+    ("string reverse {}", ""),
+    ("string reverse aéb", "béa"),
+    ("string compare a b", "-1"),
+    ("string compare b a", "1"),
+    ("string compare ab ab", "0"),
+    ("string compare a ab", "-1"),
+    ("string compare {} a", "-1"),
+    ("string equal a a", "1"),
+    ("string equal a A", "0"),
+    ("string match a* abc", "1"),
+    ("string match a?c abc", "1"),
+    ("string match {[a-c]x} bx", "1"),
+    ("string match {\\*} *", "1"),
+    ("string match a? a", "0"),
+    ("string match ?é* aéb", "1"),
+    ("string first b abcb", "1"),
+    ("string first b abcb", "1"),
+    ("string first x abc", "-1"),
+    ("string first {} abc", "-1"),
+    ("string first é aéb", "1"),
+    ("string first bc abcabc", "1"),
+    ("string last b abcb", "3"),
+    ("string last x abc", "-1"),
+    ("string last bc abcabc", "4"),
+    ("string last {} abc", "-1"),
+    ("string repeat ab 3", "ababab"),
+    ("string repeat ab 0", ""),
+    ("string repeat ab -2", ""),
+    ("string repeat {} 5", ""),
+    ("string map {a 1 b 2} abc", "12c"),
+    ("string map {ab 1 a 2} abaab", "121"),
+    ("string map {a b b a} aabb", "bbaa"),
+    ("string map {{} x a y} aa", "yy"),
+    ("string map {} abc", "abc"),
+    ("string map {é e} aéb", "aeb"),
+    ("string tolower AbC", "abc"),
+    ("string toupper aBc", "ABC"),
+    ("string trim {  a b  }", "a b"),
+    ("string trim xxaxx x", "a"),
+    ("string trimleft xxaxx x", "axx"),
+    ("string trimright xxaxx x", "xxa"),
+    ("string trimleft { a }", "a "),
+    ("string trim abcba ab", "c"),
+    ("string trim {} x", ""),
+    ("string trimright éaé é", "éa"),
+    ("split {a b  c}", "a b {} c"),
+    ("split a,b,,c ,", "a b {} c"),
+    ("split abc {}", "a b c"),
+    ("split {} ,", ""),
+    ("split {a b,c} { ,}", "a b c"),
+    ("split {}", ""),
+    ("split aéb {}", "a é b"),
+    ("split ,a, ,", "{} a {}"),
+];
+
 /// Errors that tclsh 8.6 has too.
-pub(super) static ERRORS: [(&str, &str); 21] = [
+pub(super) static ERRORS: [(&str, &str); 27] = [
     ("llength \\{a", "unmatched open brace in list"),
     (
         "lindex {a {b}c} 0",
@@ -189,10 +263,28 @@ pub(super) static ERRORS: [(&str, &str); 21] = [
         "lindex",
         "wrong # args: should be \"lindex list ?index ...?\"",
     ),
+    (
+        "string index abc x",
+        "bad index \"x\": must be integer?[+-]integer? or end?[+-]integer?",
+    ),
+    (
+        "string range abc 0 x",
+        "bad index \"x\": must be integer?[+-]integer? or end?[+-]integer?",
+    ),
+    (
+        "string range abc x y",
+        "bad index \"x\": must be integer?[+-]integer? or end?[+-]integer?",
+    ),
+    ("string repeat a x", "expected integer but got \"x\""),
+    ("string map \\{a b", "unmatched open brace in list"),
+    (
+        "split a b c",
+        "wrong # args: should be \"split string ?splitChars?\"",
+    ),
 ];
 
 /// Errors that are this profile's own, or told by its usages.
-pub(super) static OWN: [(&str, &str); 26] = [
+pub(super) static OWN: [(&str, &str); 43] = [
     ("lrepeat -1 a", "bad count \"-1\""),
     ("lrepeat 134217729 a", "result too long"),
     ("lrepeat 9223372036854775807 {}", "result too long"),
@@ -254,5 +346,61 @@ pub(super) static OWN: [(&str, &str); 26] = [
     (
         "join a b c",
         "wrong # args: should be \"join list ?joinString?\"",
+    ),
+    ("string", "wrong # args: should be \"string length s\""),
+    ("string foo a", "bad option \"foo\""),
+    (
+        "string length a b",
+        "wrong # args: should be \"string length s\"",
+    ),
+    (
+        "string index a",
+        "wrong # args: should be \"string index s i\"",
+    ),
+    (
+        "string range a 0",
+        "wrong # args: should be \"string range s first last\"",
+    ),
+    (
+        "string compare a",
+        "wrong # args: should be \"string compare a b\"",
+    ),
+    (
+        "string equal -nocase a b",
+        "wrong # args: should be \"string equal a b\"",
+    ),
+    (
+        "string match a",
+        "wrong # args: should be \"string match pattern s\"",
+    ),
+    (
+        "string first a",
+        "wrong # args: should be \"string first needle s\"",
+    ),
+    (
+        "string repeat a",
+        "wrong # args: should be \"string repeat s count\"",
+    ),
+    (
+        "string map {a b c} x",
+        "list must have an even number of elements",
+    ),
+    (
+        "string map a",
+        "wrong # args: should be \"string map list s\"",
+    ),
+    (
+        "string trim a b c",
+        "wrong # args: should be \"string trim s ?chars?\"",
+    ),
+    ("string repeat ab 134217729", "result too long"),
+    ("string repeat a 99999999999999999999", "integer overflow"),
+    (
+        "string index abc 1.0",
+        "bad index \"1.0\": must be integer?[+-]integer? or end?[+-]integer?",
+    ),
+    (
+        "split",
+        "wrong # args: should be \"split string ?splitChars?\"",
     ),
 ];
