@@ -9,7 +9,7 @@ mod numeral;
 mod operators;
 
 pub use decimal::whole_text;
-pub use numeral::{NumberFault, read_whole, trimmed};
+pub use numeral::{NumberFault, digits_of, read_whole, trimmed};
 pub use operators::{ArithFault, NumOp, OneOp, binary, unary};
 
 #[cfg(test)]

@@ -54,7 +54,7 @@ fn without_white_back(mut text: &[u8]) -> &[u8]
     text
 }
 
-/// A text without the white space at its front and at its back (expr(n), OPERANDS; concat(n)).
+/// The text without the white space around it (concat(n)): none of its bytes 9 to 13 and 32 at the ends.
 #[tactic(auto, unfolding(crate::specs::Numerals::trimmed))]
 pub fn trimmed(text: &[u8]) -> &[u8]
     ensures { result.now ≡ trimmed text.now }
@@ -90,7 +90,10 @@ fn number_of(unsigned: &[u8]) -> Option<u64>
     }
 }
 
-fn digits_of(base: u32, digits: &[u8]) -> Option<u64>
+/// The number that digits of this base write, or the greatest `u64` where it is past that (expr(n), OPERANDS).
+///
+/// `None` where there are none or one is no digit of the base.
+pub fn digits_of(base: u32, digits: &[u8]) -> Option<u64>
     requires least { 2 ≤ base }
     requires most { base ≤ 16 }
     ensures { result ≡ option_map (λ n. min n (2 ^ 64 - 1)) (number_of (base, digits.now)) }

@@ -1,4 +1,5 @@
 pub mod Flags
+pub mod Formatting
 pub mod Lists
 pub mod Rows
 pub mod Searching

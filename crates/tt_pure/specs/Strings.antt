@@ -23,7 +23,6 @@ use Rattle.tt_strings.specs.Trimming.{trim}
 use Rattle.tt_strings.specs.declared.making.Repetition.{Repetition}
 use Rattle.tt_strings.specs.declared.making.Repetition.TheVariants as repetition
 use Rattle.tt_strings.specs.declared.trimming.Side.{Side}
-use Rattle.tt_strings.specs.declared.trimming.Side.TheVariants.{Left, Right, Both}
 use Rattle.tt_strings.specs.declared.trimming.TheConstants.{WHITE_SPACE}
 
 -- string length

@@ -4,6 +4,7 @@ use Rattle.std.specs.List.{find}
 use Rattle.std.specs.Option.{is_some}
 use Rattle.tt_calls.specs.declared.outcome.Outcome.{Outcome}
 use Rattle.tt_lists.specs.declared.answer.ListAnswer.{ListAnswer}
+use Rattle.tt_pure.specs.Formatting.{IsFormatAnswer}
 use Rattle.tt_pure.specs.Lists.{lindex, linsert, list, llength, lrange, lrepeat, lreplace, lreverse}
 use Rattle.tt_pure.specs.Rows.{Row, always, is, row}
 use Rattle.tt_pure.specs.Searching.{IsLsearch}
@@ -17,6 +18,7 @@ use Rattle.tt_pure.specs.declared.command.Command.TheVariants as command
 -- the table
 abbrev pub row_of : Command → Row
 row_of command.Concat = row (codes "concat") (codes "concat ?arg ...?") (always concat)
+row_of command.Format = row (codes "format") (codes "format template ?value ...?") IsFormatAnswer
 row_of command.Join = row (codes "join") (codes "join list ?joinString?") (is join)
 row_of command.Lindex = row (codes "lindex") (codes "lindex list ?index ...?") (is lindex)
 row_of command.Linsert = row (codes "linsert") (codes "linsert list index ?element ...?") (is linsert)
@@ -36,9 +38,9 @@ row_of command.String = row (codes "string") (codes "string length s") IsString
 -- the commands of the table
 abbrev pub commands : List Command
 commands =
-    command.Concat ∷ command.Join ∷ command.Lindex ∷ command.Linsert ∷ command.List ∷ command.Llength ∷
-    command.Lrange ∷ command.Lrepeat ∷ command.Lreplace ∷ command.Lreverse ∷ command.Lsearch ∷ command.Lsort ∷
-    command.Split ∷ command.String ∷ []
+    command.Concat ∷ command.Format ∷ command.Join ∷ command.Lindex ∷ command.Linsert ∷ command.List ∷
+    command.Llength ∷ command.Lrange ∷ command.Lrepeat ∷ command.Lreplace ∷ command.Lreverse ∷ command.Lsearch ∷
+    command.Lsort ∷ command.Split ∷ command.String ∷ []
 
 -- the first of these that has a name
 abbrev pub first_named : List Command → (name : List ℕ) → Option Command

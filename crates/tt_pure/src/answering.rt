@@ -2,6 +2,7 @@ ghost use Rattle.std.specs.Prelude.{◌≡◌, IfOk, IsTrue};
 ghost use Rattle.tt_pure.specs.Table as table;
 
 use crate::command::{Command, command_of, usage};
+use crate::formatting::format;
 use crate::searching::lsearch;
 use crate::sorting::lsort;
 use crate::strings::string;
@@ -46,6 +47,7 @@ fn answer(alloc: Global, command: Command, words: &[Text]) -> Result<ListAnswer,
     let usage = usage(command);
     match command {
         Command::Concat => texts::concat(alloc, words),
+        Command::Format => format(alloc, usage, words),
         Command::Join => texts::join(alloc, usage, words),
         Command::Lindex => lists::lindex(alloc, usage, words),
         Command::Linsert => lists::linsert(alloc, usage, words),

@@ -8,6 +8,7 @@ use crate::row::Row;
 #[derive(Clone, Copy, Debug, PartialEq, Eq)]
 pub(crate) enum Command {
     Concat,
+    Format,
     Join,
     Lindex,
     Linsert,
@@ -23,8 +24,9 @@ pub(crate) enum Command {
     String,
 }
 
-const COMMANDS: [Command; 14] = [
+const COMMANDS: [Command; 15] = [
     Command::Concat,
+    Command::Format,
     Command::Join,
     Command::Lindex,
     Command::Linsert,
@@ -47,6 +49,7 @@ fn row_of(command: Command) -> Row
 {
     match command {
         Command::Concat => Row::new(b"concat", b"concat ?arg ...?"),
+        Command::Format => Row::new(b"format", b"format template ?value ...?"),
         Command::Join => Row::new(b"join", b"join list ?joinString?"),
         Command::Lindex => Row::new(b"lindex", b"lindex list ?index ...?"),
         Command::Linsert => Row::new(b"linsert", b"linsert list index ?element ...?"),

@@ -1,10 +1,11 @@
-//! The commands that answer by their words alone (list(n), lsearch(n), lsort(n), string(n) and others): a table of names, usages
+//! The commands that answer by their words alone (list(n), lsearch(n), lsort(n), string(n), format(n) and others): a table of names, usages
 //! and meanings.
 #![tactic(auto)]
 
 mod answering;
 mod command;
 mod flags;
+mod formatting;
 mod lists;
 mod row;
 mod searching;

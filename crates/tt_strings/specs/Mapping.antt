@@ -12,7 +12,8 @@ abbrev pub IsNotAtFront : List ℕ → List Character → Type 0
 IsNotAtFront key text = (rest : List Character) → ¬ IsAtFront key text rest
 
 -- of keys and values, one after the other, the first pair whose key stands at the front of a text has that value
-pub data IsFirstPair : (pairs : List (List ℕ)) (text : List Character) (value : List ℕ) (rest : List Character) → Type 0 where
+pub data IsFirstPair :
+    (pairs : List (List ℕ)) (text : List Character) (value : List ℕ) (rest : List Character) → Type 0 where
   here : {key value : List ℕ} {more : List (List ℕ)} {text rest : List Character} →
       IsAtFront key text rest →
       IsFirstPair (key ∷ value ∷ more) text value rest

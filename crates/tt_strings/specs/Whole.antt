@@ -13,9 +13,13 @@ pub record IsWholeAt (needle text : List ℕ) (start : ℕ) : Type 0 where
 -- the first such place
 abbrev pub IsFirstWhole : List ℕ → List ℕ → Option ℕ → Type 0
 IsFirstWhole needle text answer =
-    MatchOption answer ((k : ℕ) → ¬ IsWholeAt needle text k) (λ start. IsWholeAt needle text start × ((k : ℕ) → k < start → ¬ IsWholeAt needle text k))
+    MatchOption answer
+    ((k : ℕ) → ¬ IsWholeAt needle text k)
+    (λ start. IsWholeAt needle text start × ((k : ℕ) → k < start → ¬ IsWholeAt needle text k))
 
 -- the last such place
 abbrev pub IsLastWhole : List ℕ → List ℕ → Option ℕ → Type 0
 IsLastWhole needle text answer =
-    MatchOption answer ((k : ℕ) → ¬ IsWholeAt needle text k) (λ start. IsWholeAt needle text start × ((k : ℕ) → start < k → ¬ IsWholeAt needle text k))
+    MatchOption answer
+    ((k : ℕ) → ¬ IsWholeAt needle text k)
+    (λ start. IsWholeAt needle text start × ((k : ℕ) → start < k → ¬ IsWholeAt needle text k))

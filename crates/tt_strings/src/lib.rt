@@ -12,7 +12,7 @@ mod trimming;
 pub use finding::{first_place, last_place};
 pub use making::{LONGEST, Repetition, compare, lower, repeated, reversed, upper};
 pub use mapping::mapped;
-pub use places::{character_at, range};
+pub use places::{character_at, leading, range};
 pub use splitting::split_at;
 pub use trimming::{Side, WHITE_SPACE, trim};
 

@@ -53,9 +53,10 @@ fn places_through(place: i128, most: usize) -> usize
     }
 }
 
-// The first characters of a text, so many.
-fn leading(text: &[u8], count: usize) -> &[u8]
-    ensures { characters result.now ≡ take count (characters text.now) }
+/// The first characters of a text, so many, or all where it has fewer.
+pub fn leading(text: &[u8], count: usize) -> &[u8]
+    ensures text { result.now ≡ joined (take count (characters text.now)) }
+    ensures characters { characters result.now ≡ take count (characters text.now) }
 {
     let rest = after(text, count);
     &text[..text.len() - rest.len()]

@@ -136,8 +136,8 @@ pub(super) static TEXTS: [(&str, &str); 19] = [
     ("concat c\\\\\\  d", "c\\ d"),
 ];
 
-/// Strings (string(n), split(n)).
-pub(super) static STRINGS: [(&str, &str); 70] = [
+/// Strings (string(n), split(n), format(n)).
+pub(super) static STRINGS: [(&str, &str); 74] = [
     ("string length abc", "3"),
     ("string length {}", "0"),
     ("string length é", "1"),
@@ -208,6 +208,10 @@ pub(super) static STRINGS: [(&str, &str); 70] = [
     ("split {}", ""),
     ("split aéb {}", "a é b"),
     ("split ,a, ,", "{} a {}"),
+    ("format %03d 7", "007"),
+    ("format %5.2s| abc", "   ab|"),
+    ("format %x -1", "ffffffffffffffff"),
+    ("format a%%b", "a%b"),
 ];
 
 /// Errors that tclsh 8.6 has too.
@@ -284,7 +288,7 @@ pub(super) static ERRORS: [(&str, &str); 27] = [
 ];
 
 /// Errors that are this profile's own, or told by its usages.
-pub(super) static OWN: [(&str, &str); 43] = [
+pub(super) static OWN: [(&str, &str); 45] = [
     ("lrepeat -1 a", "bad count \"-1\""),
     ("lrepeat 134217729 a", "result too long"),
     ("lrepeat 9223372036854775807 {}", "result too long"),
@@ -402,5 +406,13 @@ pub(super) static OWN: [(&str, &str); 43] = [
     (
         "split",
         "wrong # args: should be \"split string ?splitChars?\"",
+    ),
+    (
+        "format",
+        "wrong # args: should be \"format template ?value ...?\"",
+    ),
+    (
+        "format %d",
+        "not enough arguments for all format specifiers",
     ),
 ];

@@ -1,0 +1,5 @@
+pub mod DigitRuns
+pub mod Layouts
+pub mod Limits
+pub mod Parts
+pub mod Steps
