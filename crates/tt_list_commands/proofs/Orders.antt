@@ -1,5 +1,5 @@
 -- The order of a sort, by its options.
-use Rattle.std.proofs.Common.{◌≡◌, ℕ, Bool, true, false, List, ap, subst, sym, ◌∙◌}
+use Rattle.std.proofs.Common.{◌≡◌, ℕ, Bool, false, List, ap, subst, sym, ◌∙◌}
 use Rattle.std.specs.List.Sorted.{IsPermutation, IsSorted, IsStable}
 use Rattle.std.specs.declared.cmp.Ordering.{Ordering}
 use Rattle.tt_list_commands.specs.Sorting.{IsInOrder, order}

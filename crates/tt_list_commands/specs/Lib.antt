@@ -2,4 +2,5 @@ pub mod Concatenating
 pub mod Joining
 pub mod Repeating
 pub mod Reversing
+pub mod Runs
 pub mod Sorting

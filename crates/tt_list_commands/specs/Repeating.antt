@@ -1,5 +1,5 @@
 -- A list that repeats items (lrepeat(n)).
-use Rattle.std.specs.Prelude.{ℕ, nat_le, if◌then◌else◌, ℤ, pos, negsuc, List, ◌++◌, length, codes, Result, Ok, Err}
+use Rattle.std.specs.Prelude.{ℕ, nat_le, if◌then◌else◌, ℤ, pos, negsuc, List, ◌++◌, length, codes, Ok, Err}
 use Rattle.std.specs.List.{repeat}
 use Rattle.tt_lists.specs.Spelling.{list_of}
 use Rattle.tt_lists.specs.declared.answer.ListAnswer.{ListAnswer}

@@ -1,6 +1,7 @@
 -- The items of a list in order (lsort(n)).
-use Rattle.std.specs.Prelude.{◌≡◌, ℕ, Bool, true, false, if◌then◌else◌, ℤ, pos, List, [], ◌∷◌, Option, Some, None, Result, Ok, Err}
+use Rattle.std.specs.Prelude.{◌≡◌, ℕ, Bool, if◌then◌else◌, ℤ, pos, List, [], ◌∷◌, Option, Some, None, Ok, Err}
 use Rattle.std.specs.Cmp.Lexicographic.{slice_cmp}
+use Rattle.std.specs.List.{list_any}
 use Rattle.std.specs.List.Sorted.{IsPermutation, IsSorted, IsStable}
 use Rattle.std.specs.Ordering.{int_cmp, is_eq, nat_cmp}
 use Rattle.std.specs.declared.cmp.Ordering.{Ordering}
@@ -34,16 +35,15 @@ pub record IsInOrder (how : Sorting) (items sorted : List (List ℕ)) : Type 0 w
   pub ascends : IsSorted (order how) sorted
   pub stable : IsStable (order how) items sorted
 
--- an item is equal to the first of those after it
-abbrev pub equals_next : Sorting → (item : List ℕ) → (later : List (List ℕ)) → Bool
-equals_next how item [] = false
-equals_next how item (next ∷ later) = is_eq (order how item next)
+-- an item is equal to one of those after it
+abbrev pub equals_later : Sorting → (item : List ℕ) → (later : List (List ℕ)) → Bool
+equals_later how item later = list_any (λ other. is_eq (order how item other)) later
 
--- of items in order, where equals stand together, the last of equals
+-- of items that are equal, the last
 abbrev pub last_of_equals : Sorting → List (List ℕ) → List (List ℕ)
 last_of_equals how [] = []
 last_of_equals how (item ∷ later) =
-    if equals_next how item later then last_of_equals how later else item ∷ last_of_equals how later
+    if equals_later how item later then last_of_equals how later else item ∷ last_of_equals how later
 
 -- what stays of items in order: with `-unique` the last of equals
 abbrev pub kept : Sorting → List (List ℕ) → List (List ℕ)

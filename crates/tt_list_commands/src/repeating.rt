@@ -24,12 +24,7 @@ pub fn repeat(alloc: Global, count: &[u8], values: &[Text]) -> Result<ListAnswer
     }
 }
 
-fn times(
-    alloc: Global,
-    number: i64,
-    count: &[u8],
-    values: &[Text],
-) -> Result<ListAnswer, NoMemory>
+fn times(alloc: Global, number: i64, count: &[u8], values: &[Text]) -> Result<ListAnswer, NoMemory>
     ensures { IfOk result (λ answer. answer ≡ times number count.now values.now) }
 {
     if number < 0 {
@@ -86,12 +81,7 @@ fn later_text(alloc: Global, values: &[Text]) -> Result<Text, NoMemory>
     Ok(text)
 }
 
-fn with_repeats(
-    alloc: Global,
-    mut text: Text,
-    times: usize,
-    again: &Text,
-) -> Result<Text, NoMemory>
+fn with_repeats(alloc: Global, mut text: Text, times: usize, again: &Text) -> Result<Text, NoMemory>
     ensures { IfOk result (λ all. all ≡ text ++ repeat times again.now) }
 {
     let later = again.as_bytes().repeat(alloc, times)?;

@@ -1,6 +1,8 @@
 ghost use Rattle.std.specs.Prelude.{◌≡◌, IfOk, OnOk};
+ghost use Rattle.std.specs.List.Sorted.{IsSorted};
 ghost use Rattle.tt_lists.specs.Spelling.{list_of};
-ghost use Rattle.tt_list_commands.specs.Sorting.{IsInOrder, IsSortAnswer, IsSortUnless, equals_next, fault_of, increasing, kept, last_of_equals, number_fault, number_of, order};
+ghost use Rattle.tt_list_commands.specs.Runs.{equals_next, last_in_runs};
+ghost use Rattle.tt_list_commands.specs.Sorting.{IsInOrder, IsSortAnswer, IsSortUnless, fault_of, increasing, kept, number_fault, number_of, order};
 
 use std::alloc::Global;
 use std::cmp::{Ordering, Reverse};
@@ -84,19 +86,22 @@ fn number_of(item: &[u8]) -> i64
     read_whole(item).unwrap_or(0)
 }
 
+#[tactic(auto, using(crate::proofs::Equals::last_in_runs_is))]
 fn kept_text(alloc: Global, how: Sorting, sorted: &[Text]) -> Result<Text, NoMemory>
+    requires { IsSorted (order how) sorted.now }
     ensures { IfOk result (λ text. text ≡ list_of (kept how sorted.now)) }
 {
     if !how.unique {
         return join_list(alloc, sorted);
     }
-    let last = last_of_equals(alloc, how, sorted)?;
+    let last = last_in_runs(alloc, how, sorted)?;
     let text = join_list(alloc, last.as_slice())?;
     Ok(text)
 }
 
-fn last_of_equals(alloc: Global, how: Sorting, sorted: &[Text]) -> Result<Texts, NoMemory>
-    ensures { IfOk result (λ last. last ≡ last_of_equals how sorted.now) }
+// In a sorted list equals stand together, so it is enough to look at the next item.
+fn last_in_runs(alloc: Global, how: Sorting, sorted: &[Text]) -> Result<Texts, NoMemory>
+    ensures { IfOk result (λ last. last ≡ last_in_runs how sorted.now) }
 {
     let mut last = Texts::new(alloc);
     let mut rest = sorted;
@@ -112,9 +117,7 @@ fn last_of_equals(alloc: Global, how: Sorting, sorted: &[Text]) -> Result<Texts,
 fn equals_next(how: Sorting, item: &[u8], later: &[Text]) -> bool
     ensures { result ≡ equals_next how item.now later.now }
 {
-    later
-        .first()
-        .is_some_and(|next| order(how, item, next.as_bytes()) == Ordering::Equal)
+    later.first().is_some_and(|next| order(how, item, next.as_bytes()) == Ordering::Equal)
 }
 
 fn order(how: Sorting, a: &[u8], b: &[u8]) -> Ordering

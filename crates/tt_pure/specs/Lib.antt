@@ -1,0 +1,11 @@
+pub mod Flags
+pub mod Formatting
+pub mod Lists
+pub mod Rows
+pub mod Searching
+pub mod Sorting
+pub mod Strings
+pub mod StringTable
+pub mod Table
+pub mod Texts
+pub mod Usages

@@ -1,0 +1,65 @@
+ghost use Rattle.std.specs.Prelude.{◌≡◌, IfOk, IsTrue};
+ghost use Rattle.tt_pure.specs.Table as table;
+
+use crate::command::{Command, command_of, usage};
+use crate::formatting::format;
+use crate::searching::lsearch;
+use crate::sorting::lsort;
+use crate::strings::string;
+use crate::usages::outcome_of;
+use crate::{lists, texts};
+use std::alloc::Global;
+use tt_calls::Outcome;
+use tt_lists::ListAnswer;
+use tt_text::{NoMemory, Text};
+
+/// Whether a name is that of a command which answers by its words alone.
+pub fn is_pure(name: &[u8]) -> bool
+    ensures known { result ≡ table.is_pure name.now }
+{
+    command_of(name).is_some()
+}
+
+/// How the command of this name ends with these words, which are those after its name: its result, or its error.
+///
+/// Errors come in this order: an option that isn't known, from the left; a wrong number of words; what the words say.
+/// `NoMemory` where memory is refused.
+pub fn pure(alloc: Global, name: &[u8], words: &[Text]) -> Result<Outcome, NoMemory>
+    requires known { IsTrue (table.is_pure name.now) }
+    ensures outcome { IfOk result (table.IsOutcome (table.command_of name.now) words.now) }
+{
+    match command_of(name) {
+        Some(command) => outcome(alloc, command, words),
+        None => unreachable!(),
+    }
+}
+
+fn outcome(alloc: Global, command: Command, words: &[Text]) -> Result<Outcome, NoMemory>
+    ensures { IfOk result (table.IsOutcome (Some command) words.now) }
+{
+    let answer = answer(alloc, command, words)?;
+    outcome_of(alloc, answer)
+}
+
+fn answer(alloc: Global, command: Command, words: &[Text]) -> Result<ListAnswer, NoMemory>
+    ensures { IfOk result (table.IsAnswer command words.now) }
+{
+    let usage = usage(command);
+    match command {
+        Command::Concat => texts::concat(alloc, words),
+        Command::Format => format(alloc, usage, words),
+        Command::Join => texts::join(alloc, usage, words),
+        Command::Lindex => lists::lindex(alloc, usage, words),
+        Command::Linsert => lists::linsert(alloc, usage, words),
+        Command::List => lists::list(alloc, words),
+        Command::Llength => lists::llength(alloc, usage, words),
+        Command::Lrange => lists::lrange(alloc, usage, words),
+        Command::Lrepeat => lists::lrepeat(alloc, usage, words),
+        Command::Lreplace => lists::lreplace(alloc, usage, words),
+        Command::Lreverse => lists::lreverse(alloc, usage, words),
+        Command::Lsearch => lsearch(alloc, usage, words),
+        Command::Lsort => lsort(alloc, usage, words),
+        Command::Split => texts::split(alloc, usage, words),
+        Command::String => string(alloc, usage, words),
+    }
+}

@@ -1,0 +1,42 @@
+ghost use Rattle.std.specs.Prelude.{◌≡◌, ◌++◌, IfOk, codes};
+ghost use Rattle.tt_pure.specs.Usages.{bad_option, outcome_of, wrong_number};
+
+use std::alloc::Global;
+use tt_calls::Outcome;
+use tt_lists::ListAnswer;
+use tt_text::{NoMemory, Text};
+
+/// That words are too few or too many for a usage.
+pub(crate) fn wrong_number(alloc: Global, usage: &[u8]) -> Result<ListAnswer, NoMemory>
+    ensures { IfOk result (λ answer. answer ≡ wrong_number usage.now) }
+{
+    let message = quoting(alloc, b"wrong # args: should be \"", usage)?;
+    Ok(ListAnswer::Bad(message))
+}
+
+/// That a word is no option.
+pub(crate) fn bad_option(alloc: Global, word: &[u8]) -> Result<ListAnswer, NoMemory>
+    ensures { IfOk result (λ answer. answer ≡ bad_option word.now) }
+{
+    let message = quoting(alloc, b"bad option \"", word)?;
+    Ok(ListAnswer::Bad(message))
+}
+
+fn quoting(alloc: Global, before: &[u8], quoted: &[u8]) -> Result<Text, NoMemory>
+    ensures { IfOk result (λ text. text ≡ before.now ++ (quoted.now ++ codes "\"")) }
+{
+    let mut text = Text::from_bytes(alloc, before)?;
+    text.push_bytes(quoted)?;
+    text.push_bytes(b"\"")?;
+    Ok(text)
+}
+
+/// How a command with this answer ends.
+pub(crate) fn outcome_of(alloc: Global, answer: ListAnswer) -> Result<Outcome, NoMemory>
+    ensures { IfOk result (λ outcome. outcome ≡ outcome_of answer) }
+{
+    match answer {
+        ListAnswer::Made(text) => Ok(Outcome::fine(alloc, text)),
+        ListAnswer::Bad(message) => Outcome::failed(message),
+    }
+}
