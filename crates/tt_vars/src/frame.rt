@@ -1,4 +1,4 @@
-ghost use Rattle.std.specs.Prelude.{◌≡◌, [], None, Some, Ok, Err, cond, length, slice_get, remove, bytes_eq, IfOk, IfErr, OnOk, OnErr};
+ghost use Rattle.std.specs.Prelude.{◌≡◌, [], Some, Ok, Err, cond, length, slice_get, remove, bytes_eq, IfOk, IfErr, OnOk, OnErr};
 ghost use Rattle.std.specs.Map.{keys_of, values_of};
 ghost use Rattle.std.specs.Option.{option_copied, option_map, ok_or};
 ghost use Rattle.tt_lists.specs.Reading.{split_of};

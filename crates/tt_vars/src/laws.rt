@@ -1,5 +1,5 @@
 //! Laws about the definitions, each proved as the contract of a function that does nothing.
-ghost use Rattle.std.specs.Prelude.{◌≡◌, ◌<◌, Option, length};
+ghost use Rattle.std.specs.Prelude.{◌<◌, Option, length};
 ghost use Rattle.std.specs.Option.{option_copied};
 ghost use Rattle.tt_vars.specs.declared.variable.Place.{Place};
 ghost use Rattle.tt_vars.specs.Links.{StandsFor, StandsOnceLaw, place_of};

@@ -1,6 +1,5 @@
 ghost use Rattle.std.specs.Prelude.{◌≡◌, ◌+◌, ◌-◌, ◌<◌, ◌≤◌, ◌++◌, ◌∷◌, [], None, Some, take, length, IfOk, IfSome, OnOk, OnErr};
 ghost use Rattle.std.specs.Option.{option_copied, option_map};
-ghost use Rattle.std.specs.Map.{keys_of};
 ghost use Rattle.tt_lists.specs.Reading.{split_of};
 ghost use Rattle.tt_number.specs.Numerals.{whole_of};
 ghost use Rattle.tt_vars.specs.declared.variable.Variable.TheVariants.{Link};

@@ -1,0 +1,55 @@
+ghost use Rattle.std.specs.Prelude.{◌≡◌, IsTrue};
+ghost use Rattle.tt_pools.specs.Answers.{wants_worker};
+ghost use Rattle.tt_pools.specs.Pools.{IsCounter, new_pool};
+
+use crate::Jobs;
+use std::alloc::Global;
+use tt_text::Text;
+
+/// A pool.
+#[derive(Debug, Drop)]
+pub struct Pool {
+    /// What each of its workers evaluates first (tpool(n), tpool::create -initcmd).
+    pub init: Text,
+    /// What each of its workers evaluates last (tpool(n), tpool::create -exitcmd).
+    pub exit: Text,
+    /// The most workers that it has.
+    pub most: u32,
+    /// How many it has.
+    pub workers: u32,
+    /// How many holds it has less those that were given up (tpool(n), tpool::preserve, tpool::release).
+    pub count: i64,
+    /// Whether its workers begin no job (tpool(n), tpool::suspend).
+    pub suspended: bool,
+    pub jobs: Jobs,
+}
+
+impl Pool {
+    pub(crate) fn new(alloc: Global, most: u32, workers: u32, init: Text, exit: Text) -> Self
+        ensures { result ≡ new_pool most workers init exit }
+    {
+        Pool {
+            init,
+            exit,
+            most,
+            workers,
+            count: 0,
+            suspended: false,
+            jobs: Jobs::new(alloc),
+        }
+    }
+
+    // Whether its counts are within 2^62.
+    pub(crate) fn is_counter(&self) -> bool
+        ensures { IsTrue result → IsCounter self.now }
+    {
+        self.count.unsigned_abs() < 1 << 62 && self.jobs.can_draw()
+    }
+
+    // Whether it is to get a worker more, where so many threads may still be made.
+    pub(crate) fn wants_worker(&self, room: u32) -> bool
+        ensures { result ≡ wants_worker self.now room }
+    {
+        (self.workers as usize) < self.jobs.unfinished() && self.workers < self.most && room > 0
+    }
+}
