@@ -1,7 +1,10 @@
 #!/bin/sh
-# Prints the time that reading and writing one variable takes, among 10, 1,000 and 100,000 others, through no link
-# and through ten.
+# Prints the time that commands on lists and texts take for an item or a byte, for sizes that double three times, and
+# the time that reading and writing one variable takes, among 10, 1,000 and 100,000 others, through no link and
+# through ten.
 # Further runs differ by what else the machine does.
 set -eu
-cd "$(dirname "$0")/../crates/bench_vars"
+cd "$(dirname "$0")/../crates/bench_values"
+rt run -- times
+cd ../bench_vars
 rt run -- times
