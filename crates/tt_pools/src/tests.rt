@@ -30,23 +30,26 @@ fn is_value(gives: &Option<PoolStep>, answer: &str, start: u32) -> bool {
     }
 }
 
-#[test]
-fn a_pool_has_jobs(rt: HostRuntime) -> Result<(), Fail> {
-    let alloc = rt.alloc();
-    let mut pools = Pools::new(alloc);
-    let create = PoolCall::Create {
+fn create(alloc: Global) -> PoolCall {
+    PoolCall::Create {
         least: 0,
         most: 4,
         init: Text::new(alloc),
         exit: Text::new(alloc),
-    };
-    assert!(rt; is_value(&turn(&mut pools, 1, &create)?, "tpool1", 0));
-    let post = PoolCall::Post {
-        pool: text(alloc, "tpool1")?,
-        script: text(alloc, "s")?,
-        detached: false,
-    };
-    assert!(rt; is_value(&turn(&mut pools, 1, &post)?, "1", 1));
+    }
+}
+
+#[test]
+fn a_pool_is_made(rt: HostRuntime) -> Result<(), Fail> {
+    let mut pools = Pools::new(rt.alloc());
+    let gives = turn(&mut pools, 1, &create(rt.alloc()))?;
+    assert!(rt; is_value(&gives, "tpool1", 0));
+    Ok(())
+}
+
+#[test]
+fn the_end_of_main_changes_no_pool(rt: HostRuntime) -> Result<(), Fail> {
+    let mut pools = Pools::new(rt.alloc());
     pools.end(1, None)?;
     Ok(())
 }
