@@ -62,4 +62,18 @@ impl Outcome {
             kept: Code::Fine,
         })
     }
+
+    /// A second outcome that is equal.
+    ///
+    /// `NoMemory` where the memory for it is refused.
+    pub fn copy(&self) -> Result<Self, NoMemory>
+        ensures copied { IfOk result (λ outcome. outcome ≡ self.now) }
+    {
+        Ok(Outcome {
+            code: self.code,
+            value: self.value.copy()?,
+            trace: self.trace.copy()?,
+            kept: self.kept,
+        })
+    }
 }

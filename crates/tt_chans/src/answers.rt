@@ -1,4 +1,4 @@
-ghost use Rattle.std.specs.Prelude.{◌≡◌, ◌<◌, ◌^◌, ◌++◌, ◌∷◌, IfOk, OnOk};
+ghost use Rattle.std.specs.Prelude.{◌≡◌, ◌++◌, ◌∷◌, IfOk, OnOk};
 ghost use Rattle.tt_calls.specs.declared.reply.Reply.TheVariants.{Value};
 ghost use Rattle.tt_chans.specs.Answers.{act, act_own, attaches, closes, detaches, eof, gets, if_owned, moved, owned_by, puts, puts_at, step_after, table_after, transfers};
 ghost use Rattle.tt_chans.specs.Channels.{channel_of, read_id, with_pipe, write_id};
@@ -6,7 +6,7 @@ ghost use Rattle.tt_chans.specs.Channels.{channel_of, read_id, with_pipe, write_
 use crate::refusals::{id_of, is_standard, no_thread, not_found, of_channel, refuse_standard};
 use crate::{Channel, Chans, End, Owner, Pipe};
 use tt_calls::{ChanCall, Reply, Step};
-use tt_ids::{IdKind, id_text};
+use tt_ids::{IdKind, id_text, number_after};
 use tt_text::{NoMemory, Text};
 
 impl Chans {
@@ -21,7 +21,6 @@ impl Chans {
         call: &ChanCall,
         target: Option<u32>,
     ) -> Result<Step, NoMemory>
-        requires counter { self.old.next < 2 ^ 62 }
         ensures table { OnOk result (self.new ≡ table_after self.old thread target call.now) }
         ensures step { IfOk result (λ step. step ≡ step_after self.old thread target call.now) }
     {
@@ -33,7 +32,6 @@ impl Chans {
     }
 
     fn act(&mut self, thread: u32, call: &ChanCall, target: Option<u32>) -> Result<Reply, NoMemory>
-        requires counter { self.old.next < 2 ^ 62 }
         ensures table { OnOk result (self.new ≡ (act self.old thread target call.now).table) }
         ensures reply { IfOk result (λ reply. reply ≡ (act self.old thread target call.now).reply) }
     {
@@ -49,7 +47,6 @@ impl Chans {
         call: &ChanCall,
         target: Option<u32>,
     ) -> Result<Reply, NoMemory>
-        requires counter { self.old.next < 2 ^ 62 }
         ensures table { OnOk result (self.new ≡ (act_own self.old thread target call.now).table) }
         ensures reply { IfOk result (λ reply. reply ≡ (act_own self.old thread target call.now).reply) }
     {
@@ -68,12 +65,13 @@ impl Chans {
 
     // A new pipe.
     fn pipe(&mut self, thread: u32) -> Result<Reply, NoMemory>
-        requires counter { self.old.next < 2 ^ 62 }
         ensures table { OnOk result (self.new ≡ with_pipe self.old thread) }
         ensures reply { IfOk result (λ reply. reply ≡ Value (read_id self.old ++ 32 ∷ write_id self.old)) }
     {
+        let second = number_after(self.next)?;
+        let next = number_after(second)?;
         let read_id = id_text(self.alloc, IdKind::Channel, self.next)?;
-        let write_id = id_text(self.alloc, IdKind::Channel, self.next + 1)?;
+        let write_id = id_text(self.alloc, IdKind::Channel, second)?;
         let reader = Channel {
             other: write_id.copy()?,
             owner: Owner::Thread(thread),
@@ -89,7 +87,7 @@ impl Chans {
         };
         self.channels.insert(read_id.copy()?, reader)?;
         self.channels.insert(write_id.copy()?, writer)?;
-        self.next += 2;
+        self.next = next;
         let mut ids = read_id;
         ids.push_bytes(b" ")?;
         ids.push_bytes(write_id.as_bytes())?;

@@ -1,4 +1,4 @@
-ghost use Rattle.std.specs.Prelude.{◌≡◌, ◌↔◌, ◌<◌, ◌^◌, IsTrue, option_copied};
+ghost use Rattle.std.specs.Prelude.{◌≡◌, option_copied};
 ghost use Rattle.tt_chans.specs.Answers.{lacks_line, waits};
 ghost use Rattle.tt_chans.specs.Channels.{channel_of, given, no_channels, table_after_end};
 ghost use Rattle.tt_chans.specs.Ends.{owned};
@@ -36,13 +36,6 @@ impl Chans {
             next: 1,
             alloc,
         }
-    }
-
-    /// Whether the numbers of new channels are far from their end, below 2^62, as they are in any run.
-    pub fn can_draw(&self) -> bool
-        ensures { IsTrue result ↔ (self.now.next < 2 ^ 62) }
-    {
-        self.next < 1 << 62
     }
 
     // The channel of an id, where the thread owns it.

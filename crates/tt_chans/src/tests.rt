@@ -144,11 +144,7 @@ fn turn(
     if let (9, ChanCall::AwaitMove { chan }) = (thread, call) {
         chans.give(2, chan);
     }
-    if chans.can_draw() {
-        chans.apply(thread, call, target)
-    } else {
-        Ok(Step::Wait)
-    }
+    chans.apply(thread, call, target)
 }
 
 #[test]

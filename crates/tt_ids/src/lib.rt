@@ -6,7 +6,7 @@ pub mod laws;
 mod number;
 
 pub use id::{IdKind, id_number, id_text};
-pub use number::{number_of, number_text};
+pub use number::{count_with, number_after, number_of, number_text};
 
 #[cfg(test)]
 mod tests;

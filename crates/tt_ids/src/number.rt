@@ -1,4 +1,4 @@
-ghost use Rattle.std.specs.Prelude.{◌≡◌, ◌≢◌, ◌<◌, ◌^◌, ℕ, IfNone, IfOk, IfSome};
+ghost use Rattle.std.specs.Prelude.{◌≡◌, ◌≢◌, ◌<◌, ◌+◌, ◌^◌, ◌+ℤ◌, ℕ, IfNone, IfOk, IfSome};
 ghost use Rattle.std.specs.Fmt.{decimal};
 ghost use Rattle.tt_ids.specs.Ids.{number_named};
 
@@ -26,6 +26,24 @@ pub fn number_of(text: &[u8]) -> Option<u64>
 {
     let number = read_number(text);
     number
+}
+
+/// The number after this one, which the next of its kind draws. It takes no memory.
+///
+/// `NoMemory` where 2^64 were drawn, which is more than any memory holds.
+pub fn number_after(number: u64) -> Result<u64, NoMemory>
+    ensures after { IfOk result (λ next. next ≡ number + 1) }
+{
+    number.checked_add(1).ok_or(NoMemory)
+}
+
+/// A count of holds with so many more, or less. It takes no memory.
+///
+/// `NoMemory` where the sum is outside signed 64 bits, which is more than any run counts to.
+pub fn count_with(count: i64, more: i64) -> Result<i64, NoMemory>
+    ensures sum { IfOk result (λ sum. sum ≡ count +ℤ more) }
+{
+    count.checked_add(more).ok_or(NoMemory)
 }
 
 fn read_number(text: &[u8]) -> Option<u64>

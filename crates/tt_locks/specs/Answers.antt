@@ -119,10 +119,3 @@ table_after table t call = if waits table t call then table else (act table t ca
 
 abbrev pub step_after : LockTable → ℕ → LockCall → Step
 step_after table t call = if waits table t call then Wait else step.Reply (act table t call).reply
-
--- the numbers drawn are within 2^62, as they are in any run
-pub record AreCounters (next : Numbers) : Type 0 where
-  pub exclusive : next.exclusive < 2 ^ 62
-  pub recursive : next.recursive < 2 ^ 62
-  pub read_write : next.read_write < 2 ^ 62
-  pub condition : next.condition < 2 ^ 62

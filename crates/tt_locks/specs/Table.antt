@@ -71,11 +71,14 @@ number_of Recursive next = next.recursive
 number_of ReadWrite next = next.read_write
 number_of Condition next = next.condition
 
+abbrev pub with_number : Kind → ℕ → Numbers → Numbers
+with_number Exclusive number next = record next { exclusive = number }
+with_number Recursive number next = record next { recursive = number }
+with_number ReadWrite number next = record next { read_write = number }
+with_number Condition number next = record next { condition = number }
+
 abbrev pub drawn : Kind → Numbers → Numbers
-drawn Exclusive next = record next { exclusive = next.exclusive + 1 }
-drawn Recursive next = record next { recursive = next.recursive + 1 }
-drawn ReadWrite next = record next { read_write = next.read_write + 1 }
-drawn Condition next = record next { condition = next.condition + 1 }
+drawn kind next = with_number kind (number_of kind next + 1) next
 
 -- what ids of a kind name
 abbrev pub names_of : Kind → IdKind

@@ -1,7 +1,7 @@
 ghost use Rattle.std.specs.Prelude.{◌≡◌, IfOk, OnOk};
 ghost use Rattle.tt_calls.specs.declared.lock_call.Family.TheVariants.{Condition};
 ghost use Rattle.tt_calls.specs.declared.reply.Reply.TheVariants.{Refused, Value};
-ghost use Rattle.tt_locks.specs.Answers.{AreCounters, act, acts, cond_waits, destroys_named, in_use, missing, step_after, table_after};
+ghost use Rattle.tt_locks.specs.Answers.{act, acts, cond_waits, destroys_named, in_use, missing, step_after, table_after};
 ghost use Rattle.tt_locks.specs.Table.{lock_in, new_id, with_new};
 
 use crate::lock::{Deed, refused};
@@ -18,7 +18,6 @@ impl Locks {
     ///
     /// `NoMemory` where memory for a lock, a hold or the reply is refused.
     pub fn apply(&mut self, thread: u32, call: &LockCall) -> Result<Step, NoMemory>
-        requires counters { AreCounters self.old.next }
         ensures table { OnOk result (self.new ≡ table_after self.old thread call.now) }
         ensures step { IfOk result (λ step. step ≡ step_after self.old thread call.now) }
     {
@@ -30,7 +29,6 @@ impl Locks {
     }
 
     fn act(&mut self, thread: u32, call: &LockCall) -> Result<Reply, NoMemory>
-        requires counters { AreCounters self.old.next }
         ensures table { OnOk result (self.new ≡ (act self.old thread call.now).table) }
         ensures reply { IfOk result (λ reply. reply ≡ (act self.old thread call.now).reply) }
     {
@@ -51,13 +49,13 @@ impl Locks {
 
     // A new lock.
     fn create(&mut self, kind: Kind) -> Result<Reply, NoMemory>
-        requires counters { AreCounters self.old.next }
         ensures table { OnOk result (self.new ≡ with_new self.old kind) }
         ensures reply { IfOk result (λ reply. reply ≡ Value (new_id self.old kind)) }
     {
         let id = id_text(self.alloc, names_of(kind), self.next.of(kind))?;
+        let next = self.next.drawn(kind)?;
         self.others.insert(id.copy()?, Lock::new(self.alloc, kind))?;
-        self.next = self.next.drawn(kind);
+        self.next = next;
         Ok(Reply::Value(id))
     }
 

@@ -1,6 +1,6 @@
-ghost use Rattle.std.specs.Prelude.{◌≡◌, IfOk, IsTrue, OnOk, option_copied};
+ghost use Rattle.std.specs.Prelude.{◌≡◌, IfOk, OnOk, option_copied};
 ghost use Rattle.tt_calls.specs.declared.lock_call.Family.TheVariants.{Mutex, ReadWrite, Condition};
-ghost use Rattle.tt_locks.specs.Answers.{AreCounters, act, step_after, table_after, waits};
+ghost use Rattle.tt_locks.specs.Answers.{act, step_after, table_after, waits};
 ghost use Rattle.tt_locks.specs.Table.{lock_in, no_locks};
 
 use crate::numbers::{Numbers, names_of};
@@ -44,13 +44,6 @@ impl Locks {
             },
             alloc,
         }
-    }
-
-    /// Whether the numbers of new locks are far from their end, below 2^62, as they are in any run.
-    pub fn can_draw(&self) -> bool
-        ensures { IsTrue result → AreCounters self.now.next }
-    {
-        self.next.are_counters()
     }
 
     // The lock of an id, where it is one of this family.

@@ -1,9 +1,9 @@
-ghost use Rattle.std.specs.Prelude.{◌≡◌, IsTrue};
-ghost use Rattle.tt_locks.specs.Table.{drawn, names_of, number_of};
-ghost use Rattle.tt_locks.specs.Answers.{AreCounters};
+ghost use Rattle.std.specs.Prelude.{◌≡◌, IfOk};
+ghost use Rattle.tt_locks.specs.Table.{drawn, names_of, number_of, with_number};
 
 use tt_calls::Kind;
-use tt_ids::IdKind;
+use tt_ids::{IdKind, number_after};
+use tt_text::NoMemory;
 
 /// The number that the next lock of each kind draws, from 1.
 #[derive(Clone, Copy, Debug)]
@@ -14,19 +14,7 @@ pub struct Numbers {
     pub condition: u64,
 }
 
-const MOST: u64 = 1 << 62;
-
 impl Numbers {
-    // Whether each is below 2^62.
-    pub(crate) fn are_counters(self) -> bool
-        ensures { IsTrue result → AreCounters self }
-    {
-        self.exclusive < MOST
-            && self.recursive < MOST
-            && self.read_write < MOST
-            && self.condition < MOST
-    }
-
     // The number of the next of a kind.
     pub(crate) fn of(self, kind: Kind) -> u64
         ensures { result ≡ number_of kind self }
@@ -40,16 +28,23 @@ impl Numbers {
     }
 
     // The numbers after that one was drawn.
-    pub(crate) fn drawn(self, kind: Kind) -> Self
-        requires { AreCounters self }
-        ensures { result ≡ drawn kind self }
+    pub(crate) fn drawn(self, kind: Kind) -> Result<Self, NoMemory>
+        ensures { IfOk result (λ next. next ≡ drawn kind self) }
+    {
+        let number = number_after(self.of(kind))?;
+        Ok(self.with(kind, number))
+    }
+
+    // The numbers with another one for the next of a kind.
+    fn with(self, kind: Kind, number: u64) -> Self
+        ensures { result ≡ with_number kind number self }
     {
         let mut next = self;
         match kind {
-            Kind::Exclusive => next.exclusive += 1,
-            Kind::Recursive => next.recursive += 1,
-            Kind::ReadWrite => next.read_write += 1,
-            Kind::Condition => next.condition += 1,
+            Kind::Exclusive => next.exclusive = number,
+            Kind::Recursive => next.recursive = number,
+            Kind::ReadWrite => next.read_write = number,
+            Kind::Condition => next.condition = number,
         }
         next
     }

@@ -145,25 +145,17 @@ fn is_told(step: &Step, answer: &str) -> bool {
     }
 }
 
-fn turn(locks: &mut Locks, thread: u32, call: &LockCall) -> Result<Step, NoMemory> {
-    if locks.can_draw() {
-        locks.apply(thread, call)
-    } else {
-        Ok(Step::Wait)
-    }
-}
-
 #[test]
 fn each_call_is_answered_in_turn(rt: HostRuntime) -> Result<(), Fail> {
     let alloc = rt.alloc();
     let mut locks = Locks::new(alloc);
     for (thread, ask, id, answer) in TURNS {
-        let step = turn(&mut locks, thread, &call(alloc, ask, id)?)?;
+        let step = locks.apply(thread, &call(alloc, ask, id)?)?;
         assert!(rt; is_told(&step, answer), "{thread}: {id}: {answer}");
     }
     let taken = call(alloc, Ask::CondTake, "cid1")?;
-    assert!(rt; is_told(&turn(&mut locks, 1, &taken)?, "go"));
+    assert!(rt; is_told(&locks.apply(1, &taken)?, "go"));
     let destroyed = call(alloc, Ask::Destroy(Family::Condition), "cid1")?;
-    assert!(rt; is_told(&turn(&mut locks, 1, &destroyed)?, "go"));
+    assert!(rt; is_told(&locks.apply(1, &destroyed)?, "go"));
     Ok(())
 }

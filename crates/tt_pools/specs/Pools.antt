@@ -75,12 +75,3 @@ with_new table pool = record { pools = insert_entry nat_cmp table.pools table.ne
 -- what the workers of a pool begin with
 abbrev pub worker_of : (text : List ℕ) → Pool → Start
 worker_of text pool = Worker text pool.init pool.exit
-
--- the counts and numbers are within 2^62, as they are in any run
-pub record IsCounter (pool : Pool) : Type 0 where
-  pub count : unsigned_abs pool.count < 2 ^ 62
-  pub jobs : pool.jobs.next < 2 ^ 62
-
-pub record AreCounters (table : PoolTable) : Type 0 where
-  pub next : table.next < 2 ^ 62
-  pub pools : All IsCounter (values_of table.pools)

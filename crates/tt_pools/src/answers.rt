@@ -3,14 +3,14 @@ ghost use Rattle.std.specs.Option.{option_copied};
 ghost use Rattle.tt_calls.specs.declared.reply.Reply.TheVariants.{Refused, Value};
 ghost use Rattle.tt_lists.specs.Spelling.{list_of};
 ghost use Rattle.tt_pools.specs.Answers.{act, act_or_wait, cancelled, counts, creates, in_pool, is_over, is_unheld, looks, missing, posts, releases, replies, suspends, table_after_end, takes_job, takes_outcome};
-ghost use Rattle.tt_pools.specs.Pools.{AreCounters, pool_ids, pool_of, without_pool};
+ghost use Rattle.tt_pools.specs.Pools.{pool_ids, pool_of, without_pool};
 
 use crate::calls::Hold;
 use crate::telling::{looked, missing, refused};
 use crate::{Pool, PoolStep, Pools};
 use std::alloc::Global;
 use tt_calls::{Outcome, PoolCall, Reply};
-use tt_ids::{IdKind, id_number, id_text};
+use tt_ids::{IdKind, id_number, id_text, number_after};
 use tt_lists::join_list;
 use tt_text::{NoMemory, Text, Texts};
 
@@ -30,7 +30,6 @@ impl Pools {
         room: u32,
         marked: bool,
     ) -> Result<PoolStep, NoMemory>
-        requires counters { AreCounters self.old }
         ensures table { OnOk result (self.new ≡ (act_or_wait self.old thread room marked call.now).table) }
         ensures gives { IfOk result (λ gives. gives ≡ (act_or_wait self.old thread room marked call.now).gives) }
     {
@@ -47,7 +46,6 @@ impl Pools {
         room: u32,
         marked: bool,
     ) -> Result<PoolStep, NoMemory>
-        requires counters { AreCounters self.old }
         ensures table { OnOk result (self.new ≡ (act self.old thread room marked call.now).table) }
         ensures gives { IfOk result (λ gives. gives ≡ (act self.old thread room marked call.now).gives) }
     {
@@ -72,7 +70,7 @@ impl Pools {
             PoolCall::Suspend { pool, on } => self.suspend(pool, *on),
             PoolCall::JobTake { pool } => self.take_job(thread, pool, marked),
             PoolCall::JobDone { pool, job, outcome } => {
-                let outcome = copy_of(outcome)?;
+                let outcome = outcome.copy()?;
                 self.end_job(thread, pool, *job, outcome)
             }
         }
@@ -87,7 +85,6 @@ impl Pools {
         exit: &Text,
         room: u32,
     ) -> Result<PoolStep, NoMemory>
-        requires counters { AreCounters self.old }
         ensures table { OnOk result (self.new ≡ (creates self.old least most init.now exit.now room).table) }
         ensures gives { IfOk result (λ gives. gives ≡ (creates self.old least most init.now exit.now room).gives) }
     {
@@ -101,8 +98,9 @@ impl Pools {
         let id = id_text(self.alloc, IdKind::Pool, self.next)?;
         let pool = Pool::new(self.alloc, most, least, init.copy()?, exit.copy()?);
         let gives = pool.workers_made(&id, least, Reply::Value(id.copy()?))?;
+        let next = number_after(self.next)?;
         self.pools.insert(self.next, pool)?;
-        self.next += 1;
+        self.next = next;
         Ok(gives)
     }
 
@@ -114,7 +112,6 @@ impl Pools {
         detached: bool,
         room: u32,
     ) -> Result<PoolStep, NoMemory>
-        requires counters { AreCounters self.old }
         ensures table { OnOk result (self.new ≡ (in_pool (posts id.now script.now detached room) self.old id.now).table) }
         ensures gives { IfOk result (λ gives. gives ≡ (in_pool (posts id.now script.now detached room) self.old id.now).gives) }
     {
@@ -171,7 +168,6 @@ impl Pools {
 
     // One hold more.
     fn preserve(&mut self, id: &Text) -> Result<PoolStep, NoMemory>
-        requires counters { AreCounters self.old }
         ensures table { OnOk result (self.new ≡ (in_pool (counts (pos 1)) self.old id.now).table) }
         ensures gives { IfOk result (λ gives. gives ≡ (in_pool (counts (pos 1)) self.old id.now).gives) }
     {
@@ -187,7 +183,6 @@ impl Pools {
 
     // One hold less: a pool that nobody holds any more is closed.
     fn release(&mut self, id: &Text) -> Result<PoolStep, NoMemory>
-        requires counters { AreCounters self.old }
         ensures table { OnOk result (self.new ≡ (releases self.old id.now).table) }
         ensures gives { IfOk result (λ gives. gives ≡ (releases self.old id.now).gives) }
     {
@@ -213,7 +208,6 @@ impl Pools {
     }
 
     fn give_up(&mut self, id: &Text) -> Result<PoolStep, NoMemory>
-        requires counters { AreCounters self.old }
         ensures table { OnOk result (self.new ≡ (in_pool (counts (negsuc 0)) self.old id.now).table) }
         ensures gives { IfOk result (λ gives. gives ≡ (in_pool (counts (negsuc 0)) self.old id.now).gives) }
     {
@@ -328,15 +322,4 @@ fn not_found(alloc: Global, id: &Text) -> Result<PoolStep, NoMemory>
 {
     let reply = missing(alloc, id)?;
     Ok(PoolStep::reply(reply))
-}
-
-fn copy_of(outcome: &Outcome) -> Result<Outcome, NoMemory>
-    ensures { IfOk result (λ copy. copy ≡ outcome.now) }
-{
-    Ok(Outcome {
-        code: outcome.code,
-        value: outcome.value.copy()?,
-        trace: outcome.trace.copy()?,
-        kept: outcome.kept,
-    })
 }

@@ -2,13 +2,13 @@ ghost use Rattle.std.specs.Prelude.{◌≡◌, [], IfOk, OnOk, if◌then◌else�
 ghost use Rattle.std.specs.Fmt.{decimal};
 ghost use Rattle.tt_calls.specs.declared.reply.Reply.TheVariants.{Value};
 ghost use Rattle.tt_pools.specs.Answers.{begins_job, counts, ends_job, grows, loses, more, posts, takes_outcome, workers_made};
-ghost use Rattle.tt_pools.specs.Pools.{IsCounter, worker_of};
+ghost use Rattle.tt_pools.specs.Pools.{worker_of};
 
 use crate::telling::{no_outcome, refused};
 use crate::{Pool, PoolStep};
 use std::alloc::Global;
 use tt_calls::{Outcome, Reply, Start, Step};
-use tt_ids::number_text;
+use tt_ids::{count_with, number_text};
 use tt_number::whole_text;
 use tt_text::{NoMemory, Text};
 
@@ -17,6 +17,18 @@ use tt_text::{NoMemory, Text};
 pub(crate) enum Hold {
     Taken,
     GivenUp,
+}
+
+impl Hold {
+    // What it adds to the count.
+    fn more(self) -> i64
+        ensures { result ≡ more self }
+    {
+        match self {
+            Hold::Taken => 1,
+            Hold::GivenUp => -1,
+        }
+    }
 }
 
 impl Pool {
@@ -61,7 +73,6 @@ impl Pool {
         detached: bool,
         room: u32,
     ) -> Result<PoolStep, NoMemory>
-        requires { IsCounter self.old }
         ensures pool { OnOk result (self.new ≡ (posts id.now script.now detached room self.old).pool) }
         ensures gives { IfOk result (λ gives. gives ≡ (posts id.now script.now detached room self.old).gives) }
     {
@@ -89,15 +100,11 @@ impl Pool {
 
     // One hold more, or one less.
     pub(crate) fn count(&mut self, alloc: Global, hold: Hold) -> Result<PoolStep, NoMemory>
-        requires { IsCounter self.old }
         ensures pool { OnOk result (self.new ≡ (counts (more hold) self.old).pool) }
         ensures gives { IfOk result (λ gives. gives ≡ (counts (more hold) self.old).gives) }
     {
-        match hold {
-            Hold::Taken => self.count += 1,
-            Hold::GivenUp => self.count -= 1,
-        }
-        let count = self.count;
+        let count = count_with(self.count, hold.more())?;
+        self.count = count;
         let text = whole_text(alloc, count)?;
         Ok(PoolStep::reply(Reply::Value(text)))
     }

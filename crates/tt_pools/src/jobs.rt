@@ -1,4 +1,4 @@
-ghost use Rattle.std.specs.Prelude.{◌≡◌, ◌↔◌, ◌<◌, ◌^◌, IsTrue, IfNone, IfOk, OnOk, codes};
+ghost use Rattle.std.specs.Prelude.{◌≡◌, ◌↔◌, IsTrue, IfNone, IfOk, OnOk, codes};
 ghost use Rattle.tt_calls.specs.Outcomes.{failed};
 ghost use Rattle.std.specs.List.{list_any};
 ghost use Rattle.std.specs.Map.{values_of};
@@ -8,7 +8,7 @@ use std::alloc::Global;
 use std::collections::BTreeMap;
 use std::marker::Model;
 use tt_calls::Outcome;
-use tt_ids::number_of;
+use tt_ids::{number_after, number_of};
 use tt_text::{NoMemory, Text};
 
 /// A job that no worker has begun.
@@ -56,22 +56,15 @@ impl Jobs {
         }
     }
 
-    // Whether the next number is below 2^62.
-    pub(crate) fn can_draw(&self) -> bool
-        ensures { IsTrue result ↔ (self.now.next < 2 ^ 62) }
-    {
-        self.next < 1 << 62
-    }
-
     // A job more, and its number.
     pub(crate) fn post(&mut self, script: Text, detached: bool) -> Result<u64, NoMemory>
-        requires { self.old.next < 2 ^ 62 }
         ensures posted { OnOk result (self.new ≡ posted self.old script detached) }
         ensures number { IfOk result (λ number. number ≡ self.old.next) }
     {
         let number = self.next;
+        let next = number_after(number)?;
         self.queued.insert(number, Queued { script, detached })?;
-        self.next += 1;
+        self.next = next;
         Ok(number)
     }
 

@@ -1,6 +1,6 @@
-ghost use Rattle.std.specs.Prelude.{◌≡◌, IsTrue};
+ghost use Rattle.std.specs.Prelude.{◌≡◌};
 ghost use Rattle.tt_pools.specs.Answers.{wants_worker};
-ghost use Rattle.tt_pools.specs.Pools.{IsCounter, new_pool};
+ghost use Rattle.tt_pools.specs.Pools.{new_pool};
 
 use crate::Jobs;
 use std::alloc::Global;
@@ -37,13 +37,6 @@ impl Pool {
             suspended: false,
             jobs: Jobs::new(alloc),
         }
-    }
-
-    // Whether its counts are within 2^62.
-    pub(crate) fn is_counter(&self) -> bool
-        ensures { IsTrue result → IsCounter self.now }
-    {
-        self.count.unsigned_abs() < 1 << 62 && self.jobs.can_draw()
     }
 
     // Whether it is to get a worker more, where so many threads may still be made.

@@ -1,8 +1,8 @@
-ghost use Rattle.std.specs.Prelude.{◌≡◌, IsTrue, option_copied};
+ghost use Rattle.std.specs.Prelude.{◌≡◌, option_copied};
 ghost use Rattle.std.specs.List.{list_any};
 ghost use Rattle.tt_pools.specs.Answers.{lacks_done, waits};
 ghost use Rattle.tt_pools.specs.Jobs.{is_done, is_pending};
-ghost use Rattle.tt_pools.specs.Pools.{AreCounters, no_pools, pool_of};
+ghost use Rattle.tt_pools.specs.Pools.{no_pools, pool_of};
 
 use crate::{Jobs, Pool};
 use std::alloc::Global;
@@ -38,14 +38,6 @@ impl Pools {
             next: 1,
             alloc,
         }
-    }
-
-    /// Whether the numbers of pools and jobs, and the counts of holds, are far from their ends, within 2^62, as they are in
-    /// any run.
-    pub fn can_count(&self) -> bool
-        ensures { IsTrue result → AreCounters self.now }
-    {
-        self.next < 1 << 62 && self.pools.values().all(|pool| pool.is_counter())
     }
 
     // The open pool of an id.

@@ -8,24 +8,11 @@ fn text(alloc: Global, text: &str) -> Result<Text, NoMemory> {
     Text::from_bytes(alloc, text.as_bytes())
 }
 
-// A thread's turn, where there is room for two threads more.
-fn turn(pools: &mut Pools, thread: u32, call: &PoolCall) -> Result<Option<PoolStep>, NoMemory> {
-    if !pools.can_count() {
-        return Ok(None);
-    }
-    let gives = pools.apply(thread, call, 2, false)?;
-    Ok(Some(gives))
-}
-
-fn is_value(gives: &Option<PoolStep>, answer: &str, start: u32) -> bool {
-    match gives {
-        Some(
-            PoolStep {
-                step: Step::Reply(Reply::Value(text)),
-                start: made,
-                ..
-            },
-        ) => text.as_bytes() == answer.as_bytes() && *made == start,
+fn is_value(gives: &PoolStep, answer: &str, start: u32) -> bool {
+    match &gives.step {
+        Step::Reply(Reply::Value(text)) => {
+            text.as_bytes() == answer.as_bytes() && gives.start == start
+        }
         _ => false,
     }
 }
@@ -42,7 +29,7 @@ fn create(alloc: Global) -> PoolCall {
 #[test]
 fn a_pool_is_made(rt: HostRuntime) -> Result<(), Fail> {
     let mut pools = Pools::new(rt.alloc());
-    let gives = turn(&mut pools, 1, &create(rt.alloc()))?;
+    let gives = pools.apply(1, &create(rt.alloc()), 2, false)?;
     assert!(rt; is_value(&gives, "tpool1", 0));
     Ok(())
 }
@@ -63,15 +50,7 @@ fn a_closed_pool_is_none(rt: HostRuntime) -> Result<(), Fail> {
         job: 1,
         outcome: Outcome::fine(alloc, Text::new(alloc)),
     };
-    let gives = turn(&mut pools, 1, &done)?;
-    assert!(rt;
-        matches!(
-            gives,
-            Some(PoolStep {
-                step: Step::Reply(Reply::Go),
-                ..
-            })
-        )
-    );
+    let gives = pools.apply(1, &done, 2, false)?;
+    assert!(rt; matches!(gives.step, Step::Reply(Reply::Go)));
     Ok(())
 }

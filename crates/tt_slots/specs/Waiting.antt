@@ -17,9 +17,12 @@ pub record OpenSlots : Type 0 where
 abbrev pub no_slots : OpenSlots
 no_slots = record { open_slots = []; greatest = 0 }
 
--- what the slot of a number has; none where it isn't open
+-- the slot of a number, and what it has; none where it isn't open
+abbrev pub slot_of : OpenSlots → ℕ → Option Slot
+slot_of slots n = lookup (is_at (nat_cmp n)) slots.open_slots
+
 abbrev pub state_of : OpenSlots → ℕ → Option SlotState
-state_of slots n = option_map (λ slot. slot.state) (lookup (is_at (nat_cmp n)) slots.open_slots)
+state_of slots n = option_map (λ slot. slot.state) (slot_of slots n)
 
 abbrev pub is_waiting : SlotState → Bool
 is_waiting Waiting = true
@@ -46,7 +49,7 @@ with_state_at slots n state (Some slot) =
     record slots { open_slots = set_value (is_at (nat_cmp n)) slots.open_slots (put_state state slot) }
 
 abbrev pub with_state : OpenSlots → ℕ → SlotState → OpenSlots
-with_state slots n state = with_state_at slots n state (lookup (is_at (nat_cmp n)) slots.open_slots)
+with_state slots n state = with_state_at slots n state (slot_of slots n)
 
 -- a waiting slot stays; any other is closed by its answer
 abbrev pub after_take : OpenSlots → ℕ → SlotState → OpenSlots

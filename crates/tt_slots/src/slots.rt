@@ -1,5 +1,5 @@
-ghost use Rattle.std.specs.Prelude.{◌≡◌, ◌<◌, false, None, Some, OnOk, OnErr, IsSome, option_map};
-ghost use Rattle.tt_slots.specs.Waiting.{after_end, after_take, died_with, is_waiting, no_slots, state_of, with_slot, with_state};
+ghost use Rattle.std.specs.Prelude.{◌≡◌, ◌<◌, false, None, Some, OnOk, OnErr, IsSome, option_copied, option_map};
+ghost use Rattle.tt_slots.specs.Waiting.{after_end, after_take, died_with, is_waiting, no_slots, slot_of, state_of, with_slot, with_state};
 ghost use Rattle.tt_slots.specs.declared.slot.SlotState.TheVariants.{Died, Result, Waiting};
 
 use crate::{Slot, SlotState};
@@ -86,6 +86,13 @@ impl Slots {
         }
         let slot = self.slots.remove(&n).unwrap();
         slot.state
+    }
+
+    /// Slot `n`; None exactly where it isn't open. It takes no memory.
+    pub fn slot(&self, n: u64) -> Option<&Slot>
+        ensures slot { option_copied result ≡ slot_of self.now n }
+    {
+        self.slots.get(&n)
     }
 
     /// Whether slot `n` waits; None exactly where it isn't open. It takes no memory.

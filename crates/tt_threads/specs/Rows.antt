@@ -1,6 +1,5 @@
 -- The rows of the threads, which are numbered from 1 (thread(n)).
-use Rattle.std.specs.Prelude.{ℕ, suc, ◌-◌, ◌==◌, Bool, true, false, ◌<◌, ◌^◌, ◌&&◌, nat_lt, List, [], ◌∷◌, ◌++◌, length, count_by, Option, Some, None, slice_get, slice_set, if◌then◌else◌, ℤ, pos}
-use Rattle.std.specs.Int.RustNames.{unsigned_abs}
+use Rattle.std.specs.Prelude.{ℕ, suc, ◌-◌, ◌==◌, Bool, true, false, ◌&&◌, nat_lt, List, [], ◌∷◌, ◌++◌, length, count_by, Option, Some, None, slice_get, slice_set, if◌then◌else◌, ℤ, pos}
 use Rattle.std.specs.Str.{bytes_eq}
 use Rattle.tt_calls.specs.declared.start.Start.{Start}
 use Rattle.tt_ids.specs.Ids.{id}
@@ -88,7 +87,3 @@ with_end_at rows number code (Some row) = with_row rows number (ended_row row co
 
 abbrev pub with_end : List Row → ℕ → ℤ → List Row
 with_end rows number code = with_end_at rows number code (row_of rows number)
-
--- the count of a thread's holds is within 2^62, as it is in any run
-abbrev pub IsCounter : Row → Type 0
-IsCounter row = unsigned_abs row.count < 2 ^ 62

@@ -1,15 +1,14 @@
 ghost use Rattle.std.specs.Prelude.{◌≡◌, ◌<◌, ◌-◌, ◌^◌, ◌++◌, codes, IfOk, IfNone, IfSome, OnOk, length, ℕ, None, is_some};
-ghost use Rattle.std.specs.List.{All};
 ghost use Rattle.tt_calls.specs.declared.reply.Reply.TheVariants.{Value};
 ghost use Rattle.tt_lists.specs.Spelling.{list_of};
 ghost use Rattle.tt_threads.specs.Answers.{act, bit, configures_at, counts_at, exits, has_no_thread, joins, joins_at, linked_ids, named, preserved, released, set, told_reply};
-ghost use Rattle.tt_threads.specs.Rows.{IsCounter, linked, made, row_of};
+ghost use Rattle.tt_threads.specs.Rows.{linked, made, row_of};
 
 use crate::configure::{Settings, bit};
 use crate::{Life, Row, Threads, find};
 use std::alloc::Global;
 use tt_calls::{Reply, Request};
-use tt_ids::{IdKind, id_text};
+use tt_ids::{IdKind, count_with, id_text};
 use tt_lists::join_list;
 use tt_number::whole_text;
 use tt_text::{NoMemory, Text, Texts};
@@ -21,8 +20,6 @@ impl Threads {
     ///
     /// `NoMemory` where memory for the reply is refused.
     pub fn apply(&mut self, asker: u32, request: &Request) -> Result<Reply, NoMemory>
-        requires few { length self.old < 2 ^ 32 }
-        requires counters { All IsCounter self.old }
         ensures rows { OnOk result (self.new ≡ (act self.old asker request.now).rows) }
         ensures reply { IfOk result (λ reply. reply ≡ (act self.old asker request.now).reply) }
     {
@@ -49,7 +46,6 @@ impl Threads {
 
     // The thread of this id, the empty one being the asker's.
     fn named(&self, asker: u32, id: &Text) -> Option<u32>
-        requires { length self.now < 2 ^ 32 }
         ensures { result ≡ named self.now asker id.now }
     {
         if id.is_empty() {
@@ -67,7 +63,6 @@ impl Threads {
 
     // The ids of the linked threads.
     fn names(&self) -> Result<Reply, NoMemory>
-        requires { length self.now < 2 ^ 32 }
         ensures { IfOk result (λ reply. reply ≡ Value (list_of (linked_ids 1 self.now))) }
     {
         let ids = linked_ids(self.alloc, self.rows.as_slice())?;
@@ -77,7 +72,6 @@ impl Threads {
 
     // Whether a linked thread has this id.
     fn exists(&self, id: &Text) -> Result<Reply, NoMemory>
-        requires { length self.now < 2 ^ 32 }
         ensures { IfOk result (λ reply. reply ≡ Value (bit (is_some (linked self.now id.now)))) }
     {
         let text = bit(self.alloc, self.linked(id.as_bytes()).is_some())?;
@@ -86,7 +80,6 @@ impl Threads {
 
     // The thread of this id is waited for.
     fn join_named(&mut self, asker: u32, id: &Text) -> Result<Reply, NoMemory>
-        requires { length self.old < 2 ^ 32 }
         ensures rows { OnOk result (self.new ≡ (joins self.old asker id.now (made self.old id.now)).rows) }
         ensures reply { IfOk result (λ reply. reply ≡ (joins self.old asker id.now (made self.old id.now)).reply) }
     {
@@ -133,7 +126,6 @@ impl Threads {
     // One hold more of a thread.
     #[tactic(auto, using(crate::proofs::Living::living_same))]
     fn preserve(&mut self, number: u32) -> Result<Reply, NoMemory>
-        requires counters { All IsCounter self.old }
         ensures rows { OnOk result (self.new ≡ (counts_at preserved self.old number (row_of self.old number)).rows) }
         ensures reply { IfOk result (λ reply. reply ≡ (counts_at preserved self.old number (row_of self.old number)).reply) }
     {
@@ -141,15 +133,14 @@ impl Threads {
             return Ok(Reply::Refused(Text::new(self.alloc)));
         };
         let row = &mut self.rows[place];
-        row.count += 1;
-        let count = row.count;
+        let count = count_with(row.count, 1)?;
+        row.count = count;
         let text = whole_text(self.alloc, count)?;
         Ok(Reply::Value(text))
     }
     // One hold less of a thread.
     #[tactic(auto, using(crate::proofs::Living::living_same))]
     fn release(&mut self, number: u32) -> Result<Reply, NoMemory>
-        requires counters { All IsCounter self.old }
         ensures rows { OnOk result (self.new ≡ (counts_at released self.old number (row_of self.old number)).rows) }
         ensures reply { IfOk result (λ reply. reply ≡ (counts_at released self.old number (row_of self.old number)).reply) }
     {
@@ -157,7 +148,7 @@ impl Threads {
             return Ok(Reply::Refused(Text::new(self.alloc)));
         };
         let row = &mut self.rows[place];
-        row.release();
+        row.release()?;
         let count = row.count;
         let text = whole_text(self.alloc, count)?;
         Ok(Reply::Value(text))

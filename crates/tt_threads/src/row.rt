@@ -1,8 +1,10 @@
-ghost use Rattle.std.specs.Prelude.{◌≡◌, ◌↔◌, IsTrue};
+ghost use Rattle.std.specs.Prelude.{◌≡◌, OnOk};
 ghost use Rattle.tt_threads.specs.Answers.{life_at, released};
-ghost use Rattle.tt_threads.specs.Rows.{IsCounter, is_linked, lives, new_row};
+ghost use Rattle.tt_threads.specs.Rows.{is_linked, lives, new_row};
 
 use tt_calls::Start;
+use tt_ids::count_with;
+use tt_text::NoMemory;
 
 /// What became of a thread.
 #[derive(Clone, Copy, Debug, PartialEq, Eq)]
@@ -77,20 +79,13 @@ impl Row {
         }
     }
 
-    // Whether its count is within 2^62.
-    pub(crate) fn is_counter(&self) -> bool
-        ensures { IsTrue result ↔ IsCounter self.now }
-    {
-        self.count.unsigned_abs() < 1 << 62
-    }
-
     // One hold less.
-    pub(crate) fn release(&mut self)
-        requires counter { IsCounter self.old }
-        ensures released { self.new ≡ released self.old }
+    pub(crate) fn release(&mut self) -> Result<(), NoMemory>
+        ensures released { OnOk result (self.new ≡ released self.old) }
         ensures lives { lives self.new.life ≡ lives self.old.life }
     {
-        self.count -= 1;
+        self.count = count_with(self.count, -1)?;
         self.life = self.life.held(self.count);
+        Ok(())
     }
 }

@@ -44,9 +44,7 @@ fn start(alloc: Global) -> Start {
 fn three(alloc: Global) -> Result<Threads, NoMemory> {
     let mut threads = Threads::new(alloc);
     for is_second in [false, true, false] {
-        if threads.can_count() {
-            threads.create(start(alloc), is_second, is_second)?;
-        }
+        threads.create(start(alloc), is_second, is_second)?;
     }
     Ok(threads)
 }
@@ -102,20 +100,12 @@ fn is_told(reply: &Reply, answer: &str) -> bool {
     }
 }
 
-fn turn(threads: &mut Threads, request: &Request) -> Result<Reply, NoMemory> {
-    if threads.can_count() {
-        threads.apply(1, request)
-    } else {
-        Ok(Reply::NoEvent)
-    }
-}
-
 #[test]
 fn each_request_is_answered_in_turn(rt: HostRuntime) -> Result<(), Fail> {
     let alloc = rt.alloc();
     let mut threads = three(alloc)?;
     for (ask, id, answer) in TURNS {
-        let reply = turn(&mut threads, &request(alloc, ask, id)?)?;
+        let reply = threads.apply(1, &request(alloc, ask, id)?)?;
         assert!(rt; is_told(&reply, answer), "{id}: {answer}");
     }
     Ok(())
@@ -124,12 +114,12 @@ fn each_request_is_answered_in_turn(rt: HostRuntime) -> Result<(), Fail> {
 #[test]
 fn an_ended_thread_has_its_code(rt: HostRuntime) -> Result<(), Fail> {
     let mut threads = three(rt.alloc())?;
-    assert!(rt; is_told(&turn(&mut threads, &Request::Names)?, "tid1 tid2 tid3"));
+    assert!(rt; is_told(&threads.apply(1, &Request::Names)?, "tid1 tid2 tid3"));
     assert!(rt; threads.lives(2));
     threads.end(2, -7);
-    assert!(rt; threads.living() == 2 && threads.can_count() && threads.linked(b"tid2").is_none());
-    assert!(rt; is_told(&turn(&mut threads, &Request::Names)?, "tid1 tid3"));
-    let waited = turn(&mut threads, &Request::AwaitEnd { thread: 2 })?;
+    assert!(rt; threads.living() == 2 && threads.linked(b"tid2").is_none());
+    assert!(rt; is_told(&threads.apply(1, &Request::Names)?, "tid1 tid3"));
+    let waited = threads.apply(1, &Request::AwaitEnd { thread: 2 })?;
     assert!(rt; is_told(&waited, "-7"));
     Ok(())
 }

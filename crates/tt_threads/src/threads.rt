@@ -1,6 +1,5 @@
-ghost use Rattle.std.specs.Prelude.{◌≡◌, ◌<◌, ◌^◌, ◌-◌, [], length, IfOk, OnOk, IsTrue, option_copied};
-ghost use Rattle.std.specs.List.{All};
-ghost use Rattle.tt_threads.specs.Rows.{IsCounter, is_living, linked, living, new_row, number_made, row_of, with_end, with_made};
+ghost use Rattle.std.specs.Prelude.{◌≡◌, [], length, IfOk, OnOk, IsTrue, option_copied};
+ghost use Rattle.tt_threads.specs.Rows.{is_living, linked, living, new_row, number_made, row_of, with_end, with_made};
 
 use crate::{Life, Row, find};
 use std::alloc::Global;
@@ -20,7 +19,7 @@ pub struct Threads {
 }
 
 impl Model for Threads {
-    ghost use Rattle.std.specs.Prelude.{List, ◌≡◌};
+    ghost use Rattle.std.specs.Prelude.{List, ◌≡◌, ◌<◌, ◌^◌, length};
     ghost use Rattle.tt_threads.specs.Rows.{living};
     ghost use Rattle.tt_threads.specs.declared.row.Row.{Row as AnyRow};
 
@@ -28,7 +27,7 @@ impl Model for Threads {
 
     ghost view = { λ threads. threads.rows.items };
 
-    ghost invariant = { λ threads. threads.lives ≡ living threads.rows.items };
+    ghost invariant = { λ threads. (threads.lives ≡ living threads.rows.items) × (length threads.rows.items < 2 ^ 32) };
 }
 
 impl Threads {
@@ -46,32 +45,23 @@ impl Threads {
     /// Makes a thread with the next number, held once where it is preserved, and answers its number; `None` exactly where
     /// 1,000 threads live (thread(n), thread::create).
     ///
-    /// `NoMemory` where memory for it is refused.
+    /// `NoMemory` where memory for it is refused, or a number: they are below 2^32.
     pub fn create(
         &mut self,
         start: Start,
         joinable: bool,
         preserved: bool,
     ) -> Result<Option<u32>, NoMemory>
-        requires few { length self.old < 2 ^ 32 - 1000 }
         ensures number { IfOk result (λ number. number ≡ number_made self.old) }
         ensures made { OnOk result (self.new ≡ with_made self.old (new_row start joinable preserved)) }
     {
         if self.lives >= MOST_LIVING {
             return Ok(None);
         }
+        let number = u32::try_from(self.rows.len() + 1).map_err(|_| NoMemory)?;
         self.rows.push(Row::new(start, joinable, preserved))?;
         self.lives += 1;
-        Ok(Some(self.rows.len() as u32))
-    }
-
-    /// Whether the numbers of threads and the counts of their holds are far from their ends, as they are in any run:
-    /// fewer than 2^32 - 1,000 threads were made, and each count is within 2^62.
-    pub fn can_count(&self) -> bool
-        ensures few { IsTrue result → length self.now < 2 ^ 32 - 1000 }
-        ensures counters { IsTrue result → All IsCounter self.now }
-    {
-        self.rows.len() < (1 << 32) - 1000 && self.rows.iter().all(|row| row.is_counter())
+        Ok(Some(number))
     }
 
     /// Whether a thread was made and has not ended. It takes no memory.
@@ -84,7 +74,6 @@ impl Threads {
     /// The number of the linked thread of this id; `None` exactly where no thread that lives and isn't marked has it. It
     /// takes no memory.
     pub fn linked(&self, id: &[u8]) -> Option<u32>
-        requires few { length self.now < 2 ^ 32 }
         ensures linked { result ≡ linked self.now id.now }
     {
         find::linked(self.rows.as_slice(), id)
@@ -98,6 +87,13 @@ impl Threads {
             return None;
         }
         self.rows.get(thread as usize - 1)
+    }
+
+    /// How many threads were made, those that have ended among them.
+    pub fn made(&self) -> u32
+        ensures made { result ≡ length self.now }
+    {
+        self.rows.len() as u32
     }
 
     /// How many threads live.
