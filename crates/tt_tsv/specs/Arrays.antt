@@ -1,0 +1,107 @@
+-- The shared arrays (tsv(n)).
+use Rattle.std.specs.Prelude.{◌<◌, ◌^◌, ◌+◌, ◌-◌, ℕ, Bool, true, false, ◌==◌, nat_le, bytes_eq, List, [], ◌∷◌, Option, Some, None, if◌then◌else◌}
+use Rattle.std.specs.List.{All}
+use Rattle.std.specs.Map.{lookup, remove_entry, set_value, values_of}
+use Rattle.indexmap.specs.IndexMap.{insert_entry}
+use Rattle.tt_tsv.specs.declared.array.Array.{Array}
+
+-- the elements of an array in the order of their first insertion, each a value under its key
+abbrev pub Pairs : Type 0
+Pairs = List (List ℕ × List ℕ)
+
+-- the arrays in the order in which they were made, each under its name
+abbrev pub Table : Type 0
+Table = List (List ℕ × Array)
+
+abbrev pub new_array : Array
+new_array = record { elements = []; holder = None; depth = 0 }
+
+abbrev pub array_of : Table → (name : List ℕ) → Option Array
+array_of table name = lookup (bytes_eq name) table
+
+abbrev pub without_array : Table → (name : List ℕ) → Table
+without_array table name = remove_entry (bytes_eq name) table
+
+-- an array that is there is changed in its place
+abbrev pub changes_in : (Array → Array) → Table → (name : List ℕ) → Option Array → Table
+changes_in change table name None = table
+changes_in change table name (Some array) = set_value (bytes_eq name) table (change array)
+
+abbrev pub changed : (Array → Array) → Table → (name : List ℕ) → Table
+changed change table name = changes_in change table name (array_of table name)
+
+-- an array is changed in its place; a missing one is made first, and goes last
+abbrev pub makes_in : (Array → Array) → Table → (name : List ℕ) → Option Array → Table
+makes_in change table name None = insert_entry bytes_eq table name (change new_array)
+makes_in change table name (Some array) = set_value (bytes_eq name) table (change array)
+
+abbrev pub made : (Array → Array) → Table → (name : List ℕ) → Table
+made change table name = makes_in change table name (array_of table name)
+
+-- ---- elements ----
+
+abbrev pub with_elements : Array → Pairs → Array
+with_elements array elements = record array { elements = elements }
+
+-- a missing array has none
+abbrev pub elements_in : Option Array → Pairs
+elements_in None = []
+elements_in (Some array) = array.elements
+
+abbrev pub elements_of : Table → (name : List ℕ) → Pairs
+elements_of table name = elements_in (array_of table name)
+
+abbrev pub element_of : Table → (name key : List ℕ) → Option (List ℕ)
+element_of table name key = lookup (bytes_eq key) (elements_of table name)
+
+-- an element that is there keeps its place, and a new one goes last
+abbrev pub with_element : (key value : List ℕ) → Array → Array
+with_element key value array = with_elements array (insert_entry bytes_eq array.elements key value)
+
+abbrev pub without_element : (key : List ℕ) → Array → Array
+without_element key array = with_elements array (remove_entry (bytes_eq key) array.elements)
+
+-- a key and a value at the front of a list, and what follows them
+abbrev pub first_pair : (items : List (List ℕ)) → Option (List ℕ × List ℕ × List (List ℕ))
+first_pair [] = None
+first_pair (key ∷ []) = None
+first_pair (key ∷ value ∷ items) = Some (key, value, items)
+
+-- elements and those of a list of keys and values, put in one after the other
+abbrev pub filled : Pairs → (items : List (List ℕ)) → Pairs
+filled elements [] = elements
+filled elements (key ∷ []) = elements
+filled elements (key ∷ value ∷ items) = filled (insert_entry bytes_eq elements key value) items
+
+abbrev pub added : (items : List (List ℕ)) → Array → Array
+added items array = with_elements array (filled array.elements items)
+
+-- no elements any more
+abbrev pub emptied : Array → Array
+emptied array = with_elements array []
+
+-- ---- holds (tsv(n), tsv::lock) ----
+
+abbrev pub is_held : Array → Bool
+is_held array = elim array.holder [ None ↦ false | Some holder ↦ true ]
+
+abbrev pub is_held_by : ℕ → Array → Bool
+is_held_by t array = elim array.holder [ None ↦ false | Some holder ↦ holder == t ]
+
+-- one hold more, by a thread
+abbrev pub held : ℕ → Array → Array
+held t array = record array { holder = Some t; depth = array.depth + 1 }
+
+-- one hold less, after the last of which nobody holds it
+abbrev pub let_go : Array → Array
+let_go array =
+    if nat_le array.depth 1
+    then record array { holder = None; depth = 0 }
+    else record array { depth = array.depth - 1 }
+
+-- the depth of holds is within 2^62, as it is in any run
+abbrev pub IsCounter : Array → Type 0
+IsCounter array = array.depth < 2 ^ 62
+
+abbrev pub AreCounters : Table → Type 0
+AreCounters table = All IsCounter (values_of table)

@@ -1,0 +1,103 @@
+ghost use Rattle.std.specs.Prelude.{◌≡◌, IsTrue, OnOk, Some};
+ghost use Rattle.tt_tsv.specs.Answers.{is_held_by_other};
+ghost use Rattle.tt_tsv.specs.Arrays.{IsCounter, added, emptied, held, is_held, is_held_by, let_go, new_array, with_element, without_element};
+
+use crate::Elements;
+use std::alloc::Global;
+use tt_text::{NoMemory, Text};
+
+/// A shared array.
+#[derive(Debug, Drop)]
+pub struct Array {
+    pub elements: Elements,
+    /// The thread that holds it (tsv(n), tsv::lock).
+    pub holder: Option<u32>,
+    /// How many times it does.
+    pub depth: u64,
+}
+
+impl Array {
+    pub(crate) fn new(alloc: Global) -> Self
+        ensures { result ≡ new_array }
+    {
+        Array {
+            elements: Elements::new(alloc),
+            holder: None,
+            depth: 0,
+        }
+    }
+
+    // Whether its depth is below 2^62.
+    pub(crate) fn is_counter(&self) -> bool
+        ensures { IsTrue result → IsCounter self.now }
+    {
+        self.depth < 1 << 62
+    }
+
+    pub(crate) fn is_held(&self) -> bool
+        ensures { result ≡ is_held self.now }
+    {
+        self.holder.is_some()
+    }
+
+    pub(crate) fn is_held_by(&self, thread: u32) -> bool
+        ensures { result ≡ is_held_by thread self.now }
+    {
+        match self.holder {
+            Some(holder) => holder == thread,
+            None => false,
+        }
+    }
+
+    pub(crate) fn is_held_by_other(&self, thread: u32) -> bool
+        ensures { result ≡ is_held_by_other thread (Some self.now) }
+    {
+        self.is_held() && !self.is_held_by(thread)
+    }
+
+    // One hold more.
+    pub(crate) fn hold(&mut self, thread: u32)
+        requires { IsCounter self.old }
+        ensures { self.new ≡ held thread self.old }
+    {
+        self.holder = Some(thread);
+        self.depth += 1;
+    }
+
+    // One hold less.
+    pub(crate) fn let_go(&mut self)
+        ensures { self.new ≡ let_go self.old }
+    {
+        if self.depth <= 1 {
+            self.holder = None;
+            self.depth = 0;
+        } else {
+            self.depth -= 1;
+        }
+    }
+
+    pub(crate) fn put(&mut self, key: &Text, value: Text) -> Result<(), NoMemory>
+        ensures { OnOk result (self.new ≡ with_element key.now value self.old) }
+    {
+        self.elements.put(key.copy()?, value)
+    }
+
+    pub(crate) fn remove(&mut self, key: &Text)
+        ensures { self.new ≡ without_element key.now self.old }
+    {
+        self.elements.remove(key);
+    }
+
+    pub(crate) fn fill(&mut self, items: &[Text]) -> Result<(), NoMemory>
+        ensures { OnOk result (self.new ≡ added items.now self.old) }
+    {
+        self.elements.fill(items)
+    }
+
+    // No elements any more.
+    pub(crate) fn clear(&mut self, alloc: Global)
+        ensures { self.new ≡ emptied self.old }
+    {
+        self.elements = Elements::new(alloc);
+    }
+}

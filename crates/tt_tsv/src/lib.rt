@@ -1,0 +1,23 @@
+//! Shared variables: arrays of elements, and who holds them (tsv(n)).
+#![tactic(auto)]
+
+mod answers;
+mod array;
+mod array_calls;
+mod arrays;
+mod change;
+mod elements;
+mod lists;
+mod numbers;
+mod popping;
+mod row;
+mod telling;
+mod usage;
+mod words;
+
+pub use array::Array;
+pub use arrays::Arrays;
+pub use elements::Elements;
+
+#[cfg(test)]
+mod tests;

@@ -1,0 +1,59 @@
+//! Numbers in elements.
+ghost use Rattle.std.specs.Prelude.{◌≡◌, IfOk};
+ghost use Rattle.tt_lists.specs.declared.answer.ListAnswer.TheVariants.{Bad};
+ghost use Rattle.tt_number.specs.Messages.{number_message};
+ghost use Rattle.tt_number.specs.Numerals.{whole_of};
+ghost use Rattle.tt_number.specs.Operators.{binary_of};
+ghost use Rattle.tt_number.specs.declared.operators.NumOp.TheVariants.{Add};
+ghost use Rattle.tt_tsv.specs.Elements.{increments, incremented, stepped, sum_told};
+
+use crate::change::{Change, not_asked, puts};
+use std::alloc::Global;
+use tt_lists::ListAnswer;
+use tt_number::{NumOp, NumberFault, binary, read_whole, whole_text};
+use tt_text::{NoMemory, Text};
+
+/// The value and the step, which is 1 where no word says it.
+pub(crate) fn increment(alloc: Global, value: &[u8], words: &[Text]) -> Result<Change, NoMemory>
+    ensures { IfOk result (λ change. change ≡ increments value.now words.now) }
+{
+    match words {
+        [] => puts(incremented(alloc, value, b"1")?),
+        [step] => puts(incremented(alloc, value, step.as_bytes())?),
+        _ => not_asked(alloc),
+    }
+}
+
+fn incremented(alloc: Global, value: &[u8], step: &[u8]) -> Result<ListAnswer, NoMemory>
+    ensures { IfOk result (λ answer. answer ≡ incremented value.now step.now (whole_of value.now)) }
+{
+    match read_whole(value) {
+        Ok(number) => stepped(alloc, number, step),
+        Err(fault) => no_number(alloc, fault, value),
+    }
+}
+
+fn stepped(alloc: Global, number: i64, step: &[u8]) -> Result<ListAnswer, NoMemory>
+    ensures { IfOk result (λ answer. answer ≡ stepped number step.now (whole_of step.now)) }
+{
+    match read_whole(step) {
+        Ok(more) => sum(alloc, number, more),
+        Err(fault) => no_number(alloc, fault, step),
+    }
+}
+
+fn sum(alloc: Global, number: i64, more: i64) -> Result<ListAnswer, NoMemory>
+    ensures { IfOk result (λ answer. answer ≡ sum_told (binary_of Add number more)) }
+{
+    match binary(NumOp::Add, number, more) {
+        Ok(sum) => Ok(ListAnswer::Made(whole_text(alloc, sum)?)),
+        Err(fault) => Ok(ListAnswer::Bad(Text::from_bytes(alloc, fault.message())?)),
+    }
+}
+
+fn no_number(alloc: Global, fault: NumberFault, text: &[u8]) -> Result<ListAnswer, NoMemory>
+    ensures { IfOk result (λ answer. answer ≡ Bad (number_message fault text.now)) }
+{
+    let message = fault.message(alloc, text)?;
+    Ok(ListAnswer::Bad(message))
+}
