@@ -1,7 +1,6 @@
 -- The shared arrays (tsv(n)).
-use Rattle.std.specs.Prelude.{◌<◌, ◌^◌, ◌+◌, ◌-◌, ℕ, Bool, true, false, ◌==◌, nat_le, bytes_eq, List, [], ◌∷◌, Option, Some, None, if◌then◌else◌}
-use Rattle.std.specs.List.{All}
-use Rattle.std.specs.Map.{lookup, remove_entry, set_value, values_of}
+use Rattle.std.specs.Prelude.{◌+◌, ◌-◌, ℕ, Bool, true, false, ◌==◌, nat_le, bytes_eq, List, [], ◌∷◌, Option, Some, None, if◌then◌else◌}
+use Rattle.std.specs.Map.{lookup, remove_entry, set_value}
 use Rattle.indexmap.specs.IndexMap.{insert_entry}
 use Rattle.tt_tsv.specs.declared.array.Array.{Array}
 
@@ -98,10 +97,3 @@ let_go array =
     if nat_le array.depth 1
     then record array { holder = None; depth = 0 }
     else record array { depth = array.depth - 1 }
-
--- the depth of holds is within 2^62, as it is in any run
-abbrev pub IsCounter : Array → Type 0
-IsCounter array = array.depth < 2 ^ 62
-
-abbrev pub AreCounters : Table → Type 0
-AreCounters table = All IsCounter (values_of table)

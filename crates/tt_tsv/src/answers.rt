@@ -1,6 +1,6 @@
 ghost use Rattle.std.specs.Prelude.{◌≡◌, IfOk, OnOk};
 ghost use Rattle.tt_tsv.specs.Answers.{act, changes, holds, moves, run, run_asked, step_after, table_after, unholds};
-ghost use Rattle.tt_tsv.specs.Arrays.{AreCounters, element_of};
+ghost use Rattle.tt_tsv.specs.Arrays.{element_of};
 ghost use Rattle.tt_tsv.specs.Elements.{change_if};
 ghost use Rattle.tt_tsv.specs.Words.{asked_of};
 
@@ -18,7 +18,6 @@ impl Arrays {
     ///
     /// `NoMemory` where memory for an element or the reply is refused.
     pub fn apply(&mut self, thread: u32, call: &TsvCall) -> Result<Step, NoMemory>
-        requires counters { AreCounters self.old }
         ensures table { OnOk result (self.new ≡ table_after self.old thread call.now) }
         ensures step { IfOk result (λ step. step ≡ step_after self.old thread call.now) }
     {
@@ -30,7 +29,6 @@ impl Arrays {
     }
 
     fn act(&mut self, thread: u32, call: &TsvCall) -> Result<Reply, NoMemory>
-        requires counters { AreCounters self.old }
         ensures table { OnOk result (self.new ≡ (act self.old thread call.now).table) }
         ensures reply { IfOk result (λ reply. reply ≡ (act self.old thread call.now).reply) }
     {

@@ -1,9 +1,10 @@
-ghost use Rattle.std.specs.Prelude.{◌≡◌, IsTrue, OnOk, Some};
+ghost use Rattle.std.specs.Prelude.{◌≡◌, OnOk, Some};
 ghost use Rattle.tt_tsv.specs.Answers.{is_held_by_other};
-ghost use Rattle.tt_tsv.specs.Arrays.{IsCounter, added, emptied, held, is_held, is_held_by, let_go, new_array, with_element, without_element};
+ghost use Rattle.tt_tsv.specs.Arrays.{added, emptied, held, is_held, is_held_by, let_go, new_array, with_element, without_element};
 
 use crate::Elements;
 use std::alloc::Global;
+use tt_ids::number_after;
 use tt_text::{NoMemory, Text};
 
 /// A shared array.
@@ -25,13 +26,6 @@ impl Array {
             holder: None,
             depth: 0,
         }
-    }
-
-    // Whether its depth is below 2^62.
-    pub(crate) fn is_counter(&self) -> bool
-        ensures { IsTrue result → IsCounter self.now }
-    {
-        self.depth < 1 << 62
     }
 
     pub(crate) fn is_held(&self) -> bool
@@ -56,12 +50,12 @@ impl Array {
     }
 
     // One hold more.
-    pub(crate) fn hold(&mut self, thread: u32)
-        requires { IsCounter self.old }
-        ensures { self.new ≡ held thread self.old }
+    pub(crate) fn hold(&mut self, thread: u32) -> Result<(), NoMemory>
+        ensures { OnOk result (self.new ≡ held thread self.old) }
     {
+        self.depth = number_after(self.depth)?;
         self.holder = Some(thread);
-        self.depth += 1;
+        Ok(())
     }
 
     // One hold less.

@@ -1,9 +1,9 @@
-ghost use Rattle.std.specs.Prelude.{◌≡◌, [], bytes_eq, IsTrue, IfOk, OnOk};
+ghost use Rattle.std.specs.Prelude.{◌≡◌, [], bytes_eq, IfOk, OnOk};
 ghost use Rattle.std.specs.Map.{keys_of};
 ghost use Rattle.std.specs.Option.{option_copied, option_map};
 ghost use Rattle.indexmap.specs.IndexMap.{insert_entry};
 ghost use Rattle.tt_tsv.specs.Answers.{is_held_by_other, is_own, unsets, waits};
-ghost use Rattle.tt_tsv.specs.Arrays.{AreCounters, added, array_of, changed, element_of, emptied, held, is_held, let_go, made, with_element, without_array, without_element};
+ghost use Rattle.tt_tsv.specs.Arrays.{added, array_of, changed, element_of, emptied, held, is_held, let_go, made, with_element, without_array, without_element};
 
 use crate::Array;
 use crate::words::array_in;
@@ -38,13 +38,6 @@ impl Arrays {
             arrays: IndexMap::new(alloc),
             alloc,
         }
-    }
-
-    /// Whether the depths of holds are far from their end, below 2^62, as they are in any run.
-    pub fn can_count(&self) -> bool
-        ensures { IsTrue result → AreCounters self.now }
-    {
-        self.arrays.values().all(|array| array.is_counter())
     }
 
     /// Whether the thread has to wait before its call is done: while another thread holds the array that the call is on. It
@@ -180,17 +173,13 @@ impl Arrays {
 
     // One hold more, which makes a missing array.
     pub(crate) fn hold(&mut self, thread: u32, name: &Text) -> Result<(), NoMemory>
-        requires counters { AreCounters self.old }
         ensures { OnOk result (self.new ≡ made (held thread) self.old name.now) }
     {
         match self.arrays.get_mut(name) {
-            Some(array) => {
-                array.hold(thread);
-                Ok(())
-            }
+            Some(array) => { array.hold(thread) }
             None => {
                 let mut array = Array::new(self.alloc);
-                array.hold(thread);
+                array.hold(thread)?;
                 self.add(name, array)
             }
         }

@@ -47,22 +47,11 @@ fn is_step(step: &Step, told: Told) -> bool {
     }
 }
 
-fn apply(arrays: &mut Arrays, thread: u32, call: &TsvCall) -> Result<Option<Step>, NoMemory> {
-    if !arrays.can_count() {
-        return Ok(None);
-    }
-    let step = arrays.apply(thread, call)?;
-    Ok(Some(step))
-}
-
 fn is_turn(arrays: &mut Arrays, alloc: Global, turn: &Turn) -> Result<bool, NoMemory> {
     let call = call_of(alloc, turn.1)?;
     let waits = arrays.waits(turn.0, &call);
-    let is_as_told = match apply(arrays, turn.0, &call)? {
-        Some(step) => is_step(&step, turn.2),
-        None => false,
-    };
-    Ok(is_as_told && waits == matches!(turn.2, Told::Wait))
+    let step = arrays.apply(turn.0, &call)?;
+    Ok(is_step(&step, turn.2) && waits == matches!(turn.2, Told::Wait))
 }
 
 fn expect_turns(rt: &impl Abort, alloc: Global, turns: &[Turn]) -> Result<(), Fail> {

@@ -1,0 +1,6 @@
+pub mod Acts
+pub mod Enabled
+pub mod Ends
+pub mod Mail
+pub mod Sends
+pub mod State
