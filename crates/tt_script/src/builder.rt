@@ -107,13 +107,13 @@ impl Builder {
         Ok(())
     }
 
-    /// The parts.
+    /// Makes the last letters a part of their own, so that all parts are whole.
     #[inline(always)]
-    pub(crate) fn finish(mut self, alloc: Global) -> Result<Vec<Part>, NoMemory>
-        ensures { IfOk result (λ parts. plain_parts parts.items ≡ so_far self none) }
+    pub(crate) fn finish(&mut self, alloc: Global) -> Result<(), NoMemory>
+        ensures { OnOk result (plain_parts self.new.done.items ≡ so_far self.old none) }
     {
         self.close_letters(alloc)?;
-        Ok(self.done)
+        Ok(())
     }
 }
 

@@ -302,8 +302,8 @@ pub(crate) fn parts(
         at = push_part(alloc, text, at, ending, depth, &mut builder)?;
     }
     must_end(text, at, ending)?;
-    let parts = builder.finish(alloc)?;
-    Ok((parts, at))
+    builder.finish(alloc)?;
+    Ok((builder.done, at))
 }
 
 /// Adds the part that begins here, or a run of letters, and answers the place after it.

@@ -78,7 +78,7 @@ index-returns-clause-read t c =
 pub parts-returns-clause-read : goal.parts-returns-clause-read
 parts-returns-clause-read t c =
     let reached = c.loop-at.invariant.read in
-    (reached.0 none, reached.1 ∙ ap (mapped reached.0) (c.in_ok-must_end.ensures.ok (level c.args.depth)), λ keep. c.in_ok-parts.ensures ∙ reached.2 keep none)
+    (reached.0 none, reached.1 ∙ ap (mapped reached.0) (c.in_ok-must_end.ensures.ok (level c.args.depth)), λ keep. c.in_ok-finish.ensures ∙ reached.2 keep none)
 
 pub parts-returns-in_err-must_end-clause-read : goal.parts-returns-in_err-must_end-clause-read
 parts-returns-in_err-must_end-clause-read t c =
