@@ -1,11 +1,10 @@
-use Rattle.std.proofs.Common.{◌+◌, ◌-◌, ◌<◌, true, false, ℕ, List, [], ◌∷◌, ◌++◌, length, drop, take, append-nil, arith, ap, sym, subst, ◌∙◌}
+use Rattle.std.proofs.Common.{◌+◌, ◌-◌, ◌<◌, true, false, ℕ, List, [], ◌∷◌, ◌++◌, length, drop, take, append-nil, arith, ap, sym, ◌∙◌}
 use Rattle.tt_text.specs.Backslash.{backslash}
 use Rattle.std.proofs.lemmas.Option.{slice_get-get_or}
 use Rattle.std.proofs.Common.{Some}
 use Rattle.tt_script.specs.Words.{none, letters, variable, element, script, with_letters, with_part}
-use Rattle.tt_script.specs.Answers.{Answers}
 use Rattle.tt_script.specs.Building.{so_far}
-use Rattle.tt_script.specs.Plain.{plain_part, plain_parts, plain_words}
+use Rattle.tt_script.specs.Plain.{plain_parts, plain_words}
 use Rattle.tt_script.specs.Scanning.{ends_run}
 use Rattle.tt_script.specs.Reading.{takes, after, mapped, level, letters_of}
 use Rattle.tt_script.proofs.Builds.{plain_letters, plain_variable, plain_element, plain_script}
