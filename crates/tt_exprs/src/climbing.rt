@@ -57,6 +57,7 @@ fn as_prefix(op: Op) -> Option<Op>
 }
 
 /// Something more that waits.
+#[inline(always)]
 fn wants(state: &mut State, first: Pending) -> Result<(), NoMemory>
     ensures { OnOk result
         (plain_state state.new ≡ parsing.wants_after (plain_pending first) (plain_stack state.old.pending.items)) }
@@ -75,6 +76,7 @@ fn fails(state: &mut State) -> Result<(), NoMemory>
 }
 
 /// An operand.
+#[inline(always)]
 fn has(state: &mut State, value: Value) -> Result<(), NoMemory>
     ensures { OnOk result
         (plain_state state.new
@@ -85,6 +87,7 @@ fn has(state: &mut State, value: Value) -> Result<(), NoMemory>
 }
 
 /// A token where an operand is wanted.
+#[inline(always)]
 fn at_operand(state: &mut State, token: Token) -> Result<(), NoMemory>
     ensures { OnOk result
         (plain_state state.new ≡ parsing.at_operand (plain_stack state.old.pending.items) (plain_token token)) }
@@ -116,6 +119,7 @@ fn at_call(alloc: Global, op: Op, state: &mut State, token: Token) -> Result<(),
 }
 
 /// An operator with its left operand.
+#[inline(always)]
 fn with_left(op: Op, value: Value) -> Pending
     ensures { plain_pending result ≡ parsing.with_left op (plain_value value) }
 {
@@ -126,6 +130,7 @@ fn with_left(op: Op, value: Value) -> Pending
 }
 
 /// An operator after an operand.
+#[inline(always)]
 fn operated(alloc: Global, op: Op, state: &mut State, value: Value) -> Result<(), NoMemory>
     ensures { OnOk result
         (plain_state state.new
@@ -184,6 +189,7 @@ fn after_comma(state: &mut State, value: Value) -> Result<(), NoMemory>
 }
 
 /// A token after an operand.
+#[inline(always)]
 fn at_operator(alloc: Global, state: &mut State, value: Value, token: Token) -> Result<(), NoMemory>
     ensures { OnOk result
         (plain_state state.new
@@ -208,6 +214,7 @@ fn at_operator(alloc: Global, state: &mut State, value: Value, token: Token) -> 
 }
 
 /// One token more.
+#[inline(always)]
 pub(crate) fn step(alloc: Global, state: &mut State, token: Token) -> Result<(), NoMemory>
     ensures { OnOk result (plain_state state.new ≡ parsing.step (plain_state state.old) (plain_token token)) }
 {

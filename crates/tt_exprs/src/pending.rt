@@ -26,6 +26,7 @@ pub(crate) enum Pending {
 }
 
 /// Whether the level of an operator between operands is not below this bound.
+#[inline(always)]
 fn reaches(bound: u8, op: Op) -> bool
     ensures { result ≡ parsing.reaches bound (parsing.level_of op) }
 {
@@ -36,6 +37,7 @@ fn reaches(bound: u8, op: Op) -> bool
 }
 
 /// Whether what waits takes an operand before an operator that binds its left operand at this level.
+#[inline(always)]
 fn binds(bound: u8, pending: &Pending) -> bool
     ensures { result ≡ parsing.binds bound (plain_pending pending.now) }
 {
@@ -48,6 +50,7 @@ fn binds(bound: u8, pending: &Pending) -> bool
 }
 
 /// What an operator makes with its last operand.
+#[inline(always)]
 fn closed(alloc: Global, pending: Pending, value: Value) -> Result<Value, NoMemory>
     ensures { IfOk result (λ whole. plain_value whole ≡ parsing.closed (plain_pending pending) (plain_value value)) }
 {
@@ -57,12 +60,11 @@ fn closed(alloc: Global, pending: Pending, value: Value) -> Result<Value, NoMemo
             Ok(applied(op, operands))
         }
         Pending::Binary(op, left) => {
-            let operands = Row::new(alloc).followed_by(left)?.followed_by(value)?;
+            let operands = Row::pair(alloc, left, value)?;
             Ok(applied(op, operands))
         }
         Pending::Branch(condition, chosen) => {
-            let first = Row::new(alloc).followed_by(condition)?;
-            let operands = first.followed_by(chosen)?.followed_by(value)?;
+            let operands = Row::pair(alloc, condition, chosen)?.followed_by(value)?;
             Ok(applied(Op::Choose, operands))
         }
         Pending::Test(_) | Pending::Parenthesis | Pending::Arguments(..) => Ok(value),

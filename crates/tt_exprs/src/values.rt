@@ -38,7 +38,25 @@ impl Row {
         Row::Operands(Vec::new(alloc), 0)
     }
 
+    /// These two operands. Most rows have two, so it takes room for exactly these.
+    #[inline(always)]
+    pub(crate) fn pair(alloc: Global, left: Value, right: Value) -> Result<Row, NoMemory>
+        ensures { IfOk result (λ row. plain_row row
+            ≡ parsing.followed_by (parsing.followed_by parsing.no_operands (plain_value left)) (plain_value right)) }
+    {
+        match (left, right) {
+            (Value::Nested(left, depth), Value::Nested(right, other)) => {
+                let mut exprs = Vec::with_capacity(alloc, 2)?;
+                exprs.push(left)?;
+                exprs.push(right)?;
+                Ok(Row::Operands(exprs, depth.max(other)))
+            }
+            _ => Ok(Row::TooDeep),
+        }
+    }
+
     /// One operand more.
+    #[inline(always)]
     pub(crate) fn followed_by(self, value: Value) -> Result<Row, NoMemory>
         ensures { IfOk result (λ row. plain_row row ≡ parsing.followed_by (plain_row self) (plain_value value)) }
     {
@@ -53,6 +71,7 @@ impl Row {
 }
 
 /// A tree that is one level around what is nested so deeply.
+#[inline(always)]
 fn around(expr: Expr, depth: usize) -> Value
     ensures { plain_value result ≡ parsing.around (plain_expr expr) depth }
 {
@@ -64,6 +83,7 @@ fn around(expr: Expr, depth: usize) -> Value
 }
 
 /// Parentheses around an operand.
+#[inline(always)]
 pub(crate) fn parenthesized(value: Value) -> Value
     ensures { plain_value result ≡ parsing.parenthesized (plain_value value) }
 {
@@ -74,6 +94,7 @@ pub(crate) fn parenthesized(value: Value) -> Value
 }
 
 /// An operator or a function with its operands.
+#[inline(always)]
 pub(crate) fn applied(op: Op, operands: Row) -> Value
     ensures { plain_value result ≡ parsing.applied op (plain_row operands) }
 {

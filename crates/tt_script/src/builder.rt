@@ -33,6 +33,7 @@ impl Builder {
     }
 
     /// Adds bytes that stand for themselves.
+    #[inline(always)]
     pub(crate) fn push_letters(&mut self, bytes: &[u8]) -> Result<(), NoMemory>
         ensures added { self.old.mode ≡ Mode.Keep
             → OnOk result ((rest : PlainParts)
@@ -78,6 +79,7 @@ impl Builder {
     }
 
     /// Makes the letters a part of their own, before others.
+    #[inline(always)]
     fn close_letters(&mut self, alloc: Global) -> Result<(), NoMemory>
         ensures letters { OnOk result (self.new.letters ≡ []) }
         ensures parts { OnOk result ((rest : PlainParts)
@@ -105,13 +107,13 @@ impl Builder {
         Ok(())
     }
 
-    /// The parts.
+    /// Makes the last letters a part of their own, so that all parts are whole.
     #[inline(always)]
-    pub(crate) fn finish(mut self, alloc: Global) -> Result<Vec<Part>, NoMemory>
-        ensures { IfOk result (λ parts. plain_parts parts.items ≡ so_far self none) }
+    pub(crate) fn finish(&mut self, alloc: Global) -> Result<(), NoMemory>
+        ensures { OnOk result (plain_parts self.new.done.items ≡ so_far self.old none) }
     {
         self.close_letters(alloc)?;
-        Ok(self.done)
+        Ok(())
     }
 }
 

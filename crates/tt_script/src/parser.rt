@@ -63,6 +63,7 @@ fn braced(
 
 /// What `$` begins, with the text after it here.
 #[cycle(parser)]
+#[inline(always)]
 pub(crate) fn variable(
     alloc: Global,
     text: &[u8],
@@ -76,7 +77,8 @@ pub(crate) fn variable(
     ensures within { IfOk result (λ r. (from ≤ r.1) × (r.1 ≤ length text.now)) }
 {
     if begins(text, from, b'{') {
-        return braced_variable(alloc, text, from + 1, mode);
+        let (part, end) = braced_variable(alloc, text, from + 1, mode)?;
+        return Ok((part, end));
     }
     let end = name_end(text, from);
     if end == from {
@@ -92,6 +94,7 @@ pub(crate) fn variable(
 
 /// The parts of an index, whose text begins here, and the place of its `)`.
 #[cycle(parser)]
+#[inline(always)]
 fn index(
     alloc: Global,
     text: &[u8],
@@ -113,6 +116,7 @@ fn index(
 
 /// The script in brackets, which begins here, and the place of its `]`. Its commands are read and skipped.
 #[cycle(parser)]
+#[inline(always)]
 pub(crate) fn brackets(
     alloc: Global,
     text: &[u8],
@@ -239,14 +243,18 @@ fn word_parts(
     ensures later { reading.separates place (drop from text.now) ≡ false → IfOk result (λ r. from < r.1) }
 {
     if begins(text, from, b'"') {
-        quoted(alloc, text, from + 1, place, depth, mode)
+        let (parts, end) = quoted(alloc, text, from + 1, place, depth, mode)?;
+        Ok((parts, end))
     } else if begins(text, from, b'{') {
-        braced(alloc, text, from + 1, place, mode)
+        let (parts, end) = braced(alloc, text, from + 1, place, mode)?;
+        Ok((parts, end))
     } else if let Some(end) = plain_end(text, from, Ending::Word(place)) {
         let plain = mode.text(alloc, &text[from..end])?;
-        Ok((letters(alloc, plain)?, end))
+        let parts = letters(alloc, plain)?;
+        Ok((parts, end))
     } else {
-        parts(alloc, text, from, Ending::Word(place), depth, mode)
+        let (parts, end) = parts(alloc, text, from, Ending::Word(place), depth, mode)?;
+        Ok((parts, end))
     }
 }
 
@@ -294,12 +302,13 @@ pub(crate) fn parts(
         at = push_part(alloc, text, at, ending, depth, &mut builder)?;
     }
     must_end(text, at, ending)?;
-    let parts = builder.finish(alloc)?;
-    Ok((parts, at))
+    builder.finish(alloc)?;
+    Ok((builder.done, at))
 }
 
 /// Adds the part that begins here, or a run of letters, and answers the place after it.
 #[cycle(parser)]
+#[inline(always)]
 fn push_part(
     alloc: Global,
     text: &[u8],

@@ -1,11 +1,10 @@
-use Rattle.std.proofs.Common.{◌+◌, ◌-◌, ◌<◌, true, false, ℕ, List, [], ◌∷◌, ◌++◌, length, drop, take, append-nil, arith, ap, sym, subst, ◌∙◌}
+use Rattle.std.proofs.Common.{◌+◌, ◌-◌, ◌<◌, true, false, ℕ, List, [], ◌∷◌, ◌++◌, length, drop, take, append-nil, arith, ap, sym, ◌∙◌}
 use Rattle.tt_text.specs.Backslash.{backslash}
 use Rattle.std.proofs.lemmas.Option.{slice_get-get_or}
 use Rattle.std.proofs.Common.{Some}
 use Rattle.tt_script.specs.Words.{none, letters, variable, element, script, with_letters, with_part}
-use Rattle.tt_script.specs.Answers.{Answers}
 use Rattle.tt_script.specs.Building.{so_far}
-use Rattle.tt_script.specs.Plain.{plain_part, plain_parts, plain_words}
+use Rattle.tt_script.specs.Plain.{plain_parts, plain_words}
 use Rattle.tt_script.specs.Scanning.{ends_run}
 use Rattle.tt_script.specs.Reading.{takes, after, mapped, level, letters_of}
 use Rattle.tt_script.proofs.Builds.{plain_letters, plain_variable, plain_element, plain_script}
@@ -78,7 +77,7 @@ index-returns-clause-read t c =
 pub parts-returns-clause-read : goal.parts-returns-clause-read
 parts-returns-clause-read t c =
     let reached = c.loop-at.invariant.read in
-    (reached.0 none, reached.1 ∙ ap (mapped reached.0) (c.in_ok-must_end.ensures.ok (level c.args.depth)), λ keep. c.in_ok-parts.ensures ∙ reached.2 keep none)
+    (reached.0 none, reached.1 ∙ ap (mapped reached.0) (c.in_ok-must_end.ensures.ok (level c.args.depth)), λ keep. c.in_ok-finish.ensures ∙ reached.2 keep none)
 
 pub parts-returns-in_err-must_end-clause-read : goal.parts-returns-in_err-must_end-clause-read
 parts-returns-in_err-must_end-clause-read t c =
@@ -183,10 +182,6 @@ variable-returns-in_err-parts-clause-read t c =
     answers_exit _ _ c.from_residual-in_err-parts.result _ _ c.from_residual-in_err-parts.ensures.1
     (refuses_by _ _ _ (λ fault e. dollar_at-fault (level c.args.depth) c.args.text.now c.args.from c.name_end-end.result (sym c.begins.ensures ∙ c.if-begins.false) c.name_end-end.ensures.place c.if-end-from.false (sym c.begins-2.ensures ∙ c.if-not-begins.false) fault e) c.in_err-parts.ensures.read)
 
-pub variable-returns-then-begins-clause-read : goal.variable-returns-then-begins-clause-read
-variable-returns-then-begins-clause-read t c =
-    subst (Answers c.args.mode plain_part c.braced_variable.result) (sym (dollar_at-braced (level c.args.depth) c.args.text.now c.args.from (sym c.begins.ensures ∙ c.if-begins.true))) c.braced_variable.ensures.read
-
 pub variable-returns-then-end-from-clause-read : goal.variable-returns-then-end-from-clause-read
 variable-returns-then-end-from-clause-read t c = (
   letters (36 ∷ []),
@@ -225,24 +220,52 @@ pub word-word_parts-requires : goal.word-word_parts-requires
 word-word_parts-requires t c =
     (omega arith, omega (arith, expands-room c.args.text.now c.args.from (sym c.expands.ensures ∙ c.if-expands.true)))
 
-pub word_parts-returns-in_ok-letters-clause-read : goal.word_parts-returns-in_ok-letters-clause-read
-word_parts-returns-in_ok-letters-clause-read t c = (
+pub word_parts-returns-in_ok-parts-clause-read : goal.word_parts-returns-in_ok-parts-clause-read
+word_parts-returns-in_ok-parts-clause-read t c =
+    let read = c.in_ok-parts.ensures.read in
+    (read.0, parts_at-quoted c.args.place (level c.args.depth) c.args.text.now c.args.from (sym c.begins.ensures ∙ c.if-begins.true) ∙ read.1, read.2)
+
+pub word_parts-returns-in_err-parts-clause-read : goal.word_parts-returns-in_err-parts-clause-read
+word_parts-returns-in_err-parts-clause-read t c =
+    answers_exit _ _ c.from_residual.result _ _ c.from_residual.ensures.1
+    (refuses_by _ _ _ (λ fault e. parts_at-quoted c.args.place (level c.args.depth) c.args.text.now c.args.from (sym c.begins.ensures ∙ c.if-begins.true) ∙ e) c.in_err-parts.ensures.read)
+
+pub word_parts-returns-in_ok-parts-2-clause-read : goal.word_parts-returns-in_ok-parts-2-clause-read
+word_parts-returns-in_ok-parts-2-clause-read t c =
+    let read = c.in_ok-parts-2.ensures.read in
+    (read.0, parts_at-braced c.args.place (level c.args.depth) c.args.text.now c.args.from (sym c.begins.ensures ∙ c.if-begins.false) (sym c.begins-else-begins.ensures ∙ c.if-begins-2.true) ∙ read.1, read.2)
+
+pub word_parts-returns-in_err-parts-2-clause-read : goal.word_parts-returns-in_err-parts-2-clause-read
+word_parts-returns-in_err-parts-2-clause-read t c =
+    answers_exit _ _ c.from_residual-in_err-parts-2.result _ _ c.from_residual-in_err-parts-2.ensures.1
+    (refuses_by _ _ _ (λ fault e. parts_at-braced c.args.place (level c.args.depth) c.args.text.now c.args.from (sym c.begins.ensures ∙ c.if-begins.false) (sym c.begins-else-begins.ensures ∙ c.if-begins-2.true) ∙ e) c.in_err-parts-2.ensures.read)
+
+pub word_parts-returns-in_ok-parts-4-clause-read : goal.word_parts-returns-in_ok-parts-4-clause-read
+word_parts-returns-in_ok-parts-4-clause-read t c =
+    let read = c.in_ok-parts-4.ensures.read in
+    (read.0, parts_at-bare c.args.place (level c.args.depth) c.args.text.now c.args.from (sym c.begins.ensures ∙ c.if-begins.false) (sym c.begins-else-begins.ensures ∙ c.if-begins-2.false) ∙ read.1, read.2)
+
+pub word_parts-returns-in_err-parts-4-clause-read : goal.word_parts-returns-in_err-parts-4-clause-read
+word_parts-returns-in_err-parts-4-clause-read t c =
+    answers_exit _ _ c.from_residual-in_err-parts-4.result _ _ c.from_residual-in_err-parts-4.ensures.1
+    (refuses_by _ _ _ (λ fault e. parts_at-bare c.args.place (level c.args.depth) c.args.text.now c.args.from (sym c.begins.ensures ∙ c.if-begins.false) (sym c.begins-else-begins.ensures ∙ c.if-begins-2.false) ∙ e) c.in_err-parts-4.ensures.read)
+
+pub word_parts-returns-in_ok-parts-3-clause-read : goal.word_parts-returns-in_ok-parts-3-clause-read
+word_parts-returns-in_ok-parts-3-clause-read t c = (
   letters_of (take (c.in-Some.end - c.args.from) (drop c.args.from c.args.text.now)),
   parts_at-bare c.args.place (level c.args.depth) c.args.text.now c.args.from (sym c.begins.ensures ∙ c.if-begins.false) (sym c.begins-else-begins.ensures ∙ c.if-begins-2.false) ∙ c.in-Some.ensures.read (level c.args.depth),
-  λ keep. c.in_ok-letters.ensures ∙ ap letters_of (c.in_ok-plain.ensures keep),
+  λ keep. c.in_ok-parts-3.ensures ∙ ap letters_of (c.in_ok-plain.ensures keep),
 )
 
-pub word_parts-returns-in_default-clause-read : goal.word_parts-returns-in_default-clause-read
-word_parts-returns-in_default-clause-read t c =
-    subst (Answers c.args.mode (λ parts. plain_parts parts.items) c.parts.result) (sym (parts_at-bare c.args.place (level c.args.depth) c.args.text.now c.args.from (sym c.begins.ensures ∙ c.if-begins.false) (sym c.begins-else-begins.ensures ∙ c.if-begins-2.false))) c.parts.ensures.read
+pub variable-returns-then-begins-clause-read : goal.variable-returns-then-begins-clause-read
+variable-returns-then-begins-clause-read t c =
+    let read = c.in_ok-part.ensures.read in
+    (read.0, dollar_at-braced (level c.args.depth) c.args.text.now c.args.from (sym c.begins.ensures ∙ c.if-begins.true) ∙ read.1, read.2)
 
-pub word_parts-returns-then-begins-2-clause-read : goal.word_parts-returns-then-begins-2-clause-read
-word_parts-returns-then-begins-2-clause-read t c =
-    subst (Answers c.args.mode (λ parts. plain_parts parts.items) c.braced.result) (sym (parts_at-braced c.args.place (level c.args.depth) c.args.text.now c.args.from (sym c.begins.ensures ∙ c.if-begins.false) (sym c.begins-else-begins.ensures ∙ c.if-begins-2.true))) c.braced.ensures.read
-
-pub word_parts-returns-then-begins-clause-read : goal.word_parts-returns-then-begins-clause-read
-word_parts-returns-then-begins-clause-read t c =
-    subst (Answers c.args.mode (λ parts. plain_parts parts.items) c.quoted.result) (sym (parts_at-quoted c.args.place (level c.args.depth) c.args.text.now c.args.from (sym c.begins.ensures ∙ c.if-begins.true))) c.quoted.ensures.read
+pub variable-returns-in_err-part-clause-read : goal.variable-returns-in_err-part-clause-read
+variable-returns-in_err-part-clause-read t c =
+    answers_exit _ _ c.from_residual.result _ _ c.from_residual.ensures.1
+    (refuses_by _ _ _ (λ fault e. dollar_at-braced (level c.args.depth) c.args.text.now c.args.from (sym c.begins.ensures ∙ c.if-begins.true) ∙ e) c.in_err-part.ensures.read)
 
 pub words-next_word-preserved : goal.words-next_word-preserved
 words-next_word-preserved t c =

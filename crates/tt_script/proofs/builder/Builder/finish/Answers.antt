@@ -8,4 +8,4 @@ pub returns : goal.returns
 returns c =
     sym (before-none c.close_letters.new.self.done.items)
     ∙ c.in_ok-close_letters.ensures.parts none
-    ∙ ap (before c.args.self.done.items) (sym (apart-none c.args.self.letters))
+    ∙ ap (before c.args.self.now.done.items) (sym (apart-none c.args.self.now.letters))
