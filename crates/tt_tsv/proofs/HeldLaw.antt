@@ -1,17 +1,16 @@
 -- A held array is safe from other threads: their calls on it wait, and those on other arrays leave it.
 use Rattle.std.proofs.Common.{◌≡◌, ◌∙◌, ℕ, ◌%◌, ◌==◌, Bool, true, false, cond, if◌then◌else◌, List, [], ◌∷◌, length, codes, Option, Some, None, is_some, refl, ap, sym, subst, bytes_eq}
 use Rattle.std.proofs.lemmas.Slice.Eq.{bytes_eq-Decides}
-use Rattle.std.specs.Map.{lookup, remove_entry, set_value}
+use Rattle.std.specs.Map.{set_value}
 use Rattle.indexmap.specs.IndexMap.{insert_entry}
 use Rattle.tt_calls.specs.declared.reply.Reply.TheVariants.{Go}
-use Rattle.tt_calls.specs.declared.reply.Step.{Step}
 use Rattle.tt_calls.specs.declared.reply.Step.TheVariants.{Wait, Reply}
 use Rattle.tt_calls.specs.declared.tsv_call.TsvCall.{TsvCall}
 use Rattle.tt_calls.specs.declared.tsv_call.TsvCall.TheVariants.{Hold, Unhold, Run}
 use Rattle.tt_lists.specs.Reading.{split_of}
 use Rattle.tt_lists.specs.declared.items.Split.{Split}
 use Rattle.tt_lists.specs.declared.items.Split.TheVariants as split
-use Rattle.tt_tsv.specs.Answers.{act, answers, array_act, array_asked, changes, done, exists_message, fills, fills_from, holds, is_held_by_other, is_own, moves_of, refills, refills_from, refuses, resets, run, run_asked, sets, step_after, table_after, unholds, unsets, waits, waits_for}
+use Rattle.tt_tsv.specs.Answers.{act, answers, array_act, array_asked, changes, done, exists_message, fills, holds, is_held_by_other, is_own, moves_of, refills, refuses, run, run_asked, step_after, table_after, unholds, unsets, waits_for}
 use Rattle.tt_tsv.specs.Arrays.{Table, added, array_of, changed, changes_in, element_of, emptied, held, is_held, let_go, made, makes_in, with_element, without_array, without_element}
 use Rattle.tt_tsv.specs.Elements.{change_if}
 use Rattle.tt_tsv.specs.Words.{Asked, array_among, array_in, asked_of}
@@ -74,6 +73,7 @@ module _ (name other : List ℕ) (apart : bytes_eq name other ≡ false) where
     where
       without : Table
       without = changed (without_element key) table other
+
       go : (b : Bool) → array_of (if b then refuses table (exists_message new) else done (made (with_element new value) without other)).table name ≡ array_of table name
       go true = refl
       go false = by_made (with_element new value) without (array_of without other) ∙ by_changed (without_element key) table (array_of table other)
@@ -100,6 +100,7 @@ module _ (name other : List ℕ) (apart : bytes_eq name other ≡ false) where
     where
       without : Table
       without = changed emptied table other
+
       go : (b : Bool) → array_of (if b then done (made (added items) without other) else refuses table (codes "list must have an even number of elements")).table name ≡ array_of table name
       go true = by_made (added items) without (array_of without other) ∙ by_changed emptied table (array_of table other)
       go false = refl
@@ -146,6 +147,7 @@ module _ (table : Table) (name : List ℕ) (t : ℕ) (is_other : is_held_by_othe
       either : (b : Bool) → array_of after name ≡ array_of table name → array_of (if b then table else after) name ≡ array_of table name
       either true left = refl
       either false left = left
+
       go : (b : Bool) → bytes_eq name other ≡ b → array_of (if is_held_by_other t (array_of table other) then table else after) name ≡ array_of table name
       go true same = ap (λ b. array_of (if b then table else after) name) (subst (λ k. is_held_by_other t (array_of table k) ≡ true) ((bytes_eq-Decides name other).0 same) is_other)
       go false apart = either (is_held_by_other t (array_of table other)) (leaves apart)

@@ -1,4 +1,4 @@
-ghost use Rattle.std.specs.Prelude.{◌≡◌, IsTrue, OnOk, Some};
+ghost use Rattle.std.specs.Prelude.{◌≡◌, ◌↔◌, IsTrue, OnOk, Some};
 ghost use Rattle.tt_tsv.specs.Answers.{is_held_by_other};
 ghost use Rattle.tt_tsv.specs.Arrays.{IsCounter, added, emptied, held, is_held, is_held_by, let_go, new_array, with_element, without_element};
 
@@ -29,7 +29,7 @@ impl Array {
 
     // Whether its depth is below 2^62.
     pub(crate) fn is_counter(&self) -> bool
-        ensures { IsTrue result → IsCounter self.now }
+        ensures { IsTrue result ↔ IsCounter self.now }
     {
         self.depth < 1 << 62
     }

@@ -1,4 +1,4 @@
-ghost use Rattle.std.specs.Prelude.{◌≡◌, [], bytes_eq, IsTrue, IfOk, OnOk};
+ghost use Rattle.std.specs.Prelude.{◌≡◌, ◌↔◌, [], bytes_eq, IsTrue, IfOk, OnOk};
 ghost use Rattle.std.specs.Map.{keys_of};
 ghost use Rattle.std.specs.Option.{option_copied, option_map};
 ghost use Rattle.indexmap.specs.IndexMap.{insert_entry};
@@ -42,7 +42,7 @@ impl Arrays {
 
     /// Whether the depths of holds are far from their end, below 2^62, as they are in any run.
     pub fn can_count(&self) -> bool
-        ensures { IsTrue result → AreCounters self.now }
+        ensures { IsTrue result ↔ AreCounters self.now }
     {
         self.arrays.values().all(|array| array.is_counter())
     }
