@@ -17,7 +17,7 @@ impl Arrays {
     /// nothing is done (tsv(n)). Words that no command has are refused with the empty text. A call that is refused
     /// changes nothing.
     ///
-    /// `NoMemory` where memory for an element or the reply is refused.
+    /// `NoMemory` where memory for an element or the reply is refused; then the arrays are only fit to be dropped.
     pub fn apply(&mut self, thread: u32, call: &TsvCall) -> Result<Step, NoMemory>
         requires counters { AreCounters self.old }
         ensures table { OnOk result (self.new ≡ table_after self.old thread call.now) }
