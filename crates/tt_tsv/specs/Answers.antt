@@ -170,7 +170,8 @@ array_act table array.Unset name words = done (unsets table name (array_of table
 array_act table array.Exists name words = answers table (Value (truth (is_some (array_of table name))))
 array_act table array.Set name words = sets table name words
 array_act table array.Get name words = answers table (Value (list_of (pairs_like words (elements_of table name))))
-array_act table array.Names name words = answers table (Value (list_of (names_like words (keys_of (elements_of table name)))))
+array_act table array.Names name words =
+    answers table (Value (list_of (names_like words (keys_of (elements_of table name)))))
 array_act table array.Size name words = answers table (Value (decimal (length (elements_of table name))))
 array_act table array.Reset name words = resets table name words
 

@@ -13,10 +13,11 @@ use tt_calls::{Reply, Step, TsvCall};
 use tt_text::{NoMemory, Text};
 
 impl Arrays {
-    /// What a call of a thread on shared variables does, and its reply; `Wait` exactly where it has to wait, and then nothing
-    /// is done (tsv(n)). Words that no command has are refused with the empty text. A call that is refused changes nothing.
+    /// What a call of a thread on shared variables does, and its reply; `Wait` exactly where it has to wait, and then
+    /// nothing is done (tsv(n)). Words that no command has are refused with the empty text. A call that is refused
+    /// changes nothing.
     ///
-    /// `NoMemory` where memory for an element or the reply is refused.
+    /// `NoMemory` where memory for an element or the reply is refused; then the arrays are only fit to be dropped.
     pub fn apply(&mut self, thread: u32, call: &TsvCall) -> Result<Step, NoMemory>
         ensures table { OnOk result (self.new ≡ table_after self.old thread call.now) }
         ensures step { IfOk result (λ step. step ≡ step_after self.old thread call.now) }

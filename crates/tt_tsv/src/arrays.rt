@@ -40,8 +40,8 @@ impl Arrays {
         }
     }
 
-    /// Whether the thread has to wait before its call is done: while another thread holds the array that the call is on. It
-    /// takes no memory.
+    /// Whether the thread has to wait before its call is done: while another thread holds the array that the call is on.
+    /// It takes no memory.
     pub fn waits(&self, thread: u32, call: &TsvCall) -> bool
         ensures waits { result ≡ waits self.now thread call.now }
     {

@@ -11,7 +11,8 @@ use std::alloc::Global;
 use std::marker::Model;
 use tt_text::{NoMemory, Text, Texts};
 
-/// The elements of an array, in the order of their first insertion. Contracts see the list of pairs of a key and a value.
+/// The elements of an array, in the order of their first insertion. Contracts see the list of pairs of a key and a
+/// value.
 #[derive(Debug, Drop)]
 pub struct Elements {
     map: IndexMap<Text, Text>,

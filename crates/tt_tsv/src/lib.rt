@@ -7,6 +7,7 @@ mod array_calls;
 mod arrays;
 mod change;
 mod elements;
+pub mod laws;
 mod lists;
 mod numbers;
 mod popping;
