@@ -1,0 +1,5 @@
+pub mod Evaluation
+pub mod Example
+pub mod Frames
+pub mod Laws
+pub mod Plans

@@ -1,0 +1,14 @@
+//! Plans: how the evaluation of a language is defined, and an interpreter of it that stops at each thing it wants and
+//! goes on with the answer. The language is a parameter.
+#![tactic(auto)]
+
+pub mod example;
+mod language;
+pub mod laws;
+mod machine;
+
+pub use language::{Language, Move};
+pub use machine::{Machine, STEPS, outcome, request, resume, start};
+
+#[cfg(test)]
+mod tests;
