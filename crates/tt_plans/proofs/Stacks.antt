@@ -1,13 +1,16 @@
 -- Courses within the calls of a stack, and what each move of a machine does to them.
-use Rattle.std.proofs.Common.{◌≡◌, ℕ, suc, ◌+◌, List, [], ◌∷◌, ◌++◌, refl, sym, ap, subst, ◌∙◌, arith}
+use Rattle.std.proofs.Common.{◌≡◌, ℕ, suc, ◌+◌, List, [], ◌∷◌, ◌++◌, Option, refl, sym, ap, ◌∙◌, arith}
+use Rattle.std.specs.Prelude.{Some}
 use Rattle.tt_plans.specs.Plans.{Plan, Ends, Course, Stop, Fin, Evaluation, spend, follow}
 use Rattle.tt_plans.specs.Evaluation.{Meaning, eval}
-use Rattle.tt_plans.specs.Frames.{After, OnGot, finish, from_move, from_standing, plan_of, serving_of, within}
+use Rattle.tt_plans.specs.Frames.{After, OnGot, finish, from_halt, from_move, from_standing, plan_of, serving_of, with_answer, within}
 use Rattle.tt_plans.specs.declared.language.Move.{Move}
 use Rattle.tt_plans.specs.declared.language.Move.TheVariants.{Call}
-use Rattle.tt_plans.specs.declared.machine.Standing.{Standing}
-use Rattle.tt_plans.specs.declared.machine.Standing.TheVariants.{Waits}
-use Rattle.tt_plans.specs.declared.machine.Pending.{Pending}
+use Rattle.tt_plans.specs.declared.stack.Standing.{Standing}
+use Rattle.tt_plans.specs.declared.stack.Standing.TheVariants as standing
+use Rattle.tt_plans.specs.declared.stack.Halt.TheVariants.{Wants}
+use Rattle.tt_plans.specs.declared.stack.Pending.{Pending}
+use Rattle.tt_plans.specs.declared.stack.Stack.{Stack}
 use Rattle.tt_plans.proofs.Evaluations.{eval_is}
 
 -- a call that is pushed is the newest
@@ -20,10 +23,16 @@ pub finish_stop : {Job Want Got Outcome State Frame : Type 0} (evaluate : Evalua
 finish_stop evaluate after [] want = refl
 finish_stop evaluate after (call ∷ calls) want = ap (within evaluate after call) (finish_stop evaluate after calls want)
 
--- what a machine wants that waits
-pub waits_stop : {Job Want Got Outcome State Frame Asking : Type 0} (plan : Meaning Job Want Got Outcome State) (after : After Job Want Got Outcome State Frame) (on_got : OnGot Job Want Got Outcome State Asking) (standing : Standing Want Outcome Asking) (calls : List (Pending Frame)) (state : State) (n : ℕ) (want : Want) (asking : Asking) → standing ≡ Waits want asking → from_standing plan after on_got standing calls state n [] ≡ Stop want (serving_of calls)
-waits_stop {Job} {Want} {Got} {Outcome} {State} {Frame} {Asking} plan after on_got standing calls state n want asking e =
-    subst (λ (s : Standing Want Outcome Asking). from_standing plan after on_got s calls state n [] ≡ Stop want (serving_of calls)) (sym e) (finish_stop (eval plan) after calls want)
+-- a stack halts at what is asked
+pub halts : {Job Want Got Outcome State Frame Asking : Type 0} (plan : Meaning Job Want Got Outcome State) (after : After Job Want Got Outcome State Frame) (on_got : OnGot Job Want Got Outcome State Asking) (place : Standing Want Outcome Asking) (stack : Stack State Frame Asking) (want : Want) (asking : Asking) (answers : List Got) (course : Course Want Got Outcome State) → place ≡ standing.Asks want asking → stack.asking ≡ Some asking → from_standing plan after on_got place stack.calls.items stack.state stack.steps answers ≡ course → from_halt plan after on_got (Wants want) stack answers ≡ course
+halts {Job} {Want} {Got} {Outcome} {State} {Frame} {Asking} plan after on_got place stack want asking [] course e is same =
+    sym (finish_stop (eval plan) after stack.calls.items want)
+    ∙ ap (λ (s : Standing Want Outcome Asking). from_standing plan after on_got s stack.calls.items stack.state stack.steps []) (sym e)
+    ∙ same
+halts {Job} {Want} {Got} {Outcome} {State} {Frame} {Asking} plan after on_got place stack want asking (got ∷ answers) course e is same =
+    ap (λ (o : Option Asking). with_answer plan after on_got o stack.calls.items stack.state stack.steps got answers) is
+    ∙ ap (λ (s : Standing Want Outcome Asking). from_standing plan after on_got s stack.calls.items stack.state stack.steps (got ∷ answers)) (sym e)
+    ∙ same
 
 -- a step is there, and is spent
 spend_step : {Want Got Outcome State : Type 0} (n m : ℕ) (go : ℕ → Course Want Got Outcome State) → n ≡ m + 1 → spend n go ≡ go m
@@ -34,10 +43,10 @@ pub begun : {Job Want Got Outcome State : Type 0} (plan : Meaning Job Want Got O
 begun {Job} {Want} {Got} {Outcome} {State} plan job state after next n answers e =
     ap (λ (p : Plan Job Want Got Outcome State). follow (eval plan) p n answers) (sym e) ∙ sym (eval_is plan job state n answers)
 
--- a machine has begun a job, and no call is open
-pub started : {Job Want Got Outcome State Frame Asking : Type 0} (plan : Meaning Job Want Got Outcome State) (after : After Job Want Got Outcome State Frame) (on_got : OnGot Job Want Got Outcome State Asking) (move : Move Job Want Outcome Frame Asking) (calls : List (Pending Frame)) (job : Job) (before state : State) (n : ℕ) (answers : List Got) → calls ≡ [] → plan job before ≡ plan_of after on_got move state → from_move plan after on_got move calls state n answers ≡ eval plan job before n answers
-started {Job} {Want} {Got} {Outcome} {State} {Frame} {Asking} plan after on_got move calls job before state n answers none e =
-    ap (λ (c : List (Pending Frame)). from_move plan after on_got move c state n answers) none
+-- a job is begun where no call is open
+pub started : {Job Want Got Outcome State Frame Asking : Type 0} (plan : Meaning Job Want Got Outcome State) (after : After Job Want Got Outcome State Frame) (on_got : OnGot Job Want Got Outcome State Asking) (move : Move Job Want Outcome Frame Asking) (calls : List (Pending Frame)) (job : Job) (before state : State) (n : ℕ) (answers : List Got) (course : Course Want Got Outcome State) → calls ≡ [] → plan job before ≡ plan_of after on_got move state → course ≡ from_move plan after on_got move calls state n answers → course ≡ eval plan job before n answers
+started {Job} {Want} {Got} {Outcome} {State} {Frame} {Asking} plan after on_got move calls job before state n answers course none e is =
+    is ∙ ap (λ (c : List (Pending Frame)). from_move plan after on_got move c state n answers) none
     ∙ begun plan job before state (plan_of after on_got move) n answers e
 
 -- a job is called
@@ -57,7 +66,7 @@ came_back {Job} {Want} {Got} {Outcome} {State} {Frame} evaluate after calls popp
     ∙ ap (λ (c : List (Pending Frame)). finish evaluate after c (Fin outcome state n answers)) (sym p)
 
 -- an answer is taken
-pub taken : {Job Want Got Outcome State Frame Asking : Type 0} (plan : Meaning Job Want Got Outcome State) (after : After Job Want Got Outcome State Frame) (on_got : OnGot Job Want Got Outcome State Asking) (standing : Standing Want Outcome Asking) (move : Move Job Want Outcome Frame Asking) (calls : List (Pending Frame)) (want : Want) (asking : Asking) (got : Got) (state now : State) (n : ℕ) (answers : List Got) → standing ≡ Waits want asking → on_got asking got state ≡ plan_of after on_got move now → from_move plan after on_got move calls now n answers ≡ from_standing plan after on_got standing calls state n (got ∷ answers)
-taken {Job} {Want} {Got} {Outcome} {State} {Frame} {Asking} plan after on_got standing move calls want asking got state now n answers s e =
+pub taken : {Job Want Got Outcome State Frame Asking : Type 0} (plan : Meaning Job Want Got Outcome State) (after : After Job Want Got Outcome State Frame) (on_got : OnGot Job Want Got Outcome State Asking) (asked : Option Asking) (move : Move Job Want Outcome Frame Asking) (calls : List (Pending Frame)) (asking : Asking) (got : Got) (state now : State) (n : ℕ) (answers : List Got) → asked ≡ Some asking → on_got asking got state ≡ plan_of after on_got move now → from_move plan after on_got move calls now n answers ≡ with_answer plan after on_got asked calls state n got answers
+taken {Job} {Want} {Got} {Outcome} {State} {Frame} {Asking} plan after on_got asked move calls asking got state now n answers s e =
     ap (λ (q : Plan Job Want Got Outcome State). finish (eval plan) after calls (follow (eval plan) q n answers)) (sym e)
-    ∙ ap (λ (x : Standing Want Outcome Asking). from_standing plan after on_got x calls state n (got ∷ answers)) (sym s)
+    ∙ ap (λ (o : Option Asking). with_answer plan after on_got o calls state n got answers) (sym s)

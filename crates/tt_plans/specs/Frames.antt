@@ -1,16 +1,18 @@
 -- Frames: what an interpreter keeps of the plans that are begun. A frame means what comes after an outcome, and an asking
 -- what comes after an answer.
-use Rattle.std.specs.Prelude.{ℕ, ◌+◌, ◌*◌, ◌<◌, Bool, true, false, List, [], ◌∷◌, ◌++◌, length, ⊤}
-use Rattle.tt_plans.specs.Plans.{Plan, Ends, Asks, Calls, Goes, Course, Fin, Spent, Evaluation, then_do, posts_of, served_by, follow}
+use Rattle.std.specs.Prelude.{ℕ, ◌+◌, ◌*◌, ◌<◌, Bool, true, false, List, [], ◌∷◌, ◌++◌, length, Option, Some, None, is_some, ⊤}
+use Rattle.tt_plans.specs.Plans.{Plan, Ends, Asks, Calls, Goes, Course, Stop, Fin, Spent, Evaluation, then_do, posts_of, served_by, follow}
 use Rattle.tt_plans.specs.Evaluation.{Meaning, eval}
 use Rattle.tt_plans.specs.declared.language.Move.{Move}
 use Rattle.tt_plans.specs.declared.language.Move.TheVariants.{Done, Ask, Call, Goto}
-use Rattle.tt_plans.specs.declared.machine.Pending.{Pending}
-use Rattle.tt_plans.specs.declared.machine.Standing.{Standing}
-use Rattle.tt_plans.specs.declared.machine.Standing.TheVariants.{Waits, Ended, Lost}
-use Rattle.tt_plans.specs.declared.machine.Next.{Next}
-use Rattle.tt_plans.specs.declared.machine.Next.TheVariants.{Moves, Stands}
-use Rattle.tt_plans.specs.declared.machine.Machine.{Machine}
+use Rattle.tt_plans.specs.declared.stack.Pending.{Pending}
+use Rattle.tt_plans.specs.declared.stack.Standing.{Standing}
+use Rattle.tt_plans.specs.declared.stack.Standing.TheVariants as standing
+use Rattle.tt_plans.specs.declared.stack.Next.{Next}
+use Rattle.tt_plans.specs.declared.stack.Next.TheVariants.{Moves, Stands}
+use Rattle.tt_plans.specs.declared.stack.Halt.{Halt}
+use Rattle.tt_plans.specs.declared.stack.Halt.TheVariants.{Wants, Ended}
+use Rattle.tt_plans.specs.declared.stack.Stack.{Stack}
 
 -- what a frame means
 abbrev pub After : (Job Want Got Outcome State Frame : Type 0) → Type 0
@@ -42,30 +44,41 @@ abbrev pub serving_of : {Frame : Type 0} → List (Pending Frame) → List ℕ
 serving_of [] = []
 serving_of (call ∷ calls) = serving_of calls ++ posts_of call.serves
 
--- the course from where a machine stands: what it asks next, after further answers
+-- the posts that a stack serves, innermost first
+abbrev pub serving : {State Frame Asking : Type 0} → Stack State Frame Asking → List ℕ
+serving stack = serving_of stack.calls.items
+
+-- the course of what waits for an answer, after this one and more
+abbrev pub with_answer : {Job Want Got Outcome State Frame Asking : Type 0} → Meaning Job Want Got Outcome State → After Job Want Got Outcome State Frame → OnGot Job Want Got Outcome State Asking → Option Asking → List (Pending Frame) → State → ℕ → Got → List Got → Course Want Got Outcome State
+with_answer plan after on_got None calls state n got answers = Spent
+with_answer plan after on_got (Some asking) calls state n got answers =
+    finish (eval plan) after calls (follow (eval plan) (on_got asking got state) n answers)
+
+-- the course of a stack that waits, after this answer and more
+abbrev pub after_answer : {Job Want Got Outcome State Frame Asking : Type 0} → Meaning Job Want Got Outcome State → After Job Want Got Outcome State Frame → OnGot Job Want Got Outcome State Asking → Stack State Frame Asking → Got → List Got → Course Want Got Outcome State
+after_answer plan after on_got stack got answers =
+    with_answer plan after on_got stack.asking stack.calls.items stack.state stack.steps got answers
+
+-- the course of a stack that halts there, after further answers: where there are none it stops at what it wants
+abbrev pub from_halt : {Job Want Got Outcome State Frame Asking : Type 0} → Meaning Job Want Got Outcome State → After Job Want Got Outcome State Frame → OnGot Job Want Got Outcome State Asking → Halt Want Outcome → Stack State Frame Asking → List Got → Course Want Got Outcome State
+from_halt plan after on_got (Wants want) stack [] = Stop want (serving stack)
+from_halt plan after on_got (Wants want) stack (got ∷ answers) = after_answer plan after on_got stack got answers
+from_halt plan after on_got (Ended outcome) stack answers = Fin outcome stack.state stack.steps answers
+
+-- a stack waits for an answer
+abbrev pub is_waiting : {State Frame Asking : Type 0} → Stack State Frame Asking → Bool
+is_waiting stack = is_some stack.asking
+
+-- a halt where something is wanted
+abbrev pub wants : {Want Outcome : Type 0} → Halt Want Outcome → Bool
+wants (Wants want) = true
+wants (Ended outcome) = false
+
+-- inside: the course from where moves come to
 abbrev pub from_standing : {Job Want Got Outcome State Frame Asking : Type 0} → Meaning Job Want Got Outcome State → After Job Want Got Outcome State Frame → OnGot Job Want Got Outcome State Asking → Standing Want Outcome Asking → List (Pending Frame) → State → ℕ → List Got → Course Want Got Outcome State
-from_standing plan after on_got (Waits want asking) calls state n answers =
+from_standing plan after on_got (standing.Asks want asking) calls state n answers =
     finish (eval plan) after calls (follow (eval plan) (Asks want state (on_got asking)) n answers)
-from_standing plan after on_got (Ended outcome) calls state n answers = Fin outcome state n answers
-from_standing plan after on_got Lost calls state n answers = Spent
-
--- the course of a machine
-abbrev pub later : {Job Want Got Outcome State Frame Asking : Type 0} → Meaning Job Want Got Outcome State → After Job Want Got Outcome State Frame → OnGot Job Want Got Outcome State Asking → Machine Want Outcome State Frame Asking → List Got → Course Want Got Outcome State
-later plan after on_got machine answers =
-    from_standing plan after on_got machine.standing machine.calls.items machine.state machine.steps answers
-
--- the posts that a machine serves, innermost first
-abbrev pub serving : {Want Outcome State Frame Asking : Type 0} → Machine Want Outcome State Frame Asking → List ℕ
-serving machine = serving_of machine.calls.items
-
-abbrev pub is_waiting : {Want Outcome Asking : Type 0} → Standing Want Outcome Asking → Bool
-is_waiting (Waits want asking) = true
-is_waiting (Ended outcome) = false
-is_waiting Lost = false
-
--- a machine waits for an answer
-abbrev pub waits : {Want Outcome State Frame Asking : Type 0} → Machine Want Outcome State Frame Asking → Bool
-waits machine = is_waiting machine.standing
+from_standing plan after on_got (standing.Ends outcome) calls state n answers = Fin outcome state n answers
 
 -- inside: the course from a move on
 abbrev pub from_move : {Job Want Got Outcome State Frame Asking : Type 0} → Meaning Job Want Got Outcome State → After Job Want Got Outcome State Frame → OnGot Job Want Got Outcome State Asking → Move Job Want Outcome Frame Asking → List (Pending Frame) → State → ℕ → List Got → Course Want Got Outcome State

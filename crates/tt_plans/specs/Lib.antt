@@ -2,4 +2,5 @@ pub mod Evaluation
 pub mod Example
 pub mod Frames
 pub mod Laws
+pub mod Machines
 pub mod Plans

@@ -6,9 +6,11 @@ pub mod example;
 mod language;
 pub mod laws;
 mod machine;
+mod stack;
 
 pub use language::{Language, Move};
-pub use machine::{Machine, STEPS, outcome, request, resume, start};
+pub use machine::{Machine, outcome, request, resume, start};
+pub use stack::{Halt, STEPS, Stack, begin, is_waiting, turn};
 
 #[cfg(test)]
 mod tests;

@@ -2,7 +2,7 @@ use Rattle.std.proofs.Common.{◌≡◌, [], ◌∷◌, ◌++◌, rules}
 use Rattle.tt_plans.specs.Evaluation.{eval}
 use Rattle.tt_plans.specs.Frames.{plan_of}
 use Rattle.tt_plans.proofs.Stacks.{came_back}
-use Rattle.tt_plans.proofs.machine.come_back.Goals as goal
+use Rattle.tt_plans.proofs.stack.come_back.Goals as goal
 
 pub returns-in_ok-next-in-Some-clause-same : goal.returns-in_ok-next-in-Some-clause-same
 returns-in_ok-next-in-Some-clause-same g c =

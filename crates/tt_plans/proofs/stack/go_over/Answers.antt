@@ -1,6 +1,6 @@
 use Rattle.tt_plans.specs.Frames.{plan_of}
 use Rattle.tt_plans.proofs.Stacks.{begun}
-use Rattle.tt_plans.proofs.machine.go_over.Goals as goal
+use Rattle.tt_plans.proofs.stack.go_over.Goals as goal
 
 pub returns-clause-same : goal.returns-clause-same
 returns-clause-same g c =

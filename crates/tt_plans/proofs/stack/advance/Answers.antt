@@ -3,9 +3,9 @@ use Rattle.tt_plans.specs.Evaluation.{eval}
 use Rattle.tt_plans.specs.Frames.{plan_of}
 use Rattle.tt_plans.specs.Plans.{follow}
 use Rattle.tt_plans.specs.declared.language.Move.TheVariants.{Call}
-use Rattle.tt_plans.specs.declared.machine.Pending.{Pending}
+use Rattle.tt_plans.specs.declared.stack.Pending.{Pending}
 use Rattle.tt_plans.proofs.Stacks.{called}
-use Rattle.tt_plans.proofs.machine.advance.Goals as goal
+use Rattle.tt_plans.proofs.stack.advance.Goals as goal
 
 pub returns-in_ok-push-in-Call-clause-same : goal.returns-in_ok-push-in-Call-clause-same
 returns-in_ok-push-in-Call-clause-same g c =

@@ -1,6 +1,6 @@
 use Rattle.std.proofs.Common.{◌≡◌}
 use Rattle.tt_plans.specs.Frames.{from_move, weight}
-use Rattle.tt_plans.proofs.machine.stand.Given as goal
+use Rattle.tt_plans.proofs.stack.stand.Given as goal
 
 abbrev pub invariant-moves : goal.invariant-moves
 invariant-moves g l =
