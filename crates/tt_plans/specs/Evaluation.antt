@@ -7,14 +7,20 @@ abbrev pub Meaning : (Job Want Got Outcome State : Type 0) → Type 0
 Meaning Job Want Got Outcome State = Job → State → Plan Job Want Got Outcome State
 
 -- jobs within jobs, no deeper than this
-abbrev pub eval_within : {Job Want Got Outcome State : Type 0} → Meaning Job Want Got Outcome State → (depth : ℕ) → Evaluation Job Want Got Outcome State
+abbrev pub eval_within :
+    {Job Want Got Outcome State : Type 0} → Meaning Job Want Got Outcome State → (depth : ℕ)
+    → Evaluation Job Want Got Outcome State
 eval_within plan zero job state n answers = Spent
 eval_within plan (suc depth) job state n answers = follow (eval_within plan depth) (plan job state) n answers
 
 -- Evaluation. Each call, and each going over, takes a step: so they are no deeper than there are steps.
-unfoldable pub eval : {Job Want Got Outcome State : Type 0} → Meaning Job Want Got Outcome State → Evaluation Job Want Got Outcome State
+unfoldable pub eval :
+    {Job Want Got Outcome State : Type 0} → Meaning Job Want Got Outcome State
+    → Evaluation Job Want Got Outcome State
 eval plan job state n answers = eval_within plan (suc n) job state n answers
 
 -- the job wants this next, after these answers, while it serves these posts: with some number of steps
-abbrev pub WantsNext : {Job Want Got Outcome State : Type 0} → Meaning Job Want Got Outcome State → Job → State → List Got → Want → List ℕ → Type 0
+abbrev pub WantsNext :
+    {Job Want Got Outcome State : Type 0} → Meaning Job Want Got Outcome State → Job → State → List Got → Want
+    → List ℕ → Type 0
 WantsNext plan job state answers want serving = (n : ℕ) × (eval plan job state n answers ≡ Stop want serving)

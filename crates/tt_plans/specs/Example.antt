@@ -1,4 +1,4 @@
--- A small language as an example: a loop that asks for numbers and keeps the greatest, and events that are served by it.
+-- A small language as an example: a loop that asks for numbers and keeps the greatest, and events that it serves.
 use Rattle.std.specs.Prelude.{ℕ, zero, suc, max, [], ◌∷◌, Some, None, ◌≡◌}
 use Rattle.tt_plans.specs.Plans.{Plan, Ends, Asks, Calls, Goes, Stop, Fin, Spent}
 use Rattle.tt_plans.specs.Evaluation.{eval}

@@ -23,7 +23,9 @@ pub fn start<L: Language>(
     job: L::Job,
     state: L::State,
 ) -> Result<Machine<L::Want, L::Outcome, L::State, L::Frame, L::Asking>, NoMemory>
-    ensures started { IfOk result (λ machine. (answers : List L.Got) → later L.plan L.after L.on_got machine answers ≡ eval L.plan job state STEPS answers) }
+    ensures started { IfOk result (λ machine. (answers : List L.Got)
+        → later L.plan L.after L.on_got machine answers
+        ≡ eval L.plan job state STEPS answers) }
 {
     let (stack, halt) = begin::<L>(alloc, job, state)?;
     Ok(Machine { stack, halt })
@@ -38,7 +40,9 @@ pub fn resume<L: Language>(
     got: L::Got,
 ) -> Result<(), NoMemory>
     requires asked { IsTrue (waits machine.old) }
-    ensures resumed { OnOk result ((answers : List L.Got) → later L.plan L.after L.on_got machine.new answers ≡ later L.plan L.after L.on_got machine.old (got ∷ answers)) }
+    ensures resumed { OnOk result ((answers : List L.Got)
+        → later L.plan L.after L.on_got machine.new answers
+        ≡ later L.plan L.after L.on_got machine.old (got ∷ answers)) }
 {
     machine.halt = turn::<L>(alloc, &mut machine.stack, got)?;
     Ok(())
@@ -49,7 +53,8 @@ pub fn request<L: Language>(
     machine: &Machine<L::Want, L::Outcome, L::State, L::Frame, L::Asking>,
 ) -> Option<&L::Want>
     ensures asked { is_some result ≡ waits machine.now }
-    ensures wanted { IfSome result (λ want. later L.plan L.after L.on_got machine.now [] ≡ Stop want.now (serving machine.now)) }
+    ensures wanted { IfSome result (λ want.
+        later L.plan L.after L.on_got machine.now [] ≡ Stop want.now (serving machine.now)) }
 {
     if !is_waiting(&machine.stack) {
         return None;
@@ -65,7 +70,9 @@ pub fn outcome<L: Language>(
     machine: &Machine<L::Want, L::Outcome, L::State, L::Frame, L::Asking>,
 ) -> Option<&L::Outcome>
     ensures ended { is_some result ≡ has_ended machine.now }
-    ensures finished { IfSome result (λ outcome. (answers : List L.Got) → later L.plan L.after L.on_got machine.now answers ≡ finished machine.now outcome.now answers) }
+    ensures finished { IfSome result (λ outcome. (answers : List L.Got)
+        → later L.plan L.after L.on_got machine.now answers
+        ≡ finished machine.now outcome.now answers) }
 {
     match &machine.halt {
         Halt::Wants(_) => None,

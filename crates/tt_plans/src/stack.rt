@@ -68,7 +68,9 @@ pub fn begin<L: Language>(
     ),
     NoMemory,
 >
-    ensures begun { IfOk result (λ begun. (answers : List L.Got) → from_halt L.plan L.after L.on_got begun.1 begun.0 answers ≡ eval L.plan job state STEPS answers) }
+    ensures begun { IfOk result (λ begun. (answers : List L.Got)
+        → from_halt L.plan L.after L.on_got begun.1 begun.0 answers
+        ≡ eval L.plan job state STEPS answers) }
     ensures waiting { IfOk result (λ begun. wants begun.1 ≡ is_waiting begun.0) }
 {
     let mut stack = Stack {
@@ -91,7 +93,9 @@ pub fn turn<L: Language>(
     got: L::Got,
 ) -> Result<Halt<L::Want, L::Outcome>, NoMemory>
     requires asked { IsTrue (is_waiting stack.old) }
-    ensures turned { IfOk result (λ halt. (answers : List L.Got) → from_halt L.plan L.after L.on_got halt stack.new answers ≡ after_answer L.plan L.after L.on_got stack.old got answers) }
+    ensures turned { IfOk result (λ halt. (answers : List L.Got)
+        → from_halt L.plan L.after L.on_got halt stack.new answers
+        ≡ after_answer L.plan L.after L.on_got stack.old got answers) }
     ensures waiting { IfOk result (λ halt. wants halt ≡ is_waiting stack.new) }
 {
     match mem::replace(&mut stack.asking, None) {
@@ -117,7 +121,9 @@ fn run<L: Language>(
     stack: &mut Stack<L::State, L::Frame, L::Asking>,
     first: Move<L::Job, L::Want, L::Outcome, L::Frame, L::Asking>,
 ) -> Result<Halt<L::Want, L::Outcome>, NoMemory>
-    ensures same { IfOk result (λ halt. (answers : List L.Got) → from_halt L.plan L.after L.on_got halt stack.new answers ≡ from_move L.plan L.after L.on_got first stack.old.calls.items stack.old.state stack.old.steps answers) }
+    ensures same { IfOk result (λ halt. (answers : List L.Got)
+        → from_halt L.plan L.after L.on_got halt stack.new answers
+        ≡ from_move L.plan L.after L.on_got first stack.old.calls.items stack.old.state stack.old.steps answers) }
     ensures waiting { IfOk result (λ halt. wants halt ≡ is_waiting stack.new) }
 {
     let standing = stand::<L>(
@@ -147,7 +153,9 @@ fn stand<L: Language>(
     steps: &mut u64,
     first: Move<L::Job, L::Want, L::Outcome, L::Frame, L::Asking>,
 ) -> Result<Standing<L::Want, L::Outcome, L::Asking>, NoMemory>
-    ensures { IfOk result (λ standing. (answers : List L.Got) → from_standing L.plan L.after L.on_got standing calls.new.items state.new steps.new answers ≡ from_move L.plan L.after L.on_got first calls.old.items state.old steps.old answers) }
+    ensures { IfOk result (λ standing. (answers : List L.Got)
+        → from_standing L.plan L.after L.on_got standing calls.new.items state.new steps.new answers
+        ≡ from_move L.plan L.after L.on_got first calls.old.items state.old steps.old answers) }
 {
     let mut step = first;
     'moves: loop {
@@ -166,8 +174,11 @@ fn advance<L: Language>(
     steps: &mut u64,
     step: Move<L::Job, L::Want, L::Outcome, L::Frame, L::Asking>,
 ) -> Result<Next<L::Job, L::Want, L::Outcome, L::Frame, L::Asking>, NoMemory>
-    ensures same { IfOk result (λ next. (answers : List L.Got) → from_next L.plan L.after L.on_got next calls.new.items state.new steps.new answers ≡ from_move L.plan L.after L.on_got step calls.old.items state.old steps.old answers) }
-    ensures falls { IfOk result (λ next. Falls next calls.new.items steps.new (weight step calls.old.items steps.old)) }
+    ensures same { IfOk result (λ next. (answers : List L.Got)
+        → from_next L.plan L.after L.on_got next calls.new.items state.new steps.new answers
+        ≡ from_move L.plan L.after L.on_got step calls.old.items state.old steps.old answers) }
+    ensures falls { IfOk result (λ next.
+        Falls next calls.new.items steps.new (weight step calls.old.items steps.old)) }
 {
     match step {
         Move::Done(outcome) => come_back::<L>(alloc, calls, state, steps, outcome),
@@ -192,8 +203,11 @@ fn come_back<L: Language>(
     steps: &mut u64,
     outcome: L::Outcome,
 ) -> Result<Next<L::Job, L::Want, L::Outcome, L::Frame, L::Asking>, NoMemory>
-    ensures same { IfOk result (λ next. (answers : List L.Got) → from_next L.plan L.after L.on_got next calls.new.items state.new steps.new answers ≡ from_move L.plan L.after L.on_got (Done outcome) calls.old.items state.old steps.old answers) }
-    ensures falls { IfOk result (λ next. Falls next calls.new.items steps.new (weight {Job = L.Job} {Want = L.Want} {Asking = L.Asking} (Done outcome) calls.old.items steps.old)) }
+    ensures same { IfOk result (λ next. (answers : List L.Got)
+        → from_next L.plan L.after L.on_got next calls.new.items state.new steps.new answers
+        ≡ from_move L.plan L.after L.on_got (Done outcome) calls.old.items state.old steps.old answers) }
+    ensures falls { IfOk result (λ next. Falls next calls.new.items steps.new
+        (weight {Job = L.Job} {Want = L.Want} {Asking = L.Asking} (Done outcome) calls.old.items steps.old)) }
 {
     match calls.pop() {
         None => Ok(Next::Stands(Standing::Ends(outcome))),
@@ -211,7 +225,9 @@ fn go_over<L: Language>(
     steps: &mut u64,
     job: L::Job,
 ) -> Result<Move<L::Job, L::Want, L::Outcome, L::Frame, L::Asking>, NoMemory>
-    ensures same { IfOk result (λ move. (answers : List L.Got) → follow (eval L.plan) (plan_of L.after L.on_got move state.new) steps.new answers ≡ eval L.plan job state.old steps.new answers) }
+    ensures same { IfOk result (λ move. (answers : List L.Got)
+        → follow (eval L.plan) (plan_of L.after L.on_got move state.new) steps.new answers
+        ≡ eval L.plan job state.old steps.new answers) }
     ensures spent { IfOk result (λ move. steps.old ≡ steps.new + 1) }
 {
     *steps = steps.checked_sub(1).ok_or(NoMemory)?;
