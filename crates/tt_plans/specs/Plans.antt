@@ -71,5 +71,5 @@ follow evaluate (Asks want state on) n answers =
     answered want answers (λ got rest. follow evaluate (on got state) n rest)
 follow evaluate (Calls serves job state on) n answers =
     spend n (λ m.
-      then_do (served_by serves (evaluate job state m answers)) (λ o st k rest. follow evaluate (on o st) k rest))
+    then_do (served_by serves (evaluate job state m answers)) (λ o st k rest. follow evaluate (on o st) k rest))
 follow evaluate (Goes job state) n answers = spend n (λ m. evaluate job state m answers)

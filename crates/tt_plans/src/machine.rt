@@ -17,7 +17,7 @@ pub struct Machine<Want, Outcome, State, Frame, Asking> {
 
 /// A machine that has this job to do, from this state on, at the first thing that it wants.
 ///
-/// `NoMemory` where memory is refused.
+/// `NoMemory` where memory is refused, or all steps are taken.
 pub fn start<L: Language>(
     alloc: Global,
     job: L::Job,
@@ -33,7 +33,7 @@ pub fn start<L: Language>(
 
 /// Goes on with the answer, to the next thing that the machine wants or to its end.
 ///
-/// `NoMemory` where memory is refused; then the machine is only fit to be dropped.
+/// `NoMemory` where memory is refused, or all steps are taken; then the machine is only fit to be dropped.
 pub fn resume<L: Language>(
     alloc: Global,
     machine: &mut Machine<L::Want, L::Outcome, L::State, L::Frame, L::Asking>,

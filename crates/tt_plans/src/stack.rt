@@ -9,7 +9,8 @@ use std::alloc::Global;
 use std::mem;
 use tt_text::NoMemory;
 
-/// How many steps a stack has. They are more than any run takes, and make each run end.
+/// How many steps a stack has, for the calls of jobs and the goings over into jobs. They make each run end; at one in a
+/// nanosecond they last for 146 years.
 pub const STEPS: u64 = 1 << 62;
 
 // A call that waits for its outcome.
@@ -56,7 +57,7 @@ pub struct Stack<State, Frame, Asking> {
 
 /// A stack that has this job to do, from this state on, and where it halts first.
 ///
-/// `NoMemory` where memory is refused.
+/// `NoMemory` where memory is refused, or all steps are taken.
 pub fn begin<L: Language>(
     alloc: Global,
     job: L::Job,
@@ -86,7 +87,7 @@ pub fn begin<L: Language>(
 
 /// Goes on with the answer to what the stack wants, and answers where it halts next.
 ///
-/// `NoMemory` where memory is refused; then the stack is only fit to be dropped.
+/// `NoMemory` where memory is refused, or all steps are taken; then the stack is only fit to be dropped.
 pub fn turn<L: Language>(
     alloc: Global,
     stack: &mut Stack<L::State, L::Frame, L::Asking>,
