@@ -1,0 +1,4 @@
+mod Agreement
+pub mod Evaluations
+pub mod MoreSteps
+pub mod Stacks

@@ -1,0 +1,9 @@
+//! The texts of the traces of errors (tclvars(n), errorInfo).
+#![tactic(auto)]
+
+mod trace;
+
+pub use trace::{Joint, LONGEST, Trace, line_at};
+
+#[cfg(test)]
+mod tests;
