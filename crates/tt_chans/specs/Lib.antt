@@ -1,4 +1,5 @@
 pub mod Answers
 pub mod Channels
 pub mod Ends
+pub mod Laws
 pub mod Lines

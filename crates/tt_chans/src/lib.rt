@@ -4,6 +4,7 @@
 mod answers;
 mod channel;
 mod chans;
+pub mod laws;
 mod pipe;
 mod refusals;
 

@@ -3,6 +3,7 @@
 
 mod answers;
 mod holders;
+pub mod laws;
 mod lock;
 mod locks;
 mod numbers;
