@@ -17,6 +17,7 @@ const SIZES: [u32; 3] = [10, 1_000, 100_000];
 
 // How many increments are timed together, and how many times; the least is told.
 const TIMES: u32 = 100_000;
+
 const ROUNDS: u32 = 10;
 
 fn main(rt: HostRuntime) -> anyhow::Result<()> {
