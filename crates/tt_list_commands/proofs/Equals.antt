@@ -20,14 +20,14 @@ order_by-total true false = on_total number_of int_cmp_total
 order_by-total false true = back_total nat_list_cmp_total
 order_by-total false false = nat_list_cmp_total
 
-order-total : (how : Sorting) → IsTotalOrder (order how)
+pub order-total : (how : Sorting) → IsTotalOrder (order how)
 order-total how = order_by-total how.integer how.decreasing
 
 shifted : {X : Type 0} (x : X) (xs : List X) (d : X) (j i : ℕ) → j ≡ suc i → get_or (x ∷ xs) j d ≡ get_or xs i d
 shifted x xs d j i e = ap (λ n. get_or (x ∷ xs) n d) e
 
 -- the items after the first one of a sorted list
-sorted_later : {X : Type 0} (R : X → X → Ordering) (x : X) (xs : List X) → IsSorted R (x ∷ xs) → IsSorted R xs
+pub sorted_later : {X : Type 0} (R : X → X → Ordering) (x : X) (xs : List X) → IsSorted R (x ∷ xs) → IsSorted R xs
 sorted_later R x xs up k d low high =
     let a : get_or (x ∷ xs) (k + 1 + 1) d ≡ get_or xs (k + 1) d = shifted x xs d (k + 1 + 1) (k + 1) (omega arith) in
     let b : get_or (x ∷ xs) (k + 1) d ≡ get_or xs k d = shifted x xs d (k + 1) k (omega arith) in
@@ -35,7 +35,7 @@ sorted_later R x xs up k d low high =
     ∙ ap (λ y. is_lt (R (get_or (x ∷ xs) (k + 1 + 1) d) y)) (sym b)
     ∙ up (k + 1) d (omega arith) (omega arith)
 
-first_ascends : {X : Type 0} (R : X → X → Ordering) (x y : X) (ys : List X) → IsSorted R (x ∷ y ∷ ys) → is_lt (R y x) ≡ false
+pub first_ascends : {X : Type 0} (R : X → X → Ordering) (x y : X) (ys : List X) → IsSorted R (x ∷ y ∷ ys) → is_lt (R y x) ≡ false
 first_ascends R x y ys up = up 0 x (omega arith) (omega arith)
 
 less : {X : Type 0} (R : X → X → Ordering) → IsTotalOrder R → (x y : X) → is_eq (R x y) ≡ false → is_lt (R y x) ≡ false → is_lt (R x y) ≡ true

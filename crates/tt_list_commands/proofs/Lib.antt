@@ -1,3 +1,4 @@
 pub mod Equals
 pub mod Orders
 pub mod Repeats
+pub mod SortLaw

@@ -3,4 +3,5 @@ pub mod Joining
 pub mod Repeating
 pub mod Reversing
 pub mod Runs
+pub mod SortFunction
 pub mod Sorting

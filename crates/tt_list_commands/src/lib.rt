@@ -4,6 +4,7 @@
 
 mod concatenating;
 mod joining;
+pub mod laws;
 mod repeating;
 mod reversing;
 mod sorting;
