@@ -1,4 +1,5 @@
--- What answering a request does: a table, a line for each (puts(n), gets(n), eof(n), thread(n), tsv(n), tpool(n), chan(n)).
+-- What answering a request does: a table, a line for each (puts(n), gets(n), eof(n), thread(n), tsv(n), tpool(n),
+-- chan(n)).
 use Rattle.std.specs.Prelude.{ℕ, zero, suc, ◌-◌, ◌==◌, take, slice_get, Bool, true, false, List, [], ◌∷◌, ◌++◌, codes, length, Option, Some, None, if◌then◌else◌, nat_lt, ℤ, pos, negsuc}
 use Rattle.tt_calls.specs.declared.chan_call.ChanCall.{ChanCall}
 use Rattle.tt_calls.specs.declared.chan_call.ChanCall.TheVariants as chan
@@ -93,11 +94,13 @@ releases state t text answered =
 
 abbrev pub on_arrays : State → ℕ → TsvCall → Acted
 on_arrays state t call =
-    answers (record state { arrays = arrays.table_after state.arrays t call }) (reply_of (arrays.step_after state.arrays t call))
+    let told = reply_of (arrays.step_after state.arrays t call) in
+    answers (record state { arrays = arrays.table_after state.arrays t call }) told
 
 abbrev pub on_locks : State → ℕ → LockCall → Acted
 on_locks state t call =
-    answers (record state { locks = locks.table_after state.locks t call }) (reply_of (locks.step_after state.locks t call))
+    let told = reply_of (locks.step_after state.locks t call) in
+    answers (record state { locks = locks.table_after state.locks t call }) told
 
 -- ---- pools ----
 
@@ -142,7 +145,8 @@ abbrev pub on_channels : State → ℕ → ChanCall → Acted
 on_channels state t call =
     let target = target_of state call in
     let told = reply_of (channels.step_after state.channels t target call) in
-    answers (moves (record state { channels = channels.table_after state.channels t target call }) call target told) told
+    let table = channels.table_after state.channels t target call in
+    answers (moves (record state { channels = table }) call target told) told
 
 -- ---- all requests ----
 

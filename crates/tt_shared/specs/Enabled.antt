@@ -1,4 +1,5 @@
--- When a request can be answered: a table, a line for each that may have to wait (thread(n), tsv(n), tpool(n), chan(n)).
+-- When a request can be answered: a table, a line for each that may have to wait (thread(n), tsv(n), tpool(n),
+-- chan(n)).
 use Rattle.std.specs.Prelude.{ℕ, ◌==◌, ◌&&◌, ◌||◌, not, nat_lt, Bool, true, false, Option, Some, None, is_some}
 use Rattle.tt_calls.specs.declared.pool_call.PoolCall.{PoolCall}
 use Rattle.tt_calls.specs.declared.pool_call.PoolCall.TheVariants as pool

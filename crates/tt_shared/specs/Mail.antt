@@ -71,8 +71,8 @@ scripts_of queues thread = scripts_in (queue_of queues thread)
 
 -- ---- posts ----
 
--- The posts that wait for an answer: the slots of those whose senders wait, those whose answer goes to a variable of the
--- sender, under their numbers; and the number that the next post draws.
+-- The posts that wait for an answer: the slots of those whose senders wait, those whose answer goes to a variable of
+-- the sender, under their numbers; and the number that the next post draws.
 pub record Posts : Type 0 where
   pub slots : OpenSlots
   pub variables : List (ℕ × VariablePost)
@@ -91,9 +91,12 @@ with_wait posts sender target =
     record posts { slots = with_slot posts.slots posts.next sender target; next = posts.next + 1 }
 
 -- it is one whose answer goes to a variable
+abbrev pub variable_of : (sender target : ℕ) → (name : List ℕ) → VariablePost
+variable_of sender target name = record { sender = sender; target = target; name = name }
+
 abbrev pub with_variable : Posts → (sender target : ℕ) → (name : List ℕ) → Posts
 with_variable posts sender target name = record posts {
-  variables = insert_entry nat_cmp posts.variables posts.next (record { sender = sender; target = target; name = name });
+  variables = insert_entry nat_cmp posts.variables posts.next (variable_of sender target name);
   next = posts.next + 1;
 }
 

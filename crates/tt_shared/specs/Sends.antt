@@ -1,4 +1,5 @@
--- What sends, events and their answers do (thread(n), thread::send, thread::broadcast, thread::errorproc, thread::wait).
+-- What sends, events and their answers do (thread(n), thread::send, thread::broadcast, thread::errorproc,
+-- thread::wait).
 use Rattle.std.specs.Prelude.{ℕ, zero, suc, length, ◌==◌, ◌&&◌, not, Bool, true, false, List, [], ◌∷◌, ◌++◌, codes, Option, Some, None, is_some, if◌then◌else◌}
 use Rattle.tt_calls.specs.declared.event.Event.{Event}
 use Rattle.tt_calls.specs.declared.event.Event.TheVariants as event
@@ -30,18 +31,22 @@ use Rattle.tt_threads.specs.declared.row.Row.{Row}
 abbrev pub mailed : State → (target : ℕ) → (head : Bool) → Event → State
 mailed state target head event = record state { queues = queued state.queues target head event }
 
-abbrev pub sends_to : State → (t target : ℕ) → (script : List ℕ) → Mode → Option (List ℕ) → (head : Bool) → Acted
+abbrev pub sends_to :
+    State → (t target : ℕ) → (script : List ℕ) → Mode → Option (List ℕ) → (head : Bool) → Acted
 sends_to state t target script mode variable head =
     let script_event = event.Script state.posts.next script (is_answered mode variable) false in
-    answers (mailed (record state { posts = posted state.posts t target mode variable }) target head script_event) (reply.Posted state.posts.next)
+    let posts = posted state.posts t target mode variable in
+    answers (mailed (record state { posts = posts }) target head script_event) (reply.Posted state.posts.next)
 
 -- a send to oneself that is waited for is none that a command asks
-abbrev pub sends_linked : State → (t target : ℕ) → (script : List ℕ) → Mode → Option (List ℕ) → (head : Bool) → Acted
+abbrev pub sends_linked :
+    State → (t target : ℕ) → (script : List ℕ) → Mode → Option (List ℕ) → (head : Bool) → Acted
 sends_linked state t target script Waits variable head =
     if target == t then is_not_asked state else sends_to state t target script Waits variable head
 sends_linked state t target script Later variable head = sends_to state t target script Later variable head
 
-abbrev pub sends_named : State → ℕ → (text script : List ℕ) → Mode → Option (List ℕ) → Bool → Option ℕ → Acted
+abbrev pub sends_named :
+    State → ℕ → (text script : List ℕ) → Mode → Option (List ℕ) → Bool → Option ℕ → Acted
 sends_named state t text script mode variable head None = refuses state (no_thread text)
 sends_named state t text script mode variable head (Some target) = sends_linked state t target script mode variable head
 
@@ -110,7 +115,9 @@ abbrev pub delivers_value : State → (t n : ℕ) → Outcome → Option Variabl
 delivers_value state t n outcome None = is_not_asked state
 delivers_value state t n outcome (Some post) =
     if is_target t (Some post)
-    then answers (sets (record state { posts = without_variable state.posts n }) post outcome.value) (served state t outcome)
+    then
+    (let rest = record state { posts = without_variable state.posts n } in
+    answers (sets rest post outcome.value) (served state t outcome))
     else is_not_asked state
 
 -- a slot that waits for this thread
@@ -121,7 +128,9 @@ abbrev pub delivers_at : State → (t n : ℕ) → Outcome → Option Slot → A
 delivers_at state t n outcome None = delivers_value state t n outcome (variable_post state.posts n)
 delivers_at state t n outcome (Some found) =
     if is_due t found
-    then answers (record state { posts = record state.posts { slots = with_state state.posts.slots n (slot.Result outcome) } }) (served state t outcome)
+    then
+    (let slots = with_state state.posts.slots n (slot.Result outcome) in
+    answers (record state { posts = record state.posts { slots = slots } }) (served state t outcome))
     else is_not_asked state
 
 -- the outcome goes to the slot that waits, or to the variable
@@ -150,7 +159,8 @@ takes state t = takes_first state t (first_of state.queues t)
 -- a post more, whose answer nobody asks for
 abbrev pub tells : State → (target : ℕ) → (script : List ℕ) → (plain : Bool) → State
 tells state target script plain =
-    mailed (record state { posts = with_plain state.posts }) target false (event.Script state.posts.next script false plain)
+    let script_event = event.Script state.posts.next script false plain in
+    mailed (record state { posts = with_plain state.posts }) target false script_event
 
 abbrev pub is_linked_row : Option Row → Bool
 is_linked_row None = false
@@ -197,7 +207,8 @@ call_of name t trace = list_of (name ∷ id Thread t ∷ trace ∷ [])
 
 abbrev pub reports_to : State → ℕ → (trace : List ℕ) → Option ErrorProcedure → Acted
 reports_to state t trace None =
-    record { state = state; gives = record (answer state (reply.Served (unwinds state t))) { err = report_text t trace } }
+    let told = answer state (reply.Served (unwinds state t)) in
+    record { state = state; gives = record told { err = report_text t trace } }
 reports_to state t trace (Some procedure) =
     answers (tells state procedure.thread (call_of procedure.name t trace) true) (reply.Served (unwinds state t))
 
