@@ -13,7 +13,8 @@ pub record IsSendable (made : ℕ) (id : List ℕ) : Type 0 where
 abbrev pub Takes : (made : ℕ) → Command → (creates commands : ℕ) → Type 0
 Takes made (Puts word) creates commands = (creates ≡ 0) × (commands ≡ 1)
 Takes made Create creates commands = (creates ≡ 1) × (commands ≡ 1)
-Takes made (Send id script) creates commands = (creates ≡ 0) × IsSendable made id × ((sent : ℕ) × IsPutsList sent script × (commands ≡ suc sent))
+Takes made (Send id script) creates commands =
+    (creates ≡ 0) × IsSendable made id × ((sent : ℕ) × IsPutsList sent script × (commands ≡ suc sent))
 
 -- the counts of a script after a command that stands at its counts before
 pub record AreAfter (made had : ℕ) (command : Command) (creates commands : ℕ) : Type 0 where

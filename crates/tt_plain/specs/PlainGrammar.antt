@@ -26,14 +26,35 @@ NotDashed (byte ∷ word) = byte ≢ 45
 -- how the word of a `puts` is written: bare, or in braces, with no brace and no backslash in it, and not `-` first
 pub data IsWritten : List ℕ → List ℕ → Type 0 where
   bare : {word written : List ℕ} → written ≡ word → IsBare word → IsWritten written word
-  braces : {word written : List ℕ} → written ≡ 123 ∷ (word ++ 125 ∷ []) → AreAll is_braced_byte word → NotDashed word → IsWritten written word
+  braces : {word written : List ℕ} →
+      written ≡ 123 ∷ (word ++ 125 ∷ []) →
+      AreAll is_braced_byte word →
+      NotDashed word →
+      IsWritten written word
+
+-- the words of a send, with what stands between two of them
+abbrev pub written_send : (after_name after_option id after_id script : List ℕ) → List ℕ
+written_send after_name after_option id after_id script =
+    let braced = 123 ∷ (script ++ 125 ∷ []) in
+    codes "thread::send" ++ (after_name ++ (codes "-async" ++ (after_option ++ (id ++ (after_id ++ braced)))))
 
 -- how a command is written: its words, with one space or more between two of them; the thread of a send is a bare word,
 -- and its script stands in braces, with braces that match in it
 pub data IsCommand : List ℕ → Command → Type 0 where
-  puts : {text spaces written word : List ℕ} → text ≡ codes "puts" ++ (spaces ++ written) → IsSpaces spaces → IsWritten written word → IsCommand text (Puts word)
+  puts : {text spaces written word : List ℕ} →
+      text ≡ codes "puts" ++ (spaces ++ written) →
+      IsSpaces spaces →
+      IsWritten written word →
+      IsCommand text (Puts word)
   create : {text : List ℕ} → text ≡ codes "thread::create" → IsCommand text Create
-  send : {text after_name after_option id after_id script : List ℕ} → text ≡ codes "thread::send" ++ (after_name ++ (codes "-async" ++ (after_option ++ (id ++ (after_id ++ (123 ∷ (script ++ 125 ∷ []))))))) → IsSpaces after_name → IsSpaces after_option → IsSpaces after_id → IsBare id → IsBalanced script → IsCommand text (Send id script)
+  send : {text after_name after_option id after_id script : List ℕ} →
+      text ≡ written_send after_name after_option id after_id script →
+      IsSpaces after_name →
+      IsSpaces after_option →
+      IsSpaces after_id →
+      IsBare id →
+      IsBalanced script →
+      IsCommand text (Send id script)
 
 -- a command ends, after spaces, with the text or a newline
 pub record EndsCommand (rest : List ℕ) : Type 0 where
@@ -54,7 +75,9 @@ pub record BeginsWith (text : List ℕ) (command : Command) (rest : List ℕ) : 
 
 -- the first command of a text is the one that the grammar has
 abbrev pub CommandLaw : Type 0
-CommandLaw = (text : List ℕ) (command : Command) (rest : List ℕ) → (first text ≡ Found command rest) ↔ BeginsWith text command rest
+CommandLaw =
+    (text : List ℕ) (command : Command) (rest : List ℕ) →
+    (first text ≡ Found command rest) ↔ BeginsWith text command rest
 
 -- and there is none exactly where only spaces and newlines are left
 abbrev pub NothingLaw : Type 0

@@ -53,7 +53,8 @@ spaced next text = if prefix_len is_space text == 0 then Other else next (after_
 -- the braced word of a `puts`, up to the closing brace, and not with `-` first (Tcl(n), rule 6)
 abbrev pub braced : List ℕ → List ℕ → First
 braced word [] = Other
-braced word (close ∷ rest) = if close == 125 && not (starts_with nat_eq word (codes "-")) then ended (Puts word) rest else Other
+braced word (close ∷ rest) =
+    if close == 125 && not (starts_with nat_eq word (codes "-")) then ended (Puts word) rest else Other
 
 -- the word of a `puts`: in braces, or the longest run of bytes that a bare word may have
 abbrev pub word_first : List ℕ → First
@@ -105,16 +106,33 @@ thread_id k = codes "tid" ++ decimal k
 -- the text is a list of so many `puts` commands, as a script is that a plain script sends
 pub data IsPutsList : (commands : ℕ) → List ℕ → Type 0 where
   puts_end : {text : List ℕ} → first text ≡ Nothing → IsPutsList 0 text
-  puts_more : {n : ℕ} {text word rest : List ℕ} → first text ≡ Found (Puts word) rest → IsPutsList n rest → IsPutsList (suc n) text
+  puts_more : {n : ℕ} {text word rest : List ℕ} →
+      first text ≡ Found (Puts word) rest →
+      IsPutsList n rest →
+      IsPutsList (suc n) text
 
 -- The text is a list of commands: `made` threads are created before it, it creates so many more, and it has so many
 -- commands, those of sent scripts counted. It sends lists of `puts` commands alone, each to a thread that was created
 -- before, which the first thread was not: its number is from 2 to 1 more than the threads created (thread(n)).
 pub data IsScript : (made creates commands : ℕ) → List ℕ → Type 0 where
   ends : {made : ℕ} {text : List ℕ} → first text ≡ Nothing → IsScript made 0 0 text
-  puts : {made creates n : ℕ} {text word rest : List ℕ} → first text ≡ Found (Puts word) rest → IsScript made creates n rest → IsScript made creates (suc n) text
-  create : {made creates n : ℕ} {text rest : List ℕ} → first text ≡ Found Create rest → IsScript (suc made) creates n rest → IsScript made (suc creates) (suc n) text
-  send : {made creates sent n whole k : ℕ} {text id script rest : List ℕ} → first text ≡ Found (Send id script) rest → id ≡ thread_id k → 2 ≤ k → k ≤ suc made → IsPutsList sent script → IsScript made creates n rest → whole ≡ sent + n → IsScript made creates (suc whole) text
+  puts : {made creates n : ℕ} {text word rest : List ℕ} →
+      first text ≡ Found (Puts word) rest →
+      IsScript made creates n rest →
+      IsScript made creates (suc n) text
+  create : {made creates n : ℕ} {text rest : List ℕ} →
+      first text ≡ Found Create rest →
+      IsScript (suc made) creates n rest →
+      IsScript made (suc creates) (suc n) text
+  send : {made creates sent n whole k : ℕ} {text id script rest : List ℕ} →
+      first text ≡ Found (Send id script) rest →
+      id ≡ thread_id k →
+      2 ≤ k →
+      k ≤ suc made →
+      IsPutsList sent script →
+      IsScript made creates n rest →
+      whole ≡ sent + n →
+      IsScript made creates (suc whole) text
 
 -- how many threads a plain script creates at most
 unfoldable pub most_creates : ℕ
