@@ -59,7 +59,7 @@ pub record WritesOut (earlier later : Option Machine) : Type 0 where
   pub is_earlier : earlier ≡ Some before
   pub is_later : later ≡ Some after
   pub some : piece ≢ []
-  pub more : after.shared.out ≡ before.shared.out ++ piece
+  pub more : after.out ≡ before.out ++ piece
 
 -- a system that met no fault can step the thread where the machine can
 pub record CanStep {S K E : Type 0} (stage : Stage S K E) (thread : ℕ) : Type 0 where
@@ -82,5 +82,5 @@ pub record IsFaithful (beginning : Beginning) (schedule : List ℕ) (kept : Opti
     (old_out new_out old_err new_err : Option (List ℕ)) : Type 0 where
   pub machine : Machine
   pub ran : run beginning schedule ≡ Some machine
-  pub out : HasWritten kept beginning schedule old_out new_out (λ m. m.shared.out) machine
-  pub err : HasWritten kept beginning schedule old_err new_err (λ m. m.shared.err) machine
+  pub out : HasWritten kept beginning schedule old_out new_out (λ m. m.out) machine
+  pub err : HasWritten kept beginning schedule old_err new_err (λ m. m.err) machine
