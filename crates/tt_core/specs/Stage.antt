@@ -18,11 +18,6 @@ pub record Stage (S K E : Type 0) : Type 0 where
   pub errors : E
   pub kept : Option StepFault
 
--- More units than a thread of a plain script spends: one for each command that it evaluates, at most 5,000, one for
--- each event that it asks for, at most one more than the scripts that are sent to it, and one for its `thread::wait`.
-abbrev pub plain_units : ℕ
-plain_units = 10000
-
 -- what was written lacks at most a part of what the last entry wrote: the rest of its piece
 pub record IsCutShort (beginning : Beginning) (schedule : List ℕ) (old new : Option (List ℕ))
     (written : Machine → List ℕ) (machine : Machine) : Type 0 where
