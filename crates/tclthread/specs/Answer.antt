@@ -145,10 +145,10 @@ pub record HasRun {K E : Type 0} (status : Status) (beginning : Beginning) (give
   pub ran : run beginning left.schedule ≡ Some machine
   pub out :
       HasWritten (kept_by status) beginning left.schedule
-      (left.got_out left.old_output) (left.got_out left.new_output) (λ m. m.shared.out) machine
+      (left.got_out left.old_output) (left.got_out left.new_output) (λ m. m.out) machine
   pub err :
       HasWritten (kept_by status) beginning left.schedule
-      (left.got_err left.old_errors) (left.got_err left.new_errors) (λ m. m.shared.err) machine
+      (left.got_err left.old_errors) (left.got_err left.new_errors) (λ m. m.err) machine
   pub ends : EndsAs status machine left.schedule given
   pub untouched : left.schedule ≡ [] → left.new_output ≡ left.old_output
 

@@ -1,9 +1,8 @@
 ghost use Rattle.std.specs.Prelude.{◌≡◌, ◌≢◌, ◌↔◌, [], Some, None, map, string_bytes};
 ghost use Rattle.tt_devices.specs.Faults.{Rises};
-ghost use Rattle.tt_plain.specs.PlainScript.{IsPlain};
 ghost use Rattle.tt_core.specs.Machine.{Machine};
 ghost use Rattle.tt_core.specs.Stage.{SameBeginning, machine_of};
-ghost use Rattle.tclthread.specs.Answer.{Answers, EndsAs, IsFirstPart, default_limit, kept_by};
+ghost use Rattle.tclthread.specs.Answer.{Answers, EndsAs, IsFirstPart, kept_by};
 ghost use Rattle.tclthread.specs.CommandLine.{reads};
 ghost use Rattle.tclthread.specs.Ended.{IfEnded, IsEnded};
 ghost use Rattle.tclthread.specs.Prepared.{IsLeft, begun_by};
@@ -72,8 +71,6 @@ fn replay<S: Source, K: Sink, E: Sink>(
     output: K,
     errors: E,
 ) -> Ended<S, K, E>
-    requires plain { IsPlain prepared.setup.script }
-    requires limit { prepared.setup.limit ≡ default_limit }
     ensures left { IsLeft result.status (begun_by prepared.setup) prepared.given.threads (record {
       schedule = result.schedule.threads;
       got_out = K.got;

@@ -1,38 +1,29 @@
-use Rattle.std.proofs.Common.{◌≡◌, ◌∙◌, ◌<◌, ◌≤◌, ◌-◌, ℕ, suc, List, [], ◌∷◌, ◌++◌, length, drop, get_or, slice_get, slice_set, None, Result, Ok, Err, IfOk, IfErr, IsErrOf, ap, refl, arith, inl, inr}
-use Rattle.std.proofs.lemmas.Option.{slice_get_read, slice_get_past}
-use Rattle.std.proofs.lemmas.Bool.{cases_lt}
-use Rattle.tt_core.specs.declared.action.Action.{Action}
-use Rattle.tt_core.specs.declared.effect.Effect.{Effect}
-use Rattle.tt_core.specs.declared.effect.Effect.TheVariants as effects
-use Rattle.tt_core.specs.declared.effect.Refusal.{Refusal}
-use Rattle.tt_core.specs.declared.effect.Refusal.TheVariants.{NotEnabled, NoMemory}
-use Rattle.tt_core.specs.Steps.{Crew, Serving, IsSent, Sends, IsCommandOf}
+-- Threads that were made begin one after the other.
+use Rattle.std.proofs.Common.{◌≡◌, ◌∙◌, ◌+◌, ◌-◌, ◌==◌, ℕ, zero, suc, Bool, true, false, List, [], ◌∷◌, ◌++◌, length, drop, map, Option, Some, None, option_map, slice_get, ap, refl, sym, arith, add-one, append_assoc, if◌then◌else◌}
+use Rattle.std.proofs.lemmas.List.{length_push}
+use Rattle.tt_calls.specs.declared.start.Start.{Start}
+use Rattle.tt_core.specs.Asking.{Doing, first_doing}
+use Rattle.tt_core.specs.Crew.{all_begun, begins}
+use Rattle.tt_threads.specs.Rows.{row_of}
+use Rattle.tt_threads.specs.declared.row.Row.{Row}
 
--- what is left after a command
-pub last-is : (text : List ℕ) (action : Action) (left : ℕ) → (next : IsCommandOf text action left) → drop (length text - left) text ≡ next.rest
-last-is text action left next = ap (λ (n : ℕ). drop (length text - n) text) next.count_is ∙ next.suffix.left
+-- the rows from the first that has not begun
+drop-get : (rows : List Row) (n : ℕ) (row : Row) → slice_get rows n ≡ Some row → drop n rows ≡ row ∷ drop (suc n) rows
+drop-get [] n row is = absurd (cc is)
+drop-get (one ∷ rows) zero row is = let same : one ≡ row = cc is in ap (λ first. first ∷ rows) same
+drop-get (one ∷ rows) (suc n) row is = drop-get rows n row is
 
--- a fault that is want of memory alone is no other
-pub never-refused : {T : Type 0} (result : Result T Refusal) → IsErrOf result NotEnabled → IfErr result (λ fault. fault ≡ NoMemory) → ⊥
-never-refused (Ok x) is fault = cc
-never-refused (Err e) is fault = cc
+begun-at : (doings : List (Option Doing)) (rows : List Row) (place : ℕ) (found : Option Row) (begun : Start) → place ≡ length doings → slice_get rows place ≡ found → option_map (λ row. row.start) found ≡ Some begun → all_begun (doings ++ first_doing begun ∷ []) rows ≡ all_begun doings rows
+begun-at doings rows place None begun e there is = absurd (cc is)
+begun-at doings rows place (Some row) begun e there is =
+    let start_is : row.start ≡ begun = cc is in
+    let there_is : slice_get rows (length doings) ≡ Some row = rw e at there in
+    rw (length_push doings (first_doing begun), add-one, drop-get rows (length doings) row there_is, ← start_is) (append_assoc doings (begins row ∷ []) (map begins (drop (suc (length doings)) rows)))
 
-sent-is : (crew : Crew) (number : ℕ) (script : List ℕ) (server : Serving) → 2 ≤ number → number - 2 < length crew.servers → server ≡ get_or crew.servers (number - 2) server → IsSent number script crew (record { main = crew.main; servers = slice_set crew.servers (number - 2) (record { left = server.left; queue = server.queue ++ script ∷ [] }) })
-sent-is crew number script server large within is = record {
-  place = number - 2;
-  server = server;
-  number_is = omega arith;
-  there = slice_get_read crew.servers (length crew.servers) (number - 2) server refl within is;
-  new_is = refl;
-}
-
-pub all-sent : (crew : Crew) (number : ℕ) (script : List ℕ) (server new : Serving) (result : Result Effect Refusal) → 2 ≤ number → number - 2 < length crew.servers → server ≡ get_or crew.servers (number - 2) server → IfOk result (λ effect. (effect ≡ effects.Nothing) × (new ≡ record { left = server.left; queue = server.queue ++ script ∷ [] })) → IfOk result (λ effect. Sends number script crew effect (record { main = crew.main; servers = slice_set crew.servers (number - 2) new }))
-all-sent crew number script server new (Ok effect) large within is sent = (sent.0, rw sent.1 (sent-is crew number script server large within is))
-all-sent crew number script server new (Err e) large within is sent = tt
-
--- past the last one there is none
-pub past : {X : Type 0} (items : List X) (number place : ℕ) → number ≡ suc (suc place) → ¬ (number - 2 < length items) → slice_get items place ≡ None
-past items number place e none = elim (cases_lt place (length items)) [
-  | inl within ↦ absurd (none (omega (arith, e)))
-  | inr beyond ↦ slice_get_past items place beyond
-]
+-- one more begins
+pub begun-more : (doings : List (Option Doing)) (rows : List Row) (number : ℕ) (begun : Start) → number ≡ length doings + 1 → option_map (λ row. row.start) (row_of rows number) ≡ Some begun → all_begun (doings ++ first_doing begun ∷ []) rows ≡ all_begun doings rows
+begun-more doings rows number begun e is = go (number == 0) is
+  where
+    go : (none : Bool) → option_map (λ row. row.start) (if none then None else slice_get rows (number - 1)) ≡ Some begun → all_begun (doings ++ first_doing begun ∷ []) rows ≡ all_begun doings rows
+    go true started = absurd (cc started)
+    go false started = begun-at doings rows (number - 1) (slice_get rows (number - 1)) begun (omega (arith, e)) refl started

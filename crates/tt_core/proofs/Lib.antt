@@ -1,8 +1,6 @@
-pub mod CrewLemmas
-pub mod PlainLemmas
-pub mod ServingLemmas
 pub mod StepLemmas
-pub mod WorkedRunLemmas
-pub mod RunLemmas
+pub mod CrewLemmas
 pub mod StandLemmas
+pub mod PlainLemmas
 pub mod RefusalLemmas
+pub mod WorkedRunLemmas

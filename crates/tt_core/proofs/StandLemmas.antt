@@ -1,72 +1,43 @@
-use Rattle.std.proofs.Common.{◌≡◌, ◌∙◌, ℕ, List, [], ◌∷◌, ◌++◌, Option, Some, None, IsSome, IsNone, option_and_then, ap, refl, sym, append-nil, append_assoc, arith, inl, inr, Bool, true, false, IsTrue}
-use Rattle.tt_devices.specs.Streams.{Grows, GrowsByPart}
-use Rattle.tt_devices.proofs.StreamLemmas.{Grows-append, Grows-same}
-use Rattle.std.proofs.lemmas.Option.{slice_get_within}
-use Rattle.tt_text.specs.ThreadNumbers.{IsInRange}
-use Rattle.tt_plain.specs.PlainScript.{IsPlain, most_creates}
-use Rattle.tt_core.specs.declared.effect.Effect.{Effect}
-use Rattle.tt_core.specs.declared.effect.Effect.TheVariants as effects
-use Rattle.tt_core.specs.declared.fault.StepFault.TheVariants.{NoMemory, WriteFault}
-use Rattle.tt_core.specs.declared.standing.Standing.TheVariants.{Running, Over, Failed}
-use Rattle.tt_core.specs.Machine.{Beginning, Machine, start_machine, step, run_from, run}
+-- Where a system stands after a step.
+use Rattle.std.proofs.Common.{◌≡◌, ◌≢◌, ◌∙◌, ◌↔◌, ◌≤◌, ℕ, Bool, true, false, List, [], ◌∷◌, ◌++◌, Option, Some, None, IsSome, IsNone, IsTrue, is_some, option_map, option_and_then, ap, refl, sym, subst, append-nil, append_assoc, arith}
+use Rattle.tt_calls.specs.declared.request.Request.{Request}
+use Rattle.tt_calls.specs.declared.start.Start.TheVariants as start
+use Rattle.tt_core.specs.Asking.{first_doing}
+use Rattle.tt_core.specs.Crew.{Crew, crew_after, crew_of, ready, written_by}
+use Rattle.tt_core.specs.Machine.{Beginning, Machine, run, start_machine, step}
 use Rattle.tt_core.specs.Stage.{WritesOut}
-use Rattle.tt_core.specs.Standing.{IsAt, IsStanding}
-use Rattle.tt_core.specs.Steps.{Crew, CrewSteps, CrewCannot, HasMore, CanTry}
-use Rattle.tt_core.proofs.StepLemmas.{step-over}
-use Rattle.tt_core.proofs.RunLemmas.{steps-to, cannot-step, can-more, can-try, cannot-try}
-
--- a step and nothing after it
-run_from-one : (after : Option Machine) → option_and_then (λ next. run_from next []) after ≡ after
-run_from-one None = refl
-run_from-one (Some next) = refl
-
-run_from-both : (threads : List ℕ) (thread : ℕ) (after : Option Machine) → ((next : Machine) → run_from next (threads ++ thread ∷ []) ≡ option_and_then (λ last. step last thread) (run_from next threads)) → option_and_then (λ next. run_from next (threads ++ thread ∷ [])) after ≡ option_and_then (λ last. step last thread) (option_and_then (λ next. run_from next threads) after)
-run_from-both threads thread None more = refl
-run_from-both threads thread (Some next) more = more next
-
--- one more entry
-run_from-more : (machine : Machine) (threads : List ℕ) (thread : ℕ) → run_from machine (threads ++ thread ∷ []) ≡ option_and_then (λ last. step last thread) (run_from machine threads)
-run_from-more machine [] thread = run_from-one (step machine thread)
-run_from-more machine (one ∷ threads) thread = run_from-both threads thread (step machine one) (λ next. run_from-more next threads thread)
-
-run-more : (beginning : Beginning) (threads : List ℕ) (thread : ℕ) (machine : Machine) → run beginning threads ≡ Some machine → run beginning (threads ++ thread ∷ []) ≡ step machine thread
-unfolding run
-run-more beginning threads thread machine ran = rw (run_from-more (start_machine beginning) threads thread, ran) refl
-
--- main alone is at the start of its script
-pub begins-at : (beginning : Beginning) → IsPlain beginning.script → IsAt (start_machine beginning) beginning.script (record { main = beginning.script; servers = [] })
-begins-at beginning plain = record {
-  over = refl;
-  rows = [];
-  before = [];
-  others = [];
-  threads = refl;
-  replies = refl;
-  doing = refl;
-  serving = tt;
-  creates = plain.creates;
-  commands = plain.commands;
-  plain = plain.is;
-  few = omega (arith, plain.few_threads);
-}
+use Rattle.tt_core.specs.Standing.{IsStanding}
+use Rattle.tt_core.specs.declared.fault.StepFault.TheVariants.{NoMemory, WriteFault}
+use Rattle.tt_core.specs.declared.fault.StepFault.{StepFault}
+use Rattle.tt_core.proofs.StepLemmas.{IsStepped, done, ready-number, run-more, step-by, step-over, stepped}
+use Rattle.tt_devices.proofs.StreamLemmas.{Grows-append, Grows-same}
+use Rattle.tt_devices.specs.Streams.{Grows, GrowsByPart}
+use Rattle.tt_shared.specs.State.{start_state}
 
 -- a system that begins stands at the start
-pub begins : (beginning : Beginning) (out err : Option (List ℕ)) → IsPlain beginning.script → IsStanding beginning [] (record { main = beginning.script; servers = [] }) Running out out err err
+pub begins : (beginning : Beginning) (crew : Crew) (out err : Option (List ℕ)) → crew ≡ record { shared = start_state (start.Script beginning.script); doings = first_doing (start.Script beginning.script) ∷ [] } → IsStanding beginning [] crew None None out out err err
 unfolding run
-begins beginning out err plain = record {
+begins beginning crew out err is = record {
   machine = start_machine beginning;
   ran = refl;
-  stands = begins-at beginning plain;
+  at = is;
+  over_is = refl;
   out = Grows-same out;
   err = Grows-same err;
 }
 
+-- it goes on
+pub going : (beginning : Beginning) (numbers : List ℕ) (crew : Crew) (over : Option ℕ) (kept : Option StepFault) (old_out new_out old_err new_err : Option (List ℕ)) → IsStanding beginning numbers crew over kept old_out new_out old_err new_err → kept ≡ None → false ≡ is_some over → IsStanding beginning numbers crew None None old_out new_out old_err new_err
+going beginning numbers crew None kept old_out new_out old_err new_err is none goes = rw none at is
+going beginning numbers crew (Some code) kept old_out new_out old_err new_err is none goes = absurd (cc goes)
+
 -- want of memory
-pub stands-failed : (beginning : Beginning) (threads : List ℕ) (crew after : Crew) (old_out new_out old_err new_err : Option (List ℕ)) → IsStanding beginning threads crew Running old_out new_out old_err new_err → IsStanding beginning threads after (Failed NoMemory) old_out new_out old_err new_err
-stands-failed beginning threads crew after old_out new_out old_err new_err is = record {
+pub stands-failed : (beginning : Beginning) (numbers : List ℕ) (crew after : Crew) (over : Option ℕ) (old_out new_out old_err new_err : Option (List ℕ)) → IsStanding beginning numbers crew over None old_out new_out old_err new_err → IsStanding beginning numbers after over (Some NoMemory) old_out new_out old_err new_err
+stands-failed beginning numbers crew after over old_out new_out old_err new_err is = record {
   machine = is.machine;
   ran = is.ran;
-  stands = ((λ same. cc), is.stands.over);
+  at = λ same. cc;
+  over_is = is.over_is;
   out = is.out;
   err = is.err;
 }
@@ -74,146 +45,134 @@ stands-failed beginning threads crew after old_out new_out old_err new_err is = 
 same-grows : (old new : Option (List ℕ)) (before after : List ℕ) → after ≡ before → Grows old new before → Grows old new after
 same-grows old new before after same grew = rw same grew
 
--- the end
-pub stands-over : (beginning : Beginning) (threads : List ℕ) (thread : ℕ) (crew after : Crew) (old_out new_out old_err new_err : Option (List ℕ)) → IsStanding beginning threads crew Running old_out new_out old_err new_err → CrewSteps crew thread effects.End after → IsStanding beginning (threads ++ thread ∷ []) after (Over 0) old_out new_out old_err new_err
-stands-over beginning threads thread crew after old_out new_out old_err new_err is steps =
-    let to = steps-to is.machine beginning.script crew after thread effects.End is.stands steps in
-    record {
-      machine = to.next;
-      ran = run-more beginning threads thread is.machine is.ran ∙ to.is;
-      stands = to.over;
-      out = same-grows old_out new_out is.machine.shared.out to.next.shared.out to.out is.out;
-      err = same-grows old_err new_err is.machine.shared.err to.next.shared.err to.err is.err;
-    }
+-- ---- the thread is ready ----
 
--- a step inside
-pub stands-stepped : (beginning : Beginning) (threads : List ℕ) (thread : ℕ) (crew after : Crew) (old_out new_out old_err new_err : Option (List ℕ)) → IsStanding beginning threads crew Running old_out new_out old_err new_err → CrewSteps crew thread effects.Nothing after → IsStanding beginning (threads ++ thread ∷ []) after Running old_out new_out old_err new_err
-stands-stepped beginning threads thread crew after old_out new_out old_err new_err is steps =
-    let to = steps-to is.machine beginning.script crew after thread effects.Nothing is.stands steps in
-    record {
-      machine = to.next;
-      ran = run-more beginning threads thread is.machine is.ran ∙ to.is;
-      stands = to.at;
-      out = same-grows old_out new_out is.machine.shared.out to.next.shared.out (to.out ∙ append-nil is.machine.shared.out) is.out;
-      err = same-grows old_err new_err is.machine.shared.err to.next.shared.err to.err is.err;
-    }
+-- the crew writes this, and goes on as this one
+abbrev pub Writes : Crew → ℕ → List ℕ → Type 0
+Writes crew number written = Some written ≡ written_by crew number (ready crew number)
 
--- a piece is put
-pub stands-wrote : (beginning : Beginning) (threads : List ℕ) (thread : ℕ) (crew after : Crew) (old_out mid_out new_out old_err new_err : Option (List ℕ)) (piece : List ℕ) → IsStanding beginning threads crew Running old_out mid_out old_err new_err → CrewSteps crew thread (effects.Write piece) after → Grows mid_out new_out piece → IsStanding beginning (threads ++ thread ∷ []) after Running old_out new_out old_err new_err
-stands-wrote beginning threads thread crew after old_out mid_out new_out old_err new_err piece is steps grew =
-    let to = (steps-to is.machine beginning.script crew after thread (effects.Write piece) is.stands steps).1 in
+abbrev pub GoesOn : Crew → ℕ → Crew → Type 0
+GoesOn crew number after = after ≡ crew_after crew number (ready crew number)
+
+to : (beginning : Beginning) (numbers : List ℕ) (number : ℕ) (crew after : Crew) (written : List ℕ) (old_out new_out old_err new_err : Option (List ℕ)) → (is : IsStanding beginning numbers crew None None old_out new_out old_err new_err) → Writes crew number written → GoesOn crew number after → IsStepped is.machine number written after
+to beginning numbers number crew after written old_out new_out old_err new_err is writes goes =
+    let P : Crew → Type 0 = λ one. Writes one number written in
+    let Q : Crew → Type 0 = λ one. GoesOn one number after in
+    stepped is.machine number written after (sym is.over_is) (subst P is.at writes) (subst Q is.at goes)
+
+-- a piece is put, and may be empty
+pub stands-wrote : (beginning : Beginning) (numbers : List ℕ) (number : ℕ) (crew after : Crew) (written : List ℕ) (over : Option ℕ) (old_out mid_out new_out old_err new_err : Option (List ℕ)) → IsStanding beginning numbers crew None None old_out mid_out old_err new_err → Writes crew number written → GoesOn crew number after → over ≡ after.shared.over → Grows mid_out new_out written → IsStanding beginning (numbers ++ number ∷ []) after over None old_out new_out old_err new_err
+stands-wrote beginning numbers number crew after written over old_out mid_out new_out old_err new_err is writes goes over_is grew =
+    let went = to beginning numbers number crew after written old_out mid_out old_err new_err is writes goes in
     record {
-      machine = to.next;
-      ran = run-more beginning threads thread is.machine is.ran ∙ to.is;
-      stands = to.at;
-      out = same-grows old_out new_out (is.machine.shared.out ++ piece) to.next.shared.out to.out (Grows-append old_out mid_out new_out is.machine.shared.out piece is.out grew);
-      err = same-grows old_err new_err is.machine.shared.err to.next.shared.err to.err is.err;
+      machine = went.next;
+      ran = run-more beginning numbers number is.machine is.ran ∙ went.is;
+      at = went.at;
+      over_is = over_is ∙ ap (λ (one : Crew). one.shared.over) went.at;
+      out = same-grows old_out new_out (is.machine.out ++ written) went.next.out went.out (Grows-append old_out mid_out new_out is.machine.out written is.out grew);
+      err = same-grows old_err new_err is.machine.err went.next.err went.err is.err;
     }
 
 -- a part of a piece is put
-pub stands-cut : (beginning : Beginning) (threads : List ℕ) (thread : ℕ) (crew after : Crew) (old_out mid_out new_out old_err new_err : Option (List ℕ)) (piece : List ℕ) → IsStanding beginning threads crew Running old_out mid_out old_err new_err → CrewSteps crew thread (effects.Write piece) after → GrowsByPart mid_out new_out piece → IsStanding beginning (threads ++ thread ∷ []) after (Failed WriteFault) old_out new_out old_err new_err
-stands-cut beginning threads thread crew after old_out mid_out new_out old_err new_err piece is steps grew =
-    let to = (steps-to is.machine beginning.script crew after thread (effects.Write piece) is.stands steps).1 in
+pub stands-cut : (beginning : Beginning) (numbers : List ℕ) (number : ℕ) (crew after : Crew) (written : List ℕ) (over : Option ℕ) (old_out mid_out new_out old_err new_err : Option (List ℕ)) → IsStanding beginning numbers crew None None old_out mid_out old_err new_err → Writes crew number written → GoesOn crew number after → over ≡ after.shared.over → GrowsByPart mid_out new_out written → IsStanding beginning (numbers ++ number ∷ []) after over (Some WriteFault) old_out new_out old_err new_err
+stands-cut beginning numbers number crew after written over old_out mid_out new_out old_err new_err is writes goes over_is grew =
+    let went = to beginning numbers number crew after written old_out mid_out old_err new_err is writes goes in
     record {
-      machine = to.next;
-      ran = run-more beginning threads thread is.machine is.ran ∙ to.is;
-      stands = ((λ same. cc), to.at.over);
+      machine = went.next;
+      ran = run-more beginning numbers number is.machine is.ran ∙ went.is;
+      at = λ same. cc;
+      over_is = over_is ∙ ap (λ (one : Crew). one.shared.over) went.at;
       out = record {
-        earlier = threads;
-        last = thread;
+        earlier = numbers;
+        last = number;
         entries = refl;
         before = is.machine;
         ran = is.ran;
         part = grew.part;
         rest = grew.rest;
-        cut = to.out ∙ ap (λ (bytes : List ℕ). is.machine.shared.out ++ bytes) grew.cut ∙ sym (append_assoc is.machine.shared.out grew.part grew.rest);
-        grew = Grows-append old_out mid_out new_out is.machine.shared.out grew.part is.out grew.grew;
+        cut = went.out ∙ ap (λ (bytes : List ℕ). is.machine.out ++ bytes) grew.cut ∙ sym (append_assoc is.machine.out grew.part grew.rest);
+        grew = Grows-append old_out mid_out new_out is.machine.out grew.part is.out grew.grew;
       };
       err = record {
-        earlier = threads;
-        last = thread;
+        earlier = numbers;
+        last = number;
         entries = refl;
         before = is.machine;
         ran = is.ran;
         part = [];
         rest = [];
-        cut = to.err ∙ sym (append-nil (is.machine.shared.err ++ []) ∙ append-nil is.machine.shared.err);
+        cut = went.err ∙ sym (append-nil (is.machine.err ++ []) ∙ append-nil is.machine.err);
         grew = rw append-nil is.err;
       };
     }
 
+-- ---- whether the machine can step ----
+
 -- the machine after one more step of a schedule
 abbrev pub next : Beginning → List ℕ → ℕ → Option Machine
-next beginning threads thread = option_and_then (λ machine. step machine thread) (run beginning threads)
+next beginning numbers number = option_and_then (λ machine. step machine number) (run beginning numbers)
 
 none-is : {X : Type 0} (found : Option X) → found ≡ None → IsNone found
 none-is None e = refl
 none-is (Some x) e = cc
 
-none-can : {X : Type 0} (found : Option X) → found ≡ None → IsSome found → ⊥
-none-can None e some = cc
-none-can (Some x) e some = cc
-
 pub some-cannot : {X : Type 0} (found : Option X) → IsSome found → IsNone found → ⊥
 some-cannot None some none = cc
 some-cannot (Some x) some none = cc
 
-some-can : {X : Type 0} (found : Option X) (x : X) → found ≡ Some x → IsSome found
-some-can found x e = rw e refl
+some-map : {X Y : Type 0} (f : X → Y) (found : Option X) → IsSome found → IsSome (option_map f found)
+some-map f None some = cc
+some-map f (Some x) some = refl
+
+of-map : {X Y : Type 0} (f : X → Y) (found : Option X) → IsSome (option_map f found) → IsSome found
+of-map f None some = cc
+of-map f (Some x) some = refl
+
+next-is : (beginning : Beginning) (numbers : List ℕ) (crew : Crew) (number : ℕ) (old_out new_out old_err new_err : Option (List ℕ)) → (is : IsStanding beginning numbers crew None None old_out new_out old_err new_err) → next beginning numbers number ≡ option_map (done is.machine number) (ready crew number)
+next-is beginning numbers crew number old_out new_out old_err new_err is = rw (is.ran, is.at) (step-by is.machine number (sym is.over_is))
 
 -- the machine of a run that is over takes no step
-pub next-over : (beginning : Beginning) (threads : List ℕ) (crew : Crew) (thread code : ℕ) (old_out new_out old_err new_err : Option (List ℕ)) → IsStanding beginning threads crew (Over code) old_out new_out old_err new_err → IsNone (next beginning threads thread)
-next-over beginning threads crew thread code old_out new_out old_err new_err is = none-is _ (rw is.ran (step-over is.machine thread code is.stands))
+pub next-over : (beginning : Beginning) (numbers : List ℕ) (crew : Crew) (number : ℕ) (over : Option ℕ) (old_out new_out old_err new_err : Option (List ℕ)) → IsStanding beginning numbers crew over None old_out new_out old_err new_err → true ≡ is_some over → IsNone (next beginning numbers number)
+next-over beginning numbers crew number None old_out new_out old_err new_err is e = absurd (cc e)
+next-over beginning numbers crew number (Some code) old_out new_out old_err new_err is e = none-is _ (rw is.ran (step-over is.machine number code (sym is.over_is)))
 
-pub next-cannot : (beginning : Beginning) (threads : List ℕ) (crew : Crew) (thread : ℕ) (old_out new_out old_err new_err : Option (List ℕ)) → IsStanding beginning threads crew Running old_out new_out old_err new_err → CrewCannot crew thread → IsNone (next beginning threads thread)
-next-cannot beginning threads crew thread old_out new_out old_err new_err is cannot = none-is _ (rw is.ran (cannot-step is.machine beginning.script crew thread is.stands cannot))
+pub next-some : (beginning : Beginning) (numbers : List ℕ) (crew : Crew) (number : ℕ) (old_out new_out old_err new_err : Option (List ℕ)) → IsStanding beginning numbers crew None None old_out new_out old_err new_err → IsSome (ready crew number) → IsSome (next beginning numbers number)
+next-some beginning numbers crew number old_out new_out old_err new_err is some = rw (next-is beginning numbers crew number old_out new_out old_err new_err is) (some-map (done is.machine number) (ready crew number) some)
 
-pub next-more : (beginning : Beginning) (threads : List ℕ) (crew : Crew) (thread : ℕ) (old_out new_out old_err new_err : Option (List ℕ)) → IsStanding beginning threads crew Running old_out new_out old_err new_err → HasMore crew thread → IsSome (next beginning threads thread)
-next-more beginning threads crew thread old_out new_out old_err new_err is more = rw is.ran (can-more is.machine beginning.script crew thread is.stands more)
+pub next-ready : (beginning : Beginning) (numbers : List ℕ) (crew : Crew) (number : ℕ) (old_out new_out old_err new_err : Option (List ℕ)) → IsStanding beginning numbers crew None None old_out new_out old_err new_err → IsSome (next beginning numbers number) → IsSome (ready crew number)
+next-ready beginning numbers crew number old_out new_out old_err new_err is some = of-map (done is.machine number) (ready crew number) (rw (next-is beginning numbers crew number old_out new_out old_err new_err is) at some)
 
-pub next-try : (beginning : Beginning) (threads : List ℕ) (crew : Crew) (thread : ℕ) (old_out new_out old_err new_err : Option (List ℕ)) → IsStanding beginning threads crew Running old_out new_out old_err new_err → CanTry crew thread → IsSome (next beginning threads thread)
-next-try beginning threads crew thread old_out new_out old_err new_err is can = rw is.ran (can-try is.machine beginning.script crew thread is.stands can)
+not-written : (crew : Crew) (number : ℕ) (request : Option Request) → None ≡ written_by crew number request → request ≡ None
+not-written crew number None e = refl
+not-written crew number (Some request) e = absurd (cc e)
 
-pub next-not : (beginning : Beginning) (threads : List ℕ) (crew : Crew) (thread : ℕ) (old_out new_out old_err new_err : Option (List ℕ)) → IsStanding beginning threads crew Running old_out new_out old_err new_err → ¬ (CanTry crew thread) → IsSome (next beginning threads thread) → ⊥
-next-not beginning threads crew thread old_out new_out old_err new_err is cannot some = none-can _ (rw is.ran (cannot-try is.machine beginning.script crew thread is.stands cannot)) some
+pub next-none : (beginning : Beginning) (numbers : List ℕ) (crew : Crew) (number : ℕ) (old_out new_out old_err new_err : Option (List ℕ)) → IsStanding beginning numbers crew None None old_out new_out old_err new_err → None ≡ written_by crew number (ready crew number) → IsNone (next beginning numbers number)
+next-none beginning numbers crew number old_out new_out old_err new_err is none = none-is _ (next-is beginning numbers crew number old_out new_out old_err new_err is ∙ ap (option_map (done is.machine number)) (not-written crew number (ready crew number) none))
 
-pub next-over-not : (beginning : Beginning) (threads : List ℕ) (crew : Crew) (thread code : ℕ) (old_out new_out old_err new_err : Option (List ℕ)) → IsStanding beginning threads crew (Over code) old_out new_out old_err new_err → IsSome (next beginning threads thread) → ⊥
-next-over-not beginning threads crew thread code old_out new_out old_err new_err is some = none-can _ (rw is.ran (step-over is.machine thread code is.stands)) some
+-- what was written came of a thread that was ready
+writes-some : (crew : Crew) (number : ℕ) (written : List ℕ) (request : Option Request) → Some written ≡ written_by crew number request → IsSome request
+writes-some crew number written None e = absurd (cc e)
+writes-some crew number written (Some request) e = refl
 
--- the thread of a step has a number that a schedule may have
-pub in-range : (beginning : Beginning) (threads : List ℕ) (crew after : Crew) (thread : ℕ) (effect : Effect) (old_out new_out old_err new_err : Option (List ℕ)) → IsStanding beginning threads crew Running old_out new_out old_err new_err → CrewSteps crew thread effect after → IsInRange thread
-unfolding most_creates
-in-range beginning threads crew after thread effect old_out new_out old_err new_err is (inl main) = (omega (arith, main.0), omega (arith, main.0))
-in-range beginning threads crew after thread effect old_out new_out old_err new_err is (inr server) =
-    let within = slice_get_within crew.servers server.0 server.2.before server.2.there in
-    (omega (arith, server.1), omega (arith, server.1, within, is.stands.few))
+pub writes-ready : (crew : Crew) (number : ℕ) (written : List ℕ) → Writes crew number written → IsSome (ready crew number)
+writes-ready crew number written writes = writes-some crew number written (ready crew number) writes
 
--- a test that holds where the fact does
-pub true-when : (answer : Bool) (P : Type 0) → (P → IsTrue answer) → ((P → ⊥) → ⊥) → IsTrue answer
-true-when true P holds some = refl
-true-when false P holds some = absurd (some (λ p. let no = holds p in cc))
+pub writes-number : (crew : Crew) (number : ℕ) (written : List ℕ) → Writes crew number written → 1 ≤ number
+writes-number crew number written writes = go (ready crew number) refl writes
+  where
+    go : (request : Option Request) → ready crew number ≡ request → Some written ≡ written_by crew number request → 1 ≤ number
+    go None is e = absurd (cc e)
+    go (Some request) is e = ready-number crew number request is
 
--- a step that was taken could be taken
-pub next-some : (beginning : Beginning) (threads : List ℕ) (crew after : Crew) (thread : ℕ) (effect : Effect) (old_out new_out old_err new_err : Option (List ℕ)) → IsStanding beginning threads crew Running old_out new_out old_err new_err → CrewSteps crew thread effect after → IsSome (next beginning threads thread)
-next-some beginning threads crew after thread effects.Nothing old_out new_out old_err new_err is steps =
-    let to = steps-to is.machine beginning.script crew after thread effects.Nothing is.stands steps in
-    rw is.ran (some-can _ to.next to.is)
-next-some beginning threads crew after thread (effects.Write piece) old_out new_out old_err new_err is steps =
-    let to = (steps-to is.machine beginning.script crew after thread (effects.Write piece) is.stands steps).1 in
-    rw is.ran (some-can _ to.next to.is)
-next-some beginning threads crew after thread effects.End old_out new_out old_err new_err is steps =
-    let to = steps-to is.machine beginning.script crew after thread effects.End is.stands steps in
-    rw is.ran (some-can _ to.next to.is)
-
-pub next-writes : (beginning : Beginning) (threads : List ℕ) (crew after : Crew) (thread : ℕ) (piece : List ℕ) (old_out new_out old_err new_err : Option (List ℕ)) → IsStanding beginning threads crew Running old_out new_out old_err new_err → CrewSteps crew thread (effects.Write piece) after → WritesOut (run beginning threads) (next beginning threads thread)
-next-writes beginning threads crew after thread piece old_out new_out old_err new_err is steps =
-    let some = steps-to is.machine beginning.script crew after thread (effects.Write piece) is.stands steps in
+pub next-writes : (beginning : Beginning) (numbers : List ℕ) (number : ℕ) (crew after : Crew) (written : List ℕ) (old_out new_out old_err new_err : Option (List ℕ)) → IsStanding beginning numbers crew None None old_out new_out old_err new_err → Writes crew number written → GoesOn crew number after → written ≢ [] → WritesOut (run beginning numbers) (next beginning numbers number)
+next-writes beginning numbers number crew after written old_out new_out old_err new_err is writes goes some =
+    let went = to beginning numbers number crew after written old_out new_out old_err new_err is writes goes in
     record {
       before = is.machine;
-      after = some.1.next;
-      piece = piece;
+      after = went.next;
+      piece = written;
       is_earlier = is.ran;
-      is_later = rw is.ran some.1.is;
-      some = some.0;
-      more = some.1.out;
+      is_later = rw is.ran went.is;
+      some = some;
+      more = went.out;
     }

@@ -1,313 +1,198 @@
-use Rattle.std.proofs.Common.{◌≡◌, ◌∙◌, ◌<◌, ℕ, suc, true, false, nat_lt, List, [], ◌∷◌, ◌++◌, length, map, slice_get, slice_set, Some, None, ap, refl, sym, arith, append-nil, subst}
-use Rattle.std.proofs.lemmas.Bool.{lt-ltb}
-use Rattle.std.proofs.lemmas.List.{length_push, length-set}
-use Rattle.std.proofs.lemmas.Option.{slice_get_within}
-use Rattle.tt_plain.specs.PlainScript.{Command, Puts, First, Nothing, Found, Other, first, thread_id, IsPutsList, puts_end, IsScript, most_creates}
+-- A step of the machine by what its threads are at.
+use Rattle.std.proofs.Common.{◌≡◌, ◌∙◌, ◌≤◌, ◌-◌, ◌==◌, ℕ, zero, suc, Bool, true, false, List, [], ◌∷◌, ◌++◌, length, drop, map, Option, Some, None, option_map, option_and_then, slice_get, slice_set, if◌then◌else◌, nat_lt, ap, refl, sym, subst, arith, append-nil}
+use Rattle.std.proofs.lemmas.List.{length-map, map-append, map-set}
+use Rattle.std.proofs.lemmas.Option.{slice_get-map}
+use Rattle.std.proofs.lemmas.Simd.{map-map}
+use Rattle.tt_calls.specs.declared.event.Event.{Event}
+use Rattle.tt_calls.specs.declared.reply.Reply.{Reply}
+use Rattle.tt_calls.specs.declared.request.Mode.TheVariants.{Later}
+use Rattle.tt_calls.specs.declared.request.Request.{Request}
+use Rattle.tt_calls.specs.declared.request.Request.TheVariants as ask
+use Rattle.tt_core.specs.Asking.{Doing, Evaluates, Serves, after_replies, after_reply, asked_of, first_doing, request_of, request_or}
+use Rattle.tt_core.specs.Crew.{Crew, all_begun, asked_at, asked_by, begins, crew_after, crew_of, doing_of_number, if_enabled, is_at, ready, told_at, told_unless, written_by}
+use Rattle.tt_core.specs.Crew as crew
+use Rattle.tt_core.specs.Machine.{Beginning, Machine, Thread, after_act, is_last, joined, new_thread, next_of, replied, replied_at, run, run_from, start_machine, step, step_asked, step_unless, thread_of, told}
+use Rattle.tt_plain.specs.PlainScript.{Command, First, Found, Nothing, Other, Puts, first}
 use Rattle.tt_plain.specs.PlainScript as plain
-use Rattle.tt_core.specs.Machine.{Machine, Shared, Thread, Event, Sent, Reply, Go, Value, Posted, Taken, Request, WriteOut, Create, Send, Take, End, Script, Wait, Live, Evaluates, Serves, request_or, asked, asked_by, act, after_answer, step, is_enabled, of_thread, living, most_living, linked, sends, takes, for_each}
-use Rattle.tt_core.specs.Steps.{Serving, Crew, idle}
-use Rattle.tt_core.specs.Standing.{IsServing, AreServing, IsAt, ArePutsLists, script_of}
-use Rattle.tt_core.proofs.PlainLemmas.{puts-next, script-puts, script-create, script-send}
-use Rattle.tt_core.proofs.ServingLemmas.{doing-more, serving-at, serving-past, serving-set, set-same, serving-add, for_each-same, serving-length, living-few, linked-at, linked-past}
+use Rattle.tt_shared.specs.Acts.{act}
+use Rattle.tt_shared.specs.Enabled.{enabled}
+use Rattle.tt_shared.specs.Mail.{first_of}
+use Rattle.tt_shared.specs.Sends.{sends_named, takes_first}
+use Rattle.tt_shared.specs.State.{Acted, State}
+use Rattle.tt_shared.specs.declared.applied.Line.TheVariants.{NotRead}
+use Rattle.tt_threads.specs.Rows.{is_living, linked, living, most_living}
+use Rattle.tt_threads.specs.declared.row.Row.{Row}
 
--- ---- what threads ask ----
+-- ---- what threads are at ----
 
-pub asked-main : (machine : Machine) (script : List ℕ) (crew : Crew) → IsAt machine script crew → asked machine 1 ≡ request_or (End 0) (first crew.main)
-asked-main machine script crew at = rw (at.threads, at.replies, at.doing) refl
+-- a reply more
+pub replies-more : (doing : Option Doing) (replies : List Reply) (reply : Reply) → after_replies doing (replies ++ reply ∷ []) ≡ option_and_then (after_reply reply) (after_replies doing replies)
+replies-more doing [] reply = refl
+replies-more doing (one ∷ replies) reply = replies-more (option_and_then (after_reply one) doing) replies reply
 
-asked-serving : (thread : Thread) (replies : List Reply) (server : Serving) → IsServing thread replies server → asked_by (Some thread) (Some replies) ≡ request_or Take (first server.left)
-asked-serving thread replies server is = rw (is.life, is.start, is.doing) refl
+-- what a thread asks
+asked-found : (found : Option Thread) → option_and_then asked_at (option_map is_at found) ≡ option_and_then next_of found
+asked-found None = refl
+asked-found (Some thread) = refl
 
-pub asked-server : (machine : Machine) (script : List ℕ) (crew : Crew) (place : ℕ) (server : Serving) → IsAt machine script crew → slice_get crew.servers place ≡ Some server → asked machine (suc (suc place)) ≡ request_or Take (first server.left)
-asked-server machine script crew place server at there =
-    let one = serving-at at.rows at.others crew.servers place server at.serving there in
-    rw (at.threads, at.replies, one.thread_there, one.replies_there) (asked-serving one.thread one.replies server one.is)
+pub asked-map : (threads : List Thread) (number : ℕ) → asked_by (map is_at threads) number ≡ option_and_then next_of (thread_of threads number)
+asked-map threads number = go (number == 0)
+  where
+    go : (is : Bool) → option_and_then asked_at (if is then None else slice_get (map is_at threads) (number - 1)) ≡ option_and_then next_of (if is then None else slice_get threads (number - 1))
+    go true = refl
+    go false = ap (option_and_then asked_at) (slice_get-map is_at threads (number - 1)) ∙ asked-found (slice_get threads (number - 1))
 
-pub asked-past : (machine : Machine) (script : List ℕ) (crew : Crew) (place : ℕ) → IsAt machine script crew → slice_get crew.servers place ≡ None → asked machine (suc (suc place)) ≡ None
-asked-past machine script crew place at there = rw (at.threads, serving-past at.rows at.others crew.servers place at.serving there) refl
+-- threads that were made begin
+joined-map : (threads : List Thread) (rows : List Row) → map is_at (joined threads rows) ≡ all_begun (map is_at threads) rows
+joined-map threads rows = rw (map-append is_at threads (map new_thread (drop (length threads) rows)), map-map is_at new_thread (drop (length threads) rows), length-map threads is_at) refl
+
+-- a thread is told
+replied-found : (threads : List Thread) (number : ℕ) (reply : Reply) (found : Option Thread) → map is_at (replied_at threads number reply found) ≡ told_at (map is_at threads) number reply (option_map is_at found)
+replied-found threads number reply None = refl
+replied-found threads number reply (Some thread) = rw (map-set is_at threads (number - 1) (told reply thread), replies-more (first_doing thread.start) thread.replies reply) refl
+
+replied-map : (threads : List Thread) (number : ℕ) (request : Request) (reply : Reply) → map is_at (replied threads number request reply) ≡ told_unless (is_last request) (map is_at threads) number reply
+replied-map threads number request reply = go (is_last request) (number == 0)
+  where
+    go : (last is : Bool) → map is_at (if last then threads else replied_at threads number reply (if is then None else slice_get threads (number - 1))) ≡ (if last then map is_at threads else told_at (map is_at threads) number reply (if is then None else slice_get (map is_at threads) (number - 1)))
+    go true is = refl
+    go false true = refl
+    go false false = rw (slice_get-map is_at threads (number - 1)) (replied-found threads number reply (slice_get threads (number - 1)))
+
+-- the machine after a request is where the crew is
+pub after-crew : (machine : Machine) (number : ℕ) (request : Request) (acted : Acted) → crew_of (after_act machine number request acted) ≡ crew.after_act (crew_of machine) number request acted
+after-crew machine number request acted = ap (λ doings. record { shared = acted.state; doings = doings }) (joined-map (replied machine.threads number request acted.gives.reply) acted.state.rows ∙ ap (λ doings. all_begun doings acted.state.rows) (replied-map machine.threads number request acted.gives.reply))
 
 -- ---- steps ----
 
-pub step-asked : (machine : Machine) (thread : ℕ) (request : Request) → machine.shared.over ≡ None → asked machine thread ≡ Some request → is_enabled machine.shared thread request ≡ true → step machine thread ≡ Some (after_answer machine thread (act machine.shared thread request))
+-- the machine after this request, where there is one
+abbrev pub done : Machine → ℕ → Request → Machine
+done machine number request = after_act machine number request (act machine.shared number request NotRead)
+
+step-if : (machine : Machine) (number : ℕ) (request : Request) (can : Bool) → (if can then Some (done machine number request) else None) ≡ option_map (done machine number) (if can then Some request else None)
+step-if machine number request true = refl
+step-if machine number request false = refl
+
+step-ready : (machine : Machine) (number : ℕ) (living : Bool) (asked : Option Request) → step_asked machine number (if living then asked else None) ≡ option_map (done machine number) (if living then if_enabled machine.shared number asked else None)
+step-ready machine number false asked = refl
+step-ready machine number true None = refl
+step-ready machine number true (Some request) = step-if machine number request (enabled machine.shared number request)
+
+-- a step is that of a request that is ready
+pub step-by : (machine : Machine) (number : ℕ) → machine.shared.over ≡ None → step machine number ≡ option_map (done machine number) (ready (crew_of machine) number)
 unfolding step
-step-asked machine thread request over is enabled = rw (over, is, enabled) refl
+step-by machine number over = ap (λ code. step_unless code machine number) over ∙ rw (asked-map machine.threads number) (step-ready machine number (is_living machine.shared.rows number) (option_and_then next_of (thread_of machine.threads number)))
 
-pub step-disabled : (machine : Machine) (thread : ℕ) (request : Request) → asked machine thread ≡ Some request → is_enabled machine.shared thread request ≡ false → machine.shared.over ≡ None → step machine thread ≡ None
+pub step-over : (machine : Machine) (number code : ℕ) → machine.shared.over ≡ Some code → step machine number ≡ None
 unfolding step
-step-disabled machine thread request is enabled over = rw (over, is, enabled) refl
+step-over machine number code e = rw e refl
 
-pub step-unasked : (machine : Machine) (thread : ℕ) → machine.shared.over ≡ None → asked machine thread ≡ None → step machine thread ≡ None
-unfolding step
-step-unasked machine thread over is = rw (over, is) refl
+-- a step and nothing after it
+run_from-one : (after : Option Machine) → option_and_then (λ next. run_from next []) after ≡ after
+run_from-one None = refl
+run_from-one (Some next) = refl
 
-pub step-over : (machine : Machine) (thread code : ℕ) → machine.shared.over ≡ Some code → step machine thread ≡ None
-unfolding step
-step-over machine thread code e = rw e refl
+run_from-both : (numbers : List ℕ) (number : ℕ) (after : Option Machine) → ((next : Machine) → run_from next (numbers ++ number ∷ []) ≡ option_and_then (λ last. step last number) (run_from next numbers)) → option_and_then (λ next. run_from next (numbers ++ number ∷ [])) after ≡ option_and_then (λ last. step last number) (option_and_then (λ next. run_from next numbers) after)
+run_from-both numbers number None more = refl
+run_from-both numbers number (Some next) more = more next
 
--- the machine steps, goes on where the code has it, and writes this
-pub record IsStepped (machine : Machine) (thread : ℕ) (script piece : List ℕ) (crew : Crew) : Type 0 where
-  pub next : Machine
-  pub is : step machine thread ≡ Some next
-  pub at : IsAt next script crew
-  pub out : next.shared.out ≡ machine.shared.out ++ piece
-  pub err : next.shared.err ≡ machine.shared.err
+-- one more entry
+pub run_from-more : (machine : Machine) (numbers : List ℕ) (number : ℕ) → run_from machine (numbers ++ number ∷ []) ≡ option_and_then (λ last. step last number) (run_from machine numbers)
+run_from-more machine [] number = run_from-one (step machine number)
+run_from-more machine (one ∷ numbers) number = run_from-both numbers number (step machine one) (λ next. run_from-more next numbers number)
 
--- the machine steps, and is over
-pub record IsEnded (machine : Machine) (thread : ℕ) : Type 0 where
-  pub next : Machine
-  pub is : step machine thread ≡ Some next
-  pub over : next.shared.over ≡ Some 0
-  pub out : next.shared.out ≡ machine.shared.out
-  pub err : next.shared.err ≡ machine.shared.err
+pub run-more : (beginning : Beginning) (numbers : List ℕ) (number : ℕ) (machine : Machine) → run beginning numbers ≡ Some machine → run beginning (numbers ++ number ∷ []) ≡ step machine number
+unfolding run
+run-more beginning numbers number machine ran = rw (run_from-more (start_machine beginning) numbers number, ran) refl
 
--- main ends
-pub main-ends : (machine : Machine) (script : List ℕ) (crew : Crew) → IsAt machine script crew → first crew.main ≡ Nothing → IsEnded machine 1
-main-ends machine script crew at e = record {
-  next = after_answer machine 1 (act machine.shared 1 (End 0));
-  is = step-asked machine 1 (End 0) at.over (asked-main machine script crew at ∙ ap (request_or (End 0)) e) refl;
-  over = refl;
-  out = refl;
-  err = refl;
-}
+-- a thread that is ready has a number from 1
+pub ready-number : (crew : Crew) (number : ℕ) (request : Request) → ready crew number ≡ Some request → 1 ≤ number
+ready-number crew zero request is = absurd (cc is)
+ready-number crew (suc number) request is = omega arith
 
--- main lives, with no events
-abbrev pub main_row : List ℕ → Thread
-main_row script = record { start = Script script; life = Live; queue = [] }
+-- ---- no plain script writes on standard error ----
 
-same-replies : (main : Thread) (rows : List Thread) (others : List (List Reply)) (servers : List Serving) (before : List Reply) → AreServing rows others servers → for_each (main ∷ rows) (before ∷ others) ≡ before ∷ others
-same-replies main rows others servers before are = ap (λ rest. before ∷ rest) (for_each-same rows others servers are)
+silent-either : (can : Bool) (one other : Acted) → one.gives.err ≡ [] → other.gives.err ≡ [] → (if can then one else other).gives.err ≡ []
+silent-either true one other is also = is
+silent-either false one other is also = also
 
-pub main-writes : (machine : Machine) (script : List ℕ) (crew : Crew) (word rest : List ℕ) → IsAt machine script crew → first crew.main ≡ Found (Puts word) rest → IsStepped machine 1 script (word ++ 10 ∷ []) (record { main = rest; servers = crew.servers })
-main-writes machine script crew word rest at e =
-    let left = script-puts (length crew.servers) at.creates at.commands crew.main word rest at.plain e in
-    record {
-      next = after_answer machine 1 (act machine.shared 1 (WriteOut (word ++ 10 ∷ [])));
-      is = step-asked machine 1 (WriteOut (word ++ 10 ∷ [])) at.over (asked-main machine script crew at ∙ ap (request_or (End 0)) e) refl;
-      at = record {
-        over = at.over;
-        rows = at.rows;
-        before = at.before ++ Go ∷ [];
-        others = at.others;
-        threads = at.threads;
-        replies = rw (at.threads, at.replies) (same-replies (main_row script) at.rows at.others crew.servers (at.before ++ Go ∷ []) at.serving);
-        doing = doing-more (Evaluates script) (Evaluates crew.main) (Evaluates rest) at.before Go at.doing (rw e refl);
-        serving = at.serving;
-        creates = at.creates;
-        commands = left.commands;
-        plain = left.plain;
-        few = at.few;
-      };
-      out = refl;
-      err = refl;
-    }
+silent-create : (state : State) (number : ℕ) (script : List ℕ) → (act state number (ask.Create false false script) NotRead).gives.err ≡ []
+silent-create state number script = silent-either (nat_lt (living state.rows) most_living) _ _ refl refl
 
-few-live : (threads : List Thread) → length threads < 1000 → nat_lt (living threads) most_living ≡ true
-unfolding most_living
-few-live threads few = lt-ltb (living threads) 1000 (omega (arith, living-few threads, few))
+silent-named : (state : State) (number : ℕ) (id script : List ℕ) (found : Option ℕ) → (sends_named state number id script Later None false found).gives.err ≡ []
+silent-named state number id script None = refl
+silent-named state number id script (Some target) = refl
 
-new-row : (rows : List Thread) (others : List (List Reply)) (servers : List Serving) (main row : Thread) (before : List Reply) → AreServing rows others servers → for_each (main ∷ (rows ++ row ∷ [])) (before ∷ others) ≡ before ∷ (others ++ [] ∷ [])
-new-row rows others servers main row before are = ap (λ rest. before ∷ rest) (go rows others servers are)
+silent-command : (state : State) (number : ℕ) (command : Command) → (act state number (asked_of command) NotRead).gives.err ≡ []
+silent-command state number (Puts word) = refl
+silent-command state number plain.Create = silent-create state number _
+silent-command state number (plain.Send id script) = silent-named state number id script (linked state.rows id)
+
+-- a request that writes nothing there
+abbrev IsSilent : State → ℕ → Request → Type 0
+IsSilent state number request = (act state number request NotRead).gives.err ≡ []
+
+silent-or : (state : State) (number : ℕ) (last request : Request) (read : First) → IsSilent state number last → request_or last read ≡ Some request → IsSilent state number request
+silent-or state number last request Nothing silent is = let same : last ≡ request = cc is in rw (← same) silent
+silent-or state number last request (Found command rest) silent is = let same : asked_of command ≡ request = cc is in rw (← same) (silent-command state number command)
+silent-or state number last request Other silent is = absurd (cc is)
+
+silent-first : (state : State) (number : ℕ) (found : Option Event) → (takes_first state number found).gives.err ≡ []
+silent-first state number None = refl
+silent-first state number (Some event) = refl
+
+silent-take : (state : State) (number : ℕ) → IsSilent state number ask.Take
+silent-take state number = silent-first state number (first_of state.queues number)
+
+silent-at : (state : State) (number : ℕ) (request : Request) (doing : Option Doing) → asked_at doing ≡ Some request → IsSilent state number request
+silent-at state number request None is = absurd (cc is)
+silent-at state number request (Some (Evaluates left)) is = silent-or state number (ask.End _) request (first left) refl is
+silent-at state number request (Some (Serves left)) is = silent-or state number ask.Take request (first left) (silent-take state number) is
+
+silent-found : (state : State) (number : ℕ) (request : Request) (found : Option (Option Doing)) → option_and_then asked_at found ≡ Some request → IsSilent state number request
+silent-found state number request None is = absurd (cc is)
+silent-found state number request (Some doing) is = silent-at state number request doing is
+
+enabled-is : (state : State) (number : ℕ) (request : Request) (asked : Option Request) → if_enabled state number asked ≡ Some request → asked ≡ Some request
+enabled-is state number request None is = absurd (cc is)
+enabled-is state number request (Some one) is = go (enabled state number one) is
   where
-    go : (rows : List Thread) (others : List (List Reply)) (servers : List Serving) → AreServing rows others servers → for_each (rows ++ row ∷ []) others ≡ others ++ [] ∷ []
-    go [] [] servers are = refl
-    go [] (replies ∷ others) servers are = absurd are
-    go (thread ∷ rows) [] servers are = absurd are
-    go (thread ∷ rows) (replies ∷ others) [] are = absurd are
-    go (thread ∷ rows) (replies ∷ others) (server ∷ servers) are = ap (λ rest. replies ∷ rest) (go rows others servers are.1)
+    go : (can : Bool) → (if can then Some one else None) ≡ Some request → Some one ≡ Some request
+    go true is = is
+    go false is = absurd (cc is)
 
-abbrev pub made : Thread
-made = record { start = Wait; life = Live; queue = [] }
+silent-if : (shared : State) (doings : List (Option Doing)) (number : ℕ) (request : Request) (living : Bool) → (if living then if_enabled shared number (asked_by doings number) else None) ≡ Some request → IsSilent shared number request
+silent-if shared doings number request false is = absurd (cc is)
+silent-if shared doings number request true is = silent-found shared number request (doing_of_number doings number) (enabled-is shared number request (asked_by doings number) is)
 
-nothing-left : IsPutsList 0 []
-unfolding first
-nothing-left = puts_end refl
+pub silent-ready : (crew : Crew) (number : ℕ) (request : Request) → ready crew number ≡ Some request → (act crew.shared number request NotRead).gives.err ≡ []
+silent-ready crew number request is = silent-if crew.shared crew.doings number request (is_living crew.shared.rows number) is
 
-pub main-creates : (machine : Machine) (script : List ℕ) (crew : Crew) (rest : List ℕ) → IsAt machine script crew → first crew.main ≡ Found plain.Create rest → IsStepped machine 1 script [] (record { main = rest; servers = crew.servers ++ idle ∷ [] })
-unfolding most_creates
-main-creates machine script crew rest at e =
-    let left = script-create (length crew.servers) at.creates at.commands crew.main rest at.plain e in
-    let many : length at.rows ≡ length crew.servers = serving-length at.rows at.others crew.servers at.serving in
-    let few : nat_lt (living machine.shared.threads) most_living ≡ true = rw at.threads (few-live (main_row script ∷ at.rows) (omega (arith, many, at.few, left.is))) in
-    let id : List ℕ = thread_id (suc (length machine.shared.threads)) in
-    let grown : length (crew.servers ++ idle ∷ []) ≡ suc (length crew.servers) = omega (arith, length_push crew.servers idle) in
-    record {
-      next = after_answer machine 1 (act machine.shared 1 Create);
-      is = step-asked machine 1 Create at.over (asked-main machine script crew at ∙ ap (request_or (End 0)) e) refl;
-      at = rw few (record {
-        over = at.over;
-        rows = at.rows ++ made ∷ [];
-        before = at.before ++ Value id ∷ [];
-        others = at.others ++ [] ∷ [];
-        threads = rw at.threads refl;
-        replies = rw (at.replies, at.threads) (new-row at.rows at.others crew.servers (main_row script) made (at.before ++ Value (thread_id (suc (suc (length at.rows)))) ∷ []) at.serving);
-        doing = doing-more (Evaluates script) (Evaluates crew.main) (Evaluates rest) at.before (Value id) at.doing (rw e refl);
-        serving = serving-add at.rows at.others crew.servers made idle at.serving (record { start = refl; life = refl; queue = refl; doing = refl; commands = 0; plain = nothing-left; queued = tt });
-        creates = left.later;
-        commands = left.commands;
-        plain = rw grown left.plain;
-        few = omega (arith, at.few, left.is, grown);
-      });
-      out = rw few (sym (append-nil machine.shared.out));
-      err = rw few refl;
-    }
+-- ---- what a step does ----
 
--- ---- a script is sent ----
+-- the machine steps to where the crew is, and writes this
+pub record IsStepped (machine : Machine) (number : ℕ) (written : List ℕ) (after : Crew) : Type 0 where
+  pub next : Machine
+  pub is : step machine number ≡ Some next
+  pub at : after ≡ crew_of next
+  pub out : next.out ≡ machine.out ++ written
+  pub err : next.err ≡ machine.err
 
-map-push : (queue : List Event) (event : Event) → map script_of (queue ++ event ∷ []) ≡ map script_of queue ++ script_of event ∷ []
-map-push [] event = refl
-map-push (one ∷ queue) event = ap (λ scripts. script_of one ∷ scripts) (map-push queue event)
+given-out : (machine : Machine) (number : ℕ) (written : List ℕ) (request : Request) → Some written ≡ written_by (crew_of machine) number (Some request) → (act machine.shared number request NotRead).gives.out ≡ written
+given-out machine number written request is = cc is
 
-lists-push : (scripts : List (List ℕ)) (script : List ℕ) (n : ℕ) → ArePutsLists scripts → IsPutsList n script → ArePutsLists (scripts ++ script ∷ [])
-lists-push [] script n are is = ((n, is), tt)
-lists-push (one ∷ scripts) script n are is = (are.0, lists-push scripts script n are.1 is)
-
-queued-more : (thread : Thread) (replies : List Reply) (server : Serving) (post n : ℕ) (script : List ℕ) → IsServing thread replies server → IsPutsList n script → IsServing (record thread { queue = thread.queue ++ Sent post script ∷ [] }) replies (record { left = server.left; queue = server.queue ++ script ∷ [] })
-queued-more thread replies server post n script is sent = record {
-  start = is.start;
-  life = is.life;
-  queue = map-push thread.queue (Sent post script) ∙ ap (λ scripts. scripts ++ script ∷ []) is.queue;
-  doing = is.doing;
-  commands = is.commands;
-  plain = is.plain;
-  queued = lists-push server.queue script n is.queued sent;
+stepped-by : (machine : Machine) (number : ℕ) (written : List ℕ) (after : Crew) (request : Request) → machine.shared.over ≡ None → ready (crew_of machine) number ≡ Some request → Some written ≡ written_by (crew_of machine) number (Some request) → after ≡ crew_after (crew_of machine) number (Some request) → IsStepped machine number written after
+stepped-by machine number written after request over is written_is after_is = record {
+  next = done machine number request;
+  is = step-by machine number over ∙ ap (option_map (done machine number)) is;
+  at = after_is ∙ sym (after-crew machine number request (act machine.shared number request NotRead));
+  out = ap (λ piece. machine.out ++ piece) (given-out machine number written request written_is);
+  err = ap (λ piece. machine.err ++ piece) (silent-ready (crew_of machine) number request is) ∙ append-nil machine.err;
 }
 
-act-sends : (shared : Shared) (sender number : ℕ) (id script : List ℕ) (thread : Thread) → linked shared.threads id ≡ Some number → of_thread shared.threads number ≡ Some thread → act shared sender (Send id script) ≡ sends shared sender number script (Some thread)
-act-sends shared sender number id script thread is_linked there = rw (is_linked, there) refl
-
-linked-is : (machine : Machine) (script : List ℕ) (crew : Crew) (place : ℕ) (id : List ℕ) (thread : Thread) → (at : IsAt machine script crew) → slice_get at.rows place ≡ Some thread → id ≡ thread_id (suc (suc place)) → place < 1000 → linked machine.shared.threads id ≡ Some (suc (suc place))
-linked-is machine script crew place id thread at there id_is few =
-    rw (at.threads, id_is) (linked-past (main_row script) at.rows (suc (suc place)) refl (omega arith) (omega (arith, few)) ∙ linked-at at.rows at.others crew.servers 2 place (suc (suc place)) thread at.serving there (omega arith) (omega (arith, few)))
-
-pub main-sends : (machine : Machine) (script : List ℕ) (crew : Crew) (id sent rest : List ℕ) (place : ℕ) (server : Serving) → IsAt machine script crew → first crew.main ≡ Found (plain.Send id sent) rest → id ≡ thread_id (suc (suc place)) → slice_get crew.servers place ≡ Some server → IsStepped machine 1 script [] (record { main = rest; servers = slice_set crew.servers place (record { left = server.left; queue = server.queue ++ sent ∷ [] }) })
-unfolding most_creates
-main-sends machine script crew id sent rest place server at e id_is there =
-    let left = script-send (length crew.servers) at.creates at.commands crew.main id sent rest at.plain e in
-    let one = serving-at at.rows at.others crew.servers place server at.serving there in
-    let number : ℕ = suc (suc place) in
-    let post : ℕ = suc (length machine.shared.posts) in
-    let within : place < 1000 = omega (arith, slice_get_within crew.servers place server there, at.few) in
-    let row : Thread = record one.thread { queue = one.thread.queue ++ Sent post sent ∷ [] } in
-    let after : Serving = record { left = server.left; queue = server.queue ++ sent ∷ [] } in
-    let acts = act-sends machine.shared 1 number id sent one.thread (linked-is machine script crew place id one.thread at one.thread_there id_is within) (rw at.threads one.thread_there) in
-    let serving : AreServing (slice_set at.rows place row) at.others (slice_set crew.servers place after) =
-    subst (λ (others : List (List Reply)). AreServing (slice_set at.rows place row) others (slice_set crew.servers place after)) (set-same at.others place one.replies one.replies_there) (serving-set at.rows at.others crew.servers place row one.replies after at.serving (queued-more one.thread one.replies server post left.sent sent one.is left.puts)) in
-    record {
-      next = after_answer machine 1 (sends machine.shared 1 number sent (Some one.thread));
-      is = step-asked machine 1 (Send id sent) at.over (asked-main machine script crew at ∙ ap (request_or (End 0)) e) refl ∙ ap (λ answered. Some (after_answer machine 1 answered)) acts;
-      at = record {
-        over = at.over;
-        rows = slice_set at.rows place row;
-        before = at.before ++ Posted post ∷ [];
-        others = at.others;
-        threads = rw at.threads refl;
-        replies = rw (at.replies, at.threads) (same-replies (main_row script) (slice_set at.rows place row) at.others (slice_set crew.servers place after) (at.before ++ Posted post ∷ []) serving);
-        doing = doing-more (Evaluates script) (Evaluates crew.main) (Evaluates rest) at.before (Posted post) at.doing (rw e refl);
-        serving = serving;
-        creates = at.creates;
-        commands = left.commands;
-        plain = rw (length-set crew.servers place after) left.plain;
-        few = rw (length-set crew.servers place after) at.few;
-      };
-      out = sym (append-nil machine.shared.out);
-      err = refl;
-    }
-
--- ---- a thread that serves ----
-
--- a queue begins with the event of this script
-record FirstEvent (queue : List Event) (script : List ℕ) (scripts : List (List ℕ)) : Type 0 where
-  post : ℕ
-  events : List Event
-  is : queue ≡ Sent post script ∷ events
-  others : map script_of events ≡ scripts
-
-first-event : (queue : List Event) (script : List ℕ) (scripts : List (List ℕ)) → map script_of queue ≡ script ∷ scripts → FirstEvent queue script scripts
-first-event [] script scripts e = cc
-first-event (Sent post one ∷ events) script scripts e =
-    let same : one ≡ script = cc e in
-    record { post = post; events = events; is = ap (λ text. Sent post text ∷ events) same; others = cc e }
-
-act-takes : (shared : Shared) (number post : ℕ) (script : List ℕ) (thread : Thread) (events : List Event) → of_thread shared.threads number ≡ Some thread → thread.queue ≡ Sent post script ∷ events → act shared number Take ≡ takes shared number thread (Sent post script ∷ events)
-act-takes shared number post script thread events there is = rw (there, is) refl
-
-pub server-takes : (machine : Machine) (script : List ℕ) (crew : Crew) (place : ℕ) (server : Serving) (taken : List ℕ) (queue : List (List ℕ)) → IsAt machine script crew → slice_get crew.servers place ≡ Some server → first server.left ≡ Nothing → server.queue ≡ taken ∷ queue → IsStepped machine (suc (suc place)) script [] (record { main = crew.main; servers = slice_set crew.servers place (record { left = taken; queue = queue }) })
-server-takes machine script crew place server taken queue at there none waits =
-    let one = serving-at at.rows at.others crew.servers place server at.serving there in
-    let number : ℕ = suc (suc place) in
-    let event = first-event one.thread.queue taken queue (one.is.queue ∙ waits) in
-    let lists : ArePutsLists (taken ∷ queue) = subst ArePutsLists waits one.is.queued in
-    let row : Thread = record one.thread { queue = event.events } in
-    let after : Serving = record { left = taken; queue = queue } in
-    let reply : Reply = Taken (Sent event.post taken) in
-    let replies : List Reply = one.replies ++ reply ∷ [] in
-    let there_row : of_thread machine.shared.threads number ≡ Some one.thread = rw at.threads one.thread_there in
-    let acts = act-takes machine.shared number event.post taken one.thread event.events there_row event.is in
-    let serving : AreServing (slice_set at.rows place row) (slice_set at.others place replies) (slice_set crew.servers place after) =
-    serving-set at.rows at.others crew.servers place row replies after at.serving (record {
-      start = one.is.start;
-      life = one.is.life;
-      queue = event.others;
-      doing = doing-more (Serves []) (Serves server.left) (Serves taken) one.replies reply one.is.doing (rw none refl);
-      commands = lists.0.0;
-      plain = lists.0.1;
-      queued = lists.1;
-    }) in
-    record {
-      next = after_answer machine number (takes machine.shared number one.thread (Sent event.post taken ∷ event.events));
-      is = step-asked machine number Take at.over (asked-server machine script crew place server at there ∙ ap (request_or Take) none) (rw (there_row, event.is) refl) ∙ ap (λ answered. Some (after_answer machine number answered)) acts;
-      at = record {
-        over = at.over;
-        rows = slice_set at.rows place row;
-        before = at.before;
-        others = slice_set at.others place replies;
-        threads = rw at.threads refl;
-        replies = rw (at.replies, at.threads, one.replies_there) (same-replies (main_row script) (slice_set at.rows place row) (slice_set at.others place replies) (slice_set crew.servers place after) at.before serving);
-        doing = at.doing;
-        serving = serving;
-        creates = at.creates;
-        commands = at.commands;
-        plain = rw (length-set crew.servers place after) at.plain;
-        few = rw (length-set crew.servers place after) at.few;
-      };
-      out = sym (append-nil machine.shared.out);
-      err = refl;
-    }
-
-pub server-writes : (machine : Machine) (script : List ℕ) (crew : Crew) (place : ℕ) (server : Serving) (word rest : List ℕ) → IsAt machine script crew → slice_get crew.servers place ≡ Some server → first server.left ≡ Found (Puts word) rest → IsStepped machine (suc (suc place)) script (word ++ 10 ∷ []) (record { main = crew.main; servers = slice_set crew.servers place (record { left = rest; queue = server.queue }) })
-server-writes machine script crew place server word rest at there e =
-    let one = serving-at at.rows at.others crew.servers place server at.serving there in
-    let number : ℕ = suc (suc place) in
-    let left = puts-next one.is.commands server.left (Puts word) rest one.is.plain e in
-    let after : Serving = record { left = rest; queue = server.queue } in
-    let replies : List Reply = one.replies ++ Go ∷ [] in
-    let serving : AreServing at.rows (slice_set at.others place replies) (slice_set crew.servers place after) =
-    subst (λ (rows : List Thread). AreServing rows (slice_set at.others place replies) (slice_set crew.servers place after)) (set-same at.rows place one.thread one.thread_there) (serving-set at.rows at.others crew.servers place one.thread replies after at.serving (record {
-      start = one.is.start;
-      life = one.is.life;
-      queue = one.is.queue;
-      doing = doing-more (Serves []) (Serves server.left) (Serves rest) one.replies Go one.is.doing (rw e refl);
-      commands = left.commands;
-      plain = left.plain;
-      queued = one.is.queued;
-    })) in
-    record {
-      next = after_answer machine number (act machine.shared number (WriteOut (word ++ 10 ∷ [])));
-      is = step-asked machine number (WriteOut (word ++ 10 ∷ [])) at.over (asked-server machine script crew place server at there ∙ ap (request_or Take) e) refl;
-      at = record {
-        over = at.over;
-        rows = at.rows;
-        before = at.before;
-        others = slice_set at.others place replies;
-        threads = at.threads;
-        replies = rw (at.replies, at.threads, one.replies_there) (same-replies (main_row script) at.rows (slice_set at.others place replies) (slice_set crew.servers place after) at.before serving);
-        doing = at.doing;
-        serving = serving;
-        creates = at.creates;
-        commands = at.commands;
-        plain = rw (length-set crew.servers place after) at.plain;
-        few = rw (length-set crew.servers place after) at.few;
-      };
-      out = refl;
-      err = refl;
-    }
+pub stepped : (machine : Machine) (number : ℕ) (written : List ℕ) (after : Crew) → machine.shared.over ≡ None → Some written ≡ written_by (crew_of machine) number (ready (crew_of machine) number) → after ≡ crew_after (crew_of machine) number (ready (crew_of machine) number) → IsStepped machine number written after
+stepped machine number written after over written_is after_is = go (ready (crew_of machine) number) refl written_is after_is
+  where
+    go : (request : Option Request) → ready (crew_of machine) number ≡ request → Some written ≡ written_by (crew_of machine) number request → after ≡ crew_after (crew_of machine) number request → IsStepped machine number written after
+    go None is written_is after_is = absurd (cc written_is)
+    go (Some request) is written_is after_is = stepped-by machine number written after request over is written_is after_is

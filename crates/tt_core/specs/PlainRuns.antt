@@ -1,33 +1,31 @@
 -- What holds of each run of a plain script.
-use Rattle.std.specs.Prelude.{◌≡◌, ℕ, suc, List, [], ◌∷◌, ◌++◌, length, replicate, codes, Option, Some, None, IsSome}
+use Rattle.std.specs.Prelude.{◌≡◌, ◌≢◌, true, ℕ, suc, List, [], ◌∷◌, ◌++◌, length, replicate, codes, Option, Some, None, IsSome}
 use Rattle.std.specs.List.{AllByRecursion, flat_map}
 use Rattle.tt_plain.specs.PlainScript.{Found, IsPlain, Nothing, Puts, first}
-use Rattle.tt_core.specs.Machine.{Beginning, Machine, Reply, Go, Value, Posted, Taken, Refused, Thread, Live, asked, of_thread, run, step}
+use Rattle.tt_calls.specs.declared.reply.Reply.{Reply}
+use Rattle.tt_calls.specs.declared.reply.Reply.TheVariants as reply
+use Rattle.tt_core.specs.Machine.{Beginning, Machine, Thread, asked, run, step}
+use Rattle.tt_threads.specs.Rows.{is_living}
 
 -- a reply that refuses nothing
 abbrev pub IsGranted : Reply → Type 0
-IsGranted Go = Unit {0}
-IsGranted (Value text) = Unit {0}
-IsGranted (Posted post) = Unit {0}
-IsGranted (Taken event) = Unit {0}
-IsGranted (Refused message) = ⊥
+IsGranted told = (message : List ℕ) → told ≢ reply.Refused message
 
 -- no command of a plain script fails: in none of its runs is a thread refused anything
+abbrev pub IsGrantedAll : Thread → Type 0
+IsGrantedAll thread = AllByRecursion IsGranted thread.replies
+
 abbrev pub NoRefusalLaw : Type 0
 NoRefusalLaw =
     (beginning : Beginning) (schedule : List ℕ) (machine : Machine) →
     IsPlain beginning.script →
     run beginning schedule ≡ Some machine →
-    AllByRecursion (AllByRecursion IsGranted) machine.replies
+    AllByRecursion IsGrantedAll machine.threads
 
 -- thread 1 can step, and each living thread asks something
 pub record IsNotStuck (machine : Machine) : Type 0 where
   pub main : IsSome (step machine 1)
-  pub asks :
-      (number : ℕ) (thread : Thread) →
-      of_thread machine.shared.threads number ≡ Some thread →
-      thread.life ≡ Live →
-      IsSome (asked machine number)
+  pub asks : (number : ℕ) → is_living machine.shared.rows number ≡ true → IsSome (asked machine number)
 
 -- a plain script is never stuck before its end
 abbrev pub NotStuckLaw : Type 0
@@ -55,7 +53,7 @@ pub record RunsTo (beginning : Beginning) (schedule : List ℕ) (code : ℕ) (ou
   pub machine : Machine
   pub ran : run beginning schedule ≡ Some machine
   pub over : machine.shared.over ≡ Some code
-  pub wrote : machine.shared.out ≡ out
+  pub wrote : machine.out ≡ out
 
 -- a script of `puts` commands alone writes its words in order
 abbrev pub PutsRunLaw : Type 0
@@ -83,7 +81,7 @@ one_thread = begun (codes "thread::create" ∷ [])
 -- with which code a run ended, if it is over, and what it wrote
 abbrev pub ending : Option Machine → Option (Option ℕ × List ℕ)
 ending None = None
-ending (Some machine) = Some (machine.shared.over, machine.shared.out)
+ending (Some machine) = Some (machine.shared.over, machine.out)
 
 -- what is written by which schedule, and which steps can't be taken
 pub record WorkedRuns : Type 0 where

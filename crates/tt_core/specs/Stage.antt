@@ -18,11 +18,6 @@ pub record Stage (S K E : Type 0) : Type 0 where
   pub errors : E
   pub kept : Option StepFault
 
--- More units than a thread of a plain script spends: one for each command that it evaluates, at most 5,000, one for
--- each event that it asks for, at most one more than the scripts that are sent to it, and one for its `thread::wait`.
-abbrev pub plain_units : ℕ
-plain_units = 10000
-
 -- what was written lacks at most a part of what the last entry wrote: the rest of its piece
 pub record IsCutShort (beginning : Beginning) (schedule : List ℕ) (old new : Option (List ℕ))
     (written : Machine → List ℕ) (machine : Machine) : Type 0 where
@@ -59,7 +54,7 @@ pub record WritesOut (earlier later : Option Machine) : Type 0 where
   pub is_earlier : earlier ≡ Some before
   pub is_later : later ≡ Some after
   pub some : piece ≢ []
-  pub more : after.shared.out ≡ before.shared.out ++ piece
+  pub more : after.out ≡ before.out ++ piece
 
 -- a system that met no fault can step the thread where the machine can
 pub record CanStep {S K E : Type 0} (stage : Stage S K E) (thread : ℕ) : Type 0 where
@@ -82,5 +77,5 @@ pub record IsFaithful (beginning : Beginning) (schedule : List ℕ) (kept : Opti
     (old_out new_out old_err new_err : Option (List ℕ)) : Type 0 where
   pub machine : Machine
   pub ran : run beginning schedule ≡ Some machine
-  pub out : HasWritten kept beginning schedule old_out new_out (λ m. m.shared.out) machine
-  pub err : HasWritten kept beginning schedule old_err new_err (λ m. m.shared.err) machine
+  pub out : HasWritten kept beginning schedule old_out new_out (λ m. m.out) machine
+  pub err : HasWritten kept beginning schedule old_err new_err (λ m. m.err) machine

@@ -1,152 +1,136 @@
-ghost use Rattle.std.specs.Prelude.{◌≡◌, ◌⊎◌, ◌↔◌, suc, [], IsTrue, OnOk, OnErr, IfOk, IfErr, IsErrOf};
-ghost use Rattle.tt_core.specs.Steps.{Acts, Creates, Sends, WantsMemory, HasNoServer, HasNoTarget, ServerHasMore, MainSteps, MainCannot, HasCommand, ServerAtSteps, ServerAtCannot, CanServe, CrewSteps, CrewCannot, HasMore, CanTry};
+ghost use Rattle.std.specs.Prelude.{◌≡◌, ◌<◌, ◌++◌, ◌∷◌, [], length, IfOk, IsErr, IsSome, IsTrue, OnOk, is_some, option_copied};
+ghost use Rattle.tt_calls.specs.declared.start.Start.TheVariants as start;
+ghost use Rattle.tt_core.specs.Asking.{first_doing};
+ghost use Rattle.tt_core.specs.Crew.{all_begun, asked_by, begins, crew_after, ready, told_unless, written_by};
+ghost use Rattle.tt_core.specs.Machine.{is_last};
+ghost use Rattle.tt_shared.specs.State.{start_state};
+ghost use Rattle.tt_threads.specs.Rows.{is_living};
 
-use crate::action::{Action, next_action};
-use crate::effect::{Effect, Refusal};
-use crate::rest::Rest;
-use crate::server::Server;
+use crate::asker::Asker;
 use std::alloc::Global;
 use std::marker::Model;
-use tt_text::Text;
+use tt_calls::{Reply, Request, Start};
+use tt_shared::{Applied, Line, Shared};
+use tt_text::{NoMemory, Text};
 
-/// The number of the thread that runs the script.
-const MAIN: u32 = 1;
-
-/// The number of the first thread that it makes.
-const FIRST_SERVER: u32 = 2;
-
-/// The threads of a run.
+/// The threads of a run over what they share. Contracts see what each is at.
 #[derive(Drop)]
 pub(crate) struct Crew {
-    main: Rest,
-    servers: Vec<Server>,
+    shared: Shared,
+    askers: Vec<Asker>,
 }
 
 impl Model for Crew {
-    ghost use Rattle.tt_core.specs.Steps.{Crew};
+    ghost use Rattle.tt_core.specs.Crew.{Crew as AnyCrew};
 
-    ghost Value = { Crew };
+    ghost Value = { AnyCrew };
 
-    ghost view = { λ crew. record { main = crew.main; servers = crew.servers.items } };
+    ghost view = { λ crew. record { shared = crew.shared; doings = crew.askers.items } };
 }
 
 impl Crew {
     /// Main alone, at the start of its script.
-    pub(crate) fn new(alloc: Global, script: Text) -> Self
-        ensures { result ≡ record { main = script; servers = [] } }
+    pub(crate) fn new(alloc: Global, script: Text) -> Result<Crew, NoMemory>
+        ensures { IfOk result (λ crew. crew ≡ record { shared = start_state (start.Script script); doings = first_doing (start.Script script) ∷ [] }) }
     {
-        Crew {
-            main: Rest::whole(script),
-            servers: Vec::new(alloc),
-        }
+        let shared = Shared::new(alloc, Start::Script(script))?;
+        let main = Asker::begin(alloc, shared.start_of(1))?;
+        let mut askers = Vec::new(alloc);
+        askers.push(main)?;
+        Ok(Crew { shared, askers })
     }
 
-    /// Whether the thread is main, or serves and has something to do.
-    pub(crate) fn can_step(&self, thread: u32) -> bool
-        ensures { IsTrue result ↔ CanTry self.now thread }
+    /// The exit code of the run, where it is over.
+    pub(crate) fn over(&self) -> Option<u8>
+        ensures { result ≡ self.now.shared.over }
     {
-        if thread < FIRST_SERVER {
-            return thread == MAIN;
-        }
-        self.can_serve((thread - FIRST_SERVER) as usize)
+        self.shared.over()
     }
 
-    /// Whether the thread at this place serves and has something to do.
-    fn can_serve(&self, place: usize) -> bool
-        ensures { IsTrue result ↔ CanServe self.now place }
+    /// Whether the thread lives and its request is enabled. It takes no memory.
+    pub(crate) fn is_ready(&self, thread: u32) -> bool
+        ensures { result ≡ is_some (ready self.now thread) }
     {
-        match self.servers.get(place) {
-            Some(server) => server.is_busy(),
-            None => false,
-        }
+        ready(&self.shared, self.askers.as_slice(), thread).is_some()
     }
 
-    /// Takes a step of a thread.
-    pub(crate) fn step(&mut self, alloc: Global, thread: u32) -> Result<Effect, Refusal>
-        ensures stepped { IfOk result (λ effect. CrewSteps self.old thread effect self.new) }
-        ensures not_enabled { IsErrOf result Refusal.NotEnabled → CrewCannot self.old thread }
-        ensures unchanged { IsErrOf result Refusal.NotEnabled → self.new ≡ self.old }
-        ensures no_memory { IsErrOf result Refusal.NoMemory → HasMore self.old thread }
+    /// Does the thread's request, and answers what it writes on standard output; `None` exactly where the thread doesn't
+    /// live or its request isn't enabled, and then nothing changes.
+    ///
+    /// `NoMemory` where memory is refused; then nothing is said of the threads.
+    pub(crate) fn step(&mut self, alloc: Global, thread: u32) -> Result<Option<Text>, NoMemory>
+        ensures written { IfOk result (λ written. written ≡ written_by self.old thread (ready self.old thread)) }
+        ensures crew { OnOk result (self.new ≡ crew_after self.old thread (ready self.old thread)) }
+        ensures was_ready { IsErr result → IsSome (ready self.old thread) }
     {
-        if thread >= FIRST_SERVER {
-            return self.step_server(alloc, (thread - FIRST_SERVER) as usize);
-        }
-        if thread != MAIN {
-            return Err(Refusal::NotEnabled);
-        }
-        self.step_main(alloc)
-    }
-
-    /// Takes a step of the thread at this place.
-    fn step_server(&mut self, alloc: Global, place: usize) -> Result<Effect, Refusal>
-        ensures stepped { IfOk result (λ effect. ServerAtSteps self.old place effect self.new) }
-        ensures not_enabled { IsErrOf result Refusal.NotEnabled → ServerAtCannot self.old place }
-        ensures unchanged { IsErrOf result Refusal.NotEnabled → self.new ≡ self.old }
-        ensures no_memory { IsErrOf result Refusal.NoMemory → ServerHasMore self.old place }
-    {
-        match self.servers.get_mut(place) {
-            Some(server) => server.step(alloc),
-            None => Err(Refusal::NotEnabled),
-        }
-    }
-
-    /// Takes a step of main.
-    fn step_main(&mut self, alloc: Global) -> Result<Effect, Refusal>
-        ensures stepped { IfOk result (λ effect. MainSteps self.old effect self.new) }
-        ensures not_enabled { IsErrOf result Refusal.NotEnabled → MainCannot self.old }
-        ensures unchanged { IsErrOf result Refusal.NotEnabled → self.new ≡ self.old }
-        ensures no_memory { IsErrOf result Refusal.NoMemory → HasCommand self.old.main }
-    {
-        let Ok((action, left)) = next_action(alloc, self.main.as_bytes()) else {
-            return Err(Refusal::NoMemory);
+        let Some(request) = ready(&self.shared, self.askers.as_slice(), thread) else {
+            return Ok(None);
         };
-        let effect = self.act(alloc, action)?;
-        self.main.leave(left);
-        Ok(effect)
+        let last = is_last(request);
+        let gives = self.shared.apply(thread, request, Line::NotRead)?;
+        let Applied { reply, out, .. } = gives;
+        self.tell(alloc, thread, last, reply)?;
+        self.begin_all(alloc)?;
+        Ok(Some(out))
     }
 
-    /// Does an action of main.
-    fn act(&mut self, alloc: Global, action: Action) -> Result<Effect, Refusal>
-        ensures acted { IfOk result (λ effect. Acts action self.old effect self.new) }
-        ensures not_enabled { IsErrOf result Refusal.NotEnabled → HasNoTarget action self.old }
-        ensures unchanged { IsErrOf result Refusal.NotEnabled → self.new ≡ self.old }
-        ensures main { self.new.main ≡ self.old.main }
-        ensures no_memory { IsErrOf result Refusal.NoMemory → WantsMemory action }
+    /// The thread goes on with the reply, unless it has ended.
+    fn tell(&mut self, alloc: Global, thread: u32, last: bool, reply: Reply) -> Result<(), NoMemory>
+        ensures { OnOk result (self.new ≡ record self.old { doings = told_unless last self.old.doings thread reply }) }
     {
-        match action {
-            Action::Nothing => Ok(Effect::End),
-            Action::Write(piece) => Ok(Effect::Write(piece)),
-            Action::Create => self.create(alloc),
-            Action::Send(number, script) => self.send(number, script),
-            Action::Other => Err(Refusal::NotEnabled),
+        if last || thread == 0 {
+            return Ok(());
         }
-    }
-
-    /// Makes a thread.
-    fn create(&mut self, alloc: Global) -> Result<Effect, Refusal>
-        ensures made { IfOk result (λ effect. Creates self.old effect self.new) }
-        ensures fault { IfErr result (λ fault. fault ≡ Refusal.NoMemory) }
-        ensures main { self.new.main ≡ self.old.main }
-    {
-        match self.servers.push(Server::new(alloc)) {
-            Ok(()) => Ok(Effect::Nothing),
-            Err(_) => Err(Refusal::NoMemory),
-        }
-    }
-
-    /// Sends a script to the thread of this number.
-    fn send(&mut self, number: u32, script: Text) -> Result<Effect, Refusal>
-        ensures sent { IfOk result (λ effect. Sends number script self.old effect self.new) }
-        ensures not_enabled { IsErrOf result Refusal.NotEnabled → HasNoServer number self.old }
-        ensures unchanged { IsErrOf result Refusal.NotEnabled → self.new ≡ self.old }
-        ensures main { self.new.main ≡ self.old.main }
-    {
-        if number < FIRST_SERVER {
-            return Err(Refusal::NotEnabled);
-        }
-        let Some(server) = self.servers.get_mut((number - FIRST_SERVER) as usize) else {
-            return Err(Refusal::NotEnabled);
+        let Some(asker) = self.askers.get_mut(thread as usize - 1) else {
+            return Ok(());
         };
-        server.send(script)
+        asker.reply(alloc, reply)?;
+        Ok(())
     }
+
+    /// Threads that were made begin.
+    fn begin_all(&mut self, alloc: Global) -> Result<(), NoMemory>
+        ensures { OnOk result (self.new ≡ record self.old { doings = all_begun self.old.doings self.old.shared.rows }) }
+    {
+        let made = self.shared.made() as usize;
+        while self.askers.as_slice().len() < made {
+            let begun = self.askers.as_slice().len();
+            let asker = Asker::begin(alloc, self.shared.start_of(begun as u32 + 1))?;
+            self.askers.push(asker)?;
+        }
+        Ok(())
+    }
+}
+
+/// The request of a thread that lives, where it is enabled.
+fn ready<'a>(shared: &Shared, askers: &'a [Asker], thread: u32) -> Option<&'a Request>
+    ensures request { option_copied result ≡ ready (record { shared = shared.now; doings = askers.now }) thread }
+    ensures lives { IsSome result → IsTrue (is_living shared.now.rows thread) }
+{
+    if !shared.lives(thread) {
+        return None;
+    }
+    let request = asked(askers, thread)?;
+    if !shared.enabled(thread, request) {
+        return None;
+    }
+    Some(request)
+}
+
+/// What a thread asks next.
+fn asked(askers: &[Asker], thread: u32) -> Option<&Request>
+    ensures { option_copied result ≡ asked_by askers.now thread }
+{
+    if thread == 0 {
+        return None;
+    }
+    let asker = askers.get(thread as usize - 1)?;
+    asker.request()
+}
+
+/// Whether a thread has no reply to this.
+fn is_last(request: &Request) -> bool
+    ensures { result ≡ is_last request.now }
+{
+    matches!(request, Request::End { .. } | Request::Exit { .. })
 }

@@ -1,15 +1,12 @@
 //! The machine of threads, stepped one action at a time after a schedule.
 #![tactic(auto)]
 
-mod action;
+mod asker;
 mod crew;
-mod effect;
 mod fault;
 pub mod laws;
 mod rest;
-mod server;
 mod setup;
-mod standing;
 mod system;
 
 pub use fault::{NewFault, StepFault};

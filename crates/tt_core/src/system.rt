@@ -2,18 +2,18 @@ ghost use Rattle.std.specs.Prelude.{◌≡◌, ◌≢◌, ◌≤◌, ◌<◌, �
 ghost use Rattle.tt_devices.specs.Faults.{Rises, greatest_count};
 ghost use Rattle.tt_schedule.specs.ScheduleText.{most_steps};
 ghost use Rattle.tt_text.specs.ThreadNumbers.{IsInRange};
-ghost use Rattle.tt_plain.specs.PlainScript.{IsPlain};
 
 use crate::crew::Crew;
-use crate::effect::{Effect, Refusal};
 use crate::fault::{NewFault, StepFault};
 use crate::setup::Setup;
-use crate::standing::Standing;
 use std::alloc::Global;
 use std::marker::Model;
 use std::snapshot::Snapshot;
 use tt_devices::{Sink, Source};
 use tt_schedule::Schedule;
+
+/// The greatest number of a thread in a schedule.
+const MOST_NUMBER: u32 = 16_777_216;
 
 /// A run of a script, stepped one action at a time.
 #[derive(Drop)]
@@ -23,7 +23,8 @@ pub struct System<S: Source, K: Sink, E: Sink> {
     began_errors: Snapshot<E>,
     began: Snapshot<Setup>,
     crew: Crew,
-    standing: Standing,
+    over: Option<u8>,
+    kept: Option<StepFault>,
     schedule: Schedule,
     input: S,
     output: K,
@@ -36,7 +37,7 @@ impl<S: Source, K: Sink, E: Sink> Model for System<S, K, E> {
 
     ghost Value = { Stage S K E };
 
-    ghost use Rattle.tt_core.specs.Standing.{kept_of, IsStanding};
+    ghost use Rattle.tt_core.specs.Standing.{IsStanding};
 
     ghost view = { λ system. record {
       beginning = record {
@@ -52,7 +53,7 @@ impl<S: Source, K: Sink, E: Sink> Model for System<S, K, E> {
       input = system.input;
       output = system.output;
       errors = system.errors;
-      kept = kept_of system.standing;
+      kept = system.kept;
     } };
 
     ghost invariant = { λ system. IsStanding (record {
@@ -61,16 +62,15 @@ impl<S: Source, K: Sink, E: Sink> Model for System<S, K, E> {
       arguments = system.began.value.arguments;
       limit = system.began.value.limit;
     })
-        system.schedule.threads system.crew system.standing
+        system.schedule.threads system.crew system.over system.kept
         (K.got system.began_output.value) (K.got system.output)
         (E.got system.began_errors.value) (E.got system.errors) };
 }
 
 impl<S: Source, K: Sink, E: Sink> System<S, K, E> {
-    ghost use Rattle.tt_core.specs.Stage.{Stage, CanStep, SameBeginning, IsFaithful, over_of, next_of, machine_of, plain_units, WritesOut};
+    ghost use Rattle.tt_core.specs.Stage.{Stage, CanStep, SameBeginning, IsFaithful, over_of, next_of, machine_of, WritesOut};
 
-    /// A run of this script over these devices, with no step taken. The limit is one that no thread of a plain script
-    /// meets.
+    /// A run of this script over these devices, with no step taken.
     ///
     /// `NewFault` where memory is refused, with the devices as they were given.
     pub fn new(
@@ -80,8 +80,6 @@ impl<S: Source, K: Sink, E: Sink> System<S, K, E> {
         output: K,
         errors: E,
     ) -> Result<Self, NewFault<S, K, E>>
-        requires plain { IsPlain setup.script }
-        requires ample { plain_units ≤ setup.limit }
         ensures script { IfOk result (λ system. system.beginning ≡ record {
           script = setup.script;
           name = setup.name;
@@ -100,13 +98,21 @@ impl<S: Source, K: Sink, E: Sink> System<S, K, E> {
             arguments: _,
             limit: _,
         } = setup;
+        let Ok(crew) = Crew::new(alloc, script) else {
+            return Err(NewFault {
+                input,
+                output,
+                errors,
+            });
+        };
         Ok(System {
             began_input: Snapshot::of(&input),
             began_output: Snapshot::of(&output),
             began_errors: Snapshot::of(&errors),
             began,
-            crew: Crew::new(alloc, script),
-            standing: Standing::Running,
+            crew,
+            over: None,
+            kept: None,
             schedule: Schedule::new(alloc),
             input,
             output,
@@ -120,10 +126,12 @@ impl<S: Source, K: Sink, E: Sink> System<S, K, E> {
     pub fn enabled(&self, thread: u32) -> bool
         ensures { IsTrue result ↔ CanStep self.now thread }
     {
-        match self.standing {
-            Standing::Failed(_) => false,
-            Standing::Over(_) => false,
-            Standing::Running => self.crew.can_step(thread),
+        match self.kept {
+            Some(_) => false,
+            None => match self.over {
+                Some(_) => false,
+                None => self.crew.is_ready(thread),
+            },
         }
     }
 
@@ -161,37 +169,35 @@ impl<S: Source, K: Sink, E: Sink> System<S, K, E> {
         ensures same_devices { (self.new.input ≡ self.old.input) × (self.new.errors ≡ self.old.errors) }
         ensures steady { (result ≢ Err StepFault.WriteFault) → K.fault_count self.new.output ≡ K.fault_count self.old.output }
     {
-        match self.standing {
-            Standing::Failed(fault) => return Err(fault),
-            Standing::Over(_) => return Err(StepFault::NotEnabled),
-            Standing::Running => {}
+        if let Some(fault) = self.kept {
+            return Err(fault);
         }
-        let effect = match self.crew.step(self.alloc, thread) {
-            Ok(effect) => effect,
-            Err(Refusal::NotEnabled) => return Err(StepFault::NotEnabled),
-            Err(Refusal::NoMemory) => {
-                self.standing = Standing::Failed(StepFault::NoMemory);
+        if self.over.is_some() {
+            return Err(StepFault::NotEnabled);
+        }
+        let written = match self.crew.step(self.alloc, thread) {
+            Ok(Some(written)) => written,
+            Ok(None) => return Err(StepFault::NotEnabled),
+            Err(_) => {
+                self.kept = Some(StepFault::NoMemory);
                 return Err(StepFault::NoMemory);
             }
         };
-        if self.schedule.reserve().is_err() {
-            self.standing = Standing::Failed(StepFault::NoMemory);
+        if thread > MOST_NUMBER || self.schedule.reserve().is_err() {
+            self.kept = Some(StepFault::NoMemory);
             return Err(StepFault::NoMemory);
         }
         self.schedule.push_reserved(thread);
-        match effect {
-            Effect::Nothing => Ok(()),
-            Effect::End => {
-                self.standing = Standing::Over(0);
-                Ok(())
+        self.over = self.crew.over();
+        if written.is_empty() {
+            return Ok(());
+        }
+        match self.output.put(written.as_bytes()) {
+            Ok(()) => Ok(()),
+            Err(_) => {
+                self.kept = Some(StepFault::WriteFault);
+                Err(StepFault::WriteFault)
             }
-            Effect::Write(piece) => match self.output.put(piece.as_bytes()) {
-                Ok(()) => Ok(()),
-                Err(_) => {
-                    self.standing = Standing::Failed(StepFault::WriteFault);
-                    Err(StepFault::WriteFault)
-                }
-            },
         }
     }
 
@@ -199,10 +205,7 @@ impl<S: Source, K: Sink, E: Sink> System<S, K, E> {
     pub fn ended(&self) -> Option<u8>
         ensures { result ≡ over_of self.now }
     {
-        match self.standing {
-            Standing::Over(code) => Some(code),
-            _ => None,
-        }
+        self.over
     }
 
     /// The steps that were taken.
@@ -225,7 +228,8 @@ impl<S: Source, K: Sink, E: Sink> System<S, K, E> {
             began_errors: _,
             began: _,
             crew: _,
-            standing: _,
+            over: _,
+            kept: _,
             schedule,
             input,
             output,

@@ -1,4 +1,4 @@
-ghost use Rattle.std.specs.Prelude.{◌≡◌, [], IfOk, IsSome, OnOk, Some, option_map};
+ghost use Rattle.std.specs.Prelude.{◌≡◌, [], IfOk, IsSome, OnOk, Some, length, option_map};
 ghost use Rattle.tt_calls.specs.declared.reply.Reply.TheVariants.{Refused};
 ghost use Rattle.tt_shared.specs.Sends.{tells, unwinds};
 ghost use Rattle.tt_shared.specs.State.{answer, is_marked, is_marked_life, room, start_state};
@@ -92,6 +92,20 @@ impl Shared {
         ensures lives { result ≡ is_living self.now.rows thread }
     {
         self.threads.lives(thread)
+    }
+
+    /// How many threads were made, those that have ended among them. It takes no memory.
+    pub fn made(&self) -> u32
+        ensures made { result ≡ length self.now.rows }
+    {
+        self.threads.made()
+    }
+
+    /// The exit code of the run, from 0 to 255, where it is over. It takes no memory.
+    pub fn over(&self) -> Option<u8>
+        ensures over { result ≡ self.now.over }
+    {
+        self.over
     }
 
     // A reply, with nothing written and no thread made.

@@ -1,23 +1,20 @@
-use Rattle.std.proofs.Common.{ap, IsSome}
+use Rattle.std.proofs.Common.{◌∙◌, ap, refl, sym, IsNone, IsSome}
 use Rattle.tt_core.specs.Stage.{next_of}
-use Rattle.tt_core.specs.Standing.{kept_of}
-use Rattle.tt_core.proofs.StandLemmas.{next-over-not, next-try, next-not, true-when}
+use Rattle.tt_core.proofs.StandLemmas.{next-over, next-ready, next-some, some-cannot}
 use Rattle.tt_core.proofs.system.System.enabled.Goals as goal
 
-pub returns-in-Over : goal.returns-in-Over
-returns-in-Over g c =
-    let at = rw c.in-Over.is at c.self.invariant in
-    let never : IsSome (next_of c.args.self.now c.args.thread) → ⊥ = rw (← c.self.view_is) (next-over-not _ _ _ c.args.thread _ _ _ _ _ at) in
-    ((λ no. cc), (λ can. absurd (never can.possible)))
+pub returns-in-Some-over : goal.returns-in-Some-over
+returns-in-Some-over g c =
+    let at = rw (c.in-None.is, c.in-Some-over.is) at c.self.invariant in
+    let none : IsNone (next_of c.args.self.now c.args.thread) = rw (← c.self.view_is) (next-over _ _ _ c.args.thread _ _ _ _ _ at refl) in
+    ((λ no. cc), (λ can. absurd (some-cannot _ can.possible none)))
 
-pub returns-in-Running : goal.returns-in-Running
-returns-in-Running g c =
-    let at = rw c.in-Running.is at c.self.invariant in (
+pub returns-in-None-over : goal.returns-in-None-over
+returns-in-None-over g c =
+    let at = rw (c.in-None.is, c.in-None-over.is) at c.self.invariant in (
       (λ yes. record {
-        going = rw (← c.self.view_is) (ap kept_of c.in-Running.is);
-        possible = rw (← c.self.view_is) (next-try _ _ _ c.args.thread _ _ _ _ at (c.can_step.ensures.0 yes));
+        going = rw (← c.self.view_is) c.in-None.is;
+        possible = rw (← c.self.view_is) (next-some _ _ _ c.args.thread _ _ _ _ at (sym c.is_ready.ensures ∙ yes));
       }),
-      (λ can.
-          let some = rw (← c.self.view_is) at can.possible in
-          true-when c.can_step.result _ c.can_step.ensures.1 (λ cannot. next-not _ _ _ c.args.thread _ _ _ _ at cannot some)),
+      (λ can. c.is_ready.ensures ∙ next-ready _ _ _ c.args.thread _ _ _ _ at (rw (← c.self.view_is) at can.possible)),
     )

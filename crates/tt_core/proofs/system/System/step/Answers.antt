@@ -1,115 +1,96 @@
-use Rattle.std.proofs.Common.{ap, Err, IsSome}
-use Rattle.tt_core.specs.Stage.{next_of, machine_of, WritesOut}
-use Rattle.tt_core.specs.Standing.{kept_of}
-use Rattle.tt_core.proofs.StandLemmas.{next-over, next-cannot, next-more, next-some, next-writes, some-cannot, in-range, stands-over, stands-stepped, stands-wrote, stands-cut}
+use Rattle.std.proofs.Common.{◌≢◌, ◌∙◌, [], ap, refl, sym, Err, IsSome}
+use Rattle.tt_core.specs.Stage.{machine_of, next_of, WritesOut}
+use Rattle.tt_core.proofs.StandLemmas.{Writes, going, next-none, next-over, next-some, next-writes, some-cannot, stands-cut, stands-wrote, writes-ready}
 use Rattle.tt_core.proofs.system.System.step.Goals as goal
+use Rattle.tt_devices.proofs.StreamLemmas.{Grows-same}
 
-pub returns-in-Over-clause-not_enabled : goal.returns-in-Over-clause-not_enabled
-returns-in-Over-clause-not_enabled g c same =
-    let at = rw c.in-Over.is at c.self.invariant in
-    (rw (← c.self.view_is) (ap kept_of c.in-Over.is), rw (← c.self.view_is) (next-over _ _ _ c.args.thread _ _ _ _ _ at))
+pub returns-then-is_some-clause-not_enabled : goal.returns-then-is_some-clause-not_enabled
+returns-then-is_some-clause-not_enabled g c same =
+    let at = rw c.in_default.is at c.self.invariant in
+    (rw (← c.self.view_is) c.in_default.is, rw (← c.self.view_is) (next-over _ _ _ c.args.thread _ _ _ _ _ at c.if-is_some.ensures))
 
-pub returns-in-Err-NotEnabled-clause-not_enabled : goal.returns-in-Err-NotEnabled-clause-not_enabled
-returns-in-Err-NotEnabled-clause-not_enabled g c same =
-    let at = rw c.in-Running.is at c.self.invariant in
-    let cannot = c.in-Err-NotEnabled.ensures.not_enabled (ap Err c.in-Err-NotEnabled.field-0-is) in
-    (rw (← c.self.view_is) (ap kept_of c.in-Running.is), rw (← c.self.view_is) (next-cannot _ _ _ c.args.thread _ _ _ _ at cannot))
+pub returns-in-Ok-None-clause-not_enabled : goal.returns-in-Ok-None-clause-not_enabled
+returns-in-Ok-None-clause-not_enabled g c same =
+    let at = going _ _ _ _ _ _ _ _ _ c.self.invariant c.in_default.is c.if-is_some.ensures in
+    (rw (← c.self.view_is) c.in_default.is, rw (← c.self.view_is) (next-none _ _ _ c.args.thread _ _ _ _ at (sym c.in-Ok-None.field-0-is ∙ c.in-Ok-None.ensures.written)))
 
-pub returns-in-Err-NoMemory-clause-refused : goal.returns-in-Err-NoMemory-clause-refused
-returns-in-Err-NoMemory-clause-refused g c kept none =
-    let at = rw c.in-Running.is at c.self.invariant in
-    let more = c.in-Err-NoMemory.ensures.no_memory (ap Err c.in-Err-NoMemory.field-0-is) in
-    let some : IsSome (next_of c.args.self.now c.args.thread) = rw (← c.self.view_is) (next-more _ _ _ c.args.thread _ _ _ _ at more) in
+pub returns-in-Err-clause-refused : goal.returns-in-Err-clause-refused
+returns-in-Err-clause-refused g c kept none =
+    let at = going _ _ _ _ _ _ _ _ _ c.self.invariant c.in_default.is c.if-is_some.ensures in
+    let some : IsSome (next_of c.args.self.now c.args.thread) = rw (← c.self.view_is) (next-some _ _ _ c.args.thread _ _ _ _ at (c.in-Err.ensures.was_ready refl)) in
     absurd (some-cannot _ some none)
 
-pub returns-then-is_err-clause-refused : goal.returns-then-is_err-clause-refused
-returns-then-is_err-clause-refused g c kept none =
-    let at = rw c.in-Running.is at c.self.invariant in
-    let some : IsSome (next_of c.args.self.now c.args.thread) = rw (← c.self.view_is) (next-some _ _ _ c.step.new.self c.args.thread c.in-Ok.effect _ _ _ _ at c.in-Ok.ensures.stepped) in
+pub returns-then-thread-gt-MOST_NUMBER-clause-refused : goal.returns-then-thread-gt-MOST_NUMBER-clause-refused
+returns-then-thread-gt-MOST_NUMBER-clause-refused g c kept none =
+    let at = going _ _ _ _ _ _ _ _ _ c.self.invariant c.in_default.is c.if-is_some.ensures in
+    let writes : Writes c.self.inside.crew c.args.thread c.in-Ok-Some.written = sym c.in-Ok-Some.field-0-is ∙ c.in-Ok-Some.ensures.written in
+    let some : IsSome (next_of c.args.self.now c.args.thread) = rw (← c.self.view_is) (next-some _ _ _ c.args.thread _ _ _ _ at (writes-ready c.self.inside.crew c.args.thread c.in-Ok-Some.written writes)) in
     absurd (some-cannot _ some none)
 
-pub push_reserved-requires-clause-thread : goal.push_reserved-requires-clause-thread
-push_reserved-requires-clause-thread g c =
-    let at = rw c.in-Running.is at c.self.invariant in
-    in-range _ _ _ c.step.new.self c.args.thread c.in-Ok.effect _ _ _ _ at c.in-Ok.ensures.stepped
-
-pub invariant_of-self-in-Nothing : goal.invariant_of-self-in-Nothing
-invariant_of-self-in-Nothing g c =
-    let at = rw c.in-Running.is at c.self.invariant in
-    let steps = rw c.in-Nothing.is at c.in-Ok.ensures.stepped in
-    rw (c.push_reserved.ensures.pushed, c.reserve.ensures.same, c.in-Running.is) (stands-stepped _ _ c.args.thread _ _ _ _ _ _ at steps)
-
-pub returns-in-Nothing-clause-could : goal.returns-in-Nothing-clause-could
-returns-in-Nothing-clause-could g c =
-    let at = rw c.in-Running.is at c.self.invariant in
-    record {
-      going = rw (← c.self.view_is) (ap kept_of c.in-Running.is);
-      possible = rw (← c.self.view_is) (next-some _ _ _ c.step.new.self c.args.thread c.in-Ok.effect _ _ _ _ at c.in-Ok.ensures.stepped);
-    }
-
-pub returns-in-Nothing-clause-refused : goal.returns-in-Nothing-clause-refused
-returns-in-Nothing-clause-refused g c kept none =
-    let at = rw c.in-Running.is at c.self.invariant in
-    let some : IsSome (next_of c.args.self.now c.args.thread) = rw (← c.self.view_is) (next-some _ _ _ c.step.new.self c.args.thread c.in-Ok.effect _ _ _ _ at c.in-Ok.ensures.stepped) in
+pub returns-then-is_empty-clause-refused : goal.returns-then-is_empty-clause-refused
+returns-then-is_empty-clause-refused g c kept none =
+    let at = going _ _ _ _ _ _ _ _ _ c.self.invariant c.in_default.is c.if-is_some.ensures in
+    let writes : Writes c.self.inside.crew c.args.thread c.in-Ok-Some.written = sym c.in-Ok-Some.field-0-is ∙ c.in-Ok-Some.ensures.written in
+    let some : IsSome (next_of c.args.self.now c.args.thread) = rw (← c.self.view_is) (next-some _ _ _ c.args.thread _ _ _ _ at (writes-ready c.self.inside.crew c.args.thread c.in-Ok-Some.written writes)) in
     absurd (some-cannot _ some none)
 
-pub invariant_of-self-in-End : goal.invariant_of-self-in-End
-invariant_of-self-in-End g c =
-    let at = rw c.in-Running.is at c.self.invariant in
-    let steps = rw c.in-End.is at c.in-Ok.ensures.stepped in
-    rw (c.push_reserved.ensures.pushed, c.reserve.ensures.same) (stands-over _ _ c.args.thread _ _ _ _ _ _ at steps)
-
-pub returns-in-End-clause-could : goal.returns-in-End-clause-could
-returns-in-End-clause-could g c =
-    let at = rw c.in-Running.is at c.self.invariant in
-    record {
-      going = rw (← c.self.view_is) (ap kept_of c.in-Running.is);
-      possible = rw (← c.self.view_is) (next-some _ _ _ c.step.new.self c.args.thread c.in-Ok.effect _ _ _ _ at c.in-Ok.ensures.stepped);
-    }
-
-pub returns-in-End-clause-refused : goal.returns-in-End-clause-refused
-returns-in-End-clause-refused g c kept none =
-    let at = rw c.in-Running.is at c.self.invariant in
-    let some : IsSome (next_of c.args.self.now c.args.thread) = rw (← c.self.view_is) (next-some _ _ _ c.step.new.self c.args.thread c.in-Ok.effect _ _ _ _ at c.in-Ok.ensures.stepped) in
+pub returns-in-Ok-clause-refused : goal.returns-in-Ok-clause-refused
+returns-in-Ok-clause-refused g c kept none =
+    let at = going _ _ _ _ _ _ _ _ _ c.self.invariant c.in_default.is c.if-is_some.ensures in
+    let writes : Writes c.self.inside.crew c.args.thread c.in-Ok-Some.written = sym c.in-Ok-Some.field-0-is ∙ c.in-Ok-Some.ensures.written in
+    let some : IsSome (next_of c.args.self.now c.args.thread) = rw (← c.self.view_is) (next-some _ _ _ c.args.thread _ _ _ _ at (writes-ready c.self.inside.crew c.args.thread c.in-Ok-Some.written writes)) in
     absurd (some-cannot _ some none)
-
-pub invariant_of-self-in-Ok-put : goal.invariant_of-self-in-Ok-put
-invariant_of-self-in-Ok-put g c =
-    let at = rw c.in-Running.is at c.self.invariant in
-    let steps = rw c.in-Write.is at c.in-Ok.ensures.stepped in
-    let grew = rw c.as_bytes.ensures.bytes at c.in-Ok-put.ensures.put in
-    rw (c.push_reserved.ensures.pushed, c.reserve.ensures.same, c.in-Running.is) (stands-wrote _ _ c.args.thread _ _ _ _ _ _ _ _ at steps grew)
-
-pub returns-in-Ok-put-clause-could : goal.returns-in-Ok-put-clause-could
-returns-in-Ok-put-clause-could g c =
-    let at = rw c.in-Running.is at c.self.invariant in
-    record {
-      going = rw (← c.self.view_is) (ap kept_of c.in-Running.is);
-      possible = rw (← c.self.view_is) (next-some _ _ _ c.step.new.self c.args.thread c.in-Ok.effect _ _ _ _ at c.in-Ok.ensures.stepped);
-    }
-
-pub returns-in-Ok-put-clause-refused : goal.returns-in-Ok-put-clause-refused
-returns-in-Ok-put-clause-refused g c kept none =
-    let at = rw c.in-Running.is at c.self.invariant in
-    let some : IsSome (next_of c.args.self.now c.args.thread) = rw (← c.self.view_is) (next-some _ _ _ c.step.new.self c.args.thread c.in-Ok.effect _ _ _ _ at c.in-Ok.ensures.stepped) in
-    absurd (some-cannot _ some none)
-
-pub invariant_of-self-in-Err : goal.invariant_of-self-in-Err
-invariant_of-self-in-Err g c =
-    let at = rw c.in-Running.is at c.self.invariant in
-    let steps = rw c.in-Write.is at c.in-Ok.ensures.stepped in
-    let grew = rw c.as_bytes.ensures.bytes at c.in-Err.ensures.part in
-    rw (c.push_reserved.ensures.pushed, c.reserve.ensures.same) (stands-cut _ _ c.args.thread _ _ _ _ _ _ _ _ at steps grew)
 
 pub returns-clause-refused : goal.returns-clause-refused
 returns-clause-refused g c kept none =
-    let at = rw c.in-Running.is at c.self.invariant in
-    let some : IsSome (next_of c.args.self.now c.args.thread) = rw (← c.self.view_is) (next-some _ _ _ c.step.new.self c.args.thread c.in-Ok.effect _ _ _ _ at c.in-Ok.ensures.stepped) in
+    let at = going _ _ _ _ _ _ _ _ _ c.self.invariant c.in_default.is c.if-is_some.ensures in
+    let writes : Writes c.self.inside.crew c.args.thread c.in-Ok-Some.written = sym c.in-Ok-Some.field-0-is ∙ c.in-Ok-Some.ensures.written in
+    let some : IsSome (next_of c.args.self.now c.args.thread) = rw (← c.self.view_is) (next-some _ _ _ c.args.thread _ _ _ _ at (writes-ready c.self.inside.crew c.args.thread c.in-Ok-Some.written writes)) in
     absurd (some-cannot _ some none)
+
+pub returns-then-is_empty-clause-could : goal.returns-then-is_empty-clause-could
+returns-then-is_empty-clause-could g c =
+    let at = going _ _ _ _ _ _ _ _ _ c.self.invariant c.in_default.is c.if-is_some.ensures in
+    let writes : Writes c.self.inside.crew c.args.thread c.in-Ok-Some.written = sym c.in-Ok-Some.field-0-is ∙ c.in-Ok-Some.ensures.written in
+    record {
+      going = rw (← c.self.view_is) c.in_default.is;
+      possible = rw (← c.self.view_is) (next-some _ _ _ c.args.thread _ _ _ _ at (writes-ready c.self.inside.crew c.args.thread c.in-Ok-Some.written writes));
+    }
+
+pub returns-in-Ok-clause-could : goal.returns-in-Ok-clause-could
+returns-in-Ok-clause-could g c =
+    let at = going _ _ _ _ _ _ _ _ _ c.self.invariant c.in_default.is c.if-is_some.ensures in
+    let writes : Writes c.self.inside.crew c.args.thread c.in-Ok-Some.written = sym c.in-Ok-Some.field-0-is ∙ c.in-Ok-Some.ensures.written in
+    record {
+      going = rw (← c.self.view_is) c.in_default.is;
+      possible = rw (← c.self.view_is) (next-some _ _ _ c.args.thread _ _ _ _ at (writes-ready c.self.inside.crew c.args.thread c.in-Ok-Some.written writes));
+    }
+
+pub invariant_of-self-then-is_empty : goal.invariant_of-self-then-is_empty
+invariant_of-self-then-is_empty g c =
+    let at = going _ _ _ _ _ _ _ _ _ c.self.invariant c.in_default.is c.if-is_some.ensures in
+    let writes : Writes c.self.inside.crew c.args.thread c.in-Ok-Some.written = sym c.in-Ok-Some.field-0-is ∙ c.in-Ok-Some.ensures.written in
+    let none = c.is_empty.ensures.empty.0 c.if-is_empty.true in
+    rw (c.push_reserved.ensures.pushed, c.reserve.ensures.same, c.in_default.is) (stands-wrote _ _ c.args.thread _ _ _ _ _ _ _ _ _ at writes c.in-Ok-Some.ensures.crew c.over-self-inside.ensures (rw none (Grows-same _)))
+
+pub invariant_of-self-in-Ok : goal.invariant_of-self-in-Ok
+invariant_of-self-in-Ok g c =
+    let at = going _ _ _ _ _ _ _ _ _ c.self.invariant c.in_default.is c.if-is_some.ensures in
+    let writes : Writes c.self.inside.crew c.args.thread c.in-Ok-Some.written = sym c.in-Ok-Some.field-0-is ∙ c.in-Ok-Some.ensures.written in
+    let grew = rw c.as_bytes.ensures.bytes at c.in-Ok.ensures.put in
+    rw (c.push_reserved.ensures.pushed, c.reserve.ensures.same, c.in_default.is) (stands-wrote _ _ c.args.thread _ _ _ _ _ _ _ _ _ at writes c.in-Ok-Some.ensures.crew c.over-self-inside.ensures grew)
+
+pub invariant_of-self-in-Err-put : goal.invariant_of-self-in-Err-put
+invariant_of-self-in-Err-put g c =
+    let at = going _ _ _ _ _ _ _ _ _ c.self.invariant c.in_default.is c.if-is_some.ensures in
+    let writes : Writes c.self.inside.crew c.args.thread c.in-Ok-Some.written = sym c.in-Ok-Some.field-0-is ∙ c.in-Ok-Some.ensures.written in
+    let grew = rw c.as_bytes.ensures.bytes at c.in-Err-put.ensures.part in
+    rw (c.push_reserved.ensures.pushed, c.reserve.ensures.same) (stands-cut _ _ c.args.thread _ _ _ _ _ _ _ _ _ at writes c.in-Ok-Some.ensures.crew c.over-self-inside.ensures grew)
 
 pub returns-clause-had_a_piece : goal.returns-clause-had_a_piece
 returns-clause-had_a_piece g c failed kept =
-    let at = rw c.in-Running.is at c.self.invariant in
-    let steps = rw c.in-Write.is at c.in-Ok.ensures.stepped in
-    let more : WritesOut (machine_of c.args.self.now) (next_of c.args.self.now c.args.thread) = rw (← c.self.view_is) (next-writes _ _ _ c.step.new.self c.args.thread c.in-Write.piece _ _ _ _ at steps) in
+    let at = going _ _ _ _ _ _ _ _ _ c.self.invariant c.in_default.is c.if-is_some.ensures in
+    let writes : Writes c.self.inside.crew c.args.thread c.in-Ok-Some.written = sym c.in-Ok-Some.field-0-is ∙ c.in-Ok-Some.ensures.written in
+    let some : c.in-Ok-Some.written ≢ [] = λ none. (let yes = c.is_empty.ensures.empty.1 none in let no = c.if-is_empty.false in cc) in
+    let more : WritesOut (machine_of c.args.self.now) (next_of c.args.self.now c.args.thread) = rw (← c.self.view_is) (next-writes _ _ c.args.thread _ _ _ _ _ _ _ at writes c.in-Ok-Some.ensures.crew some) in
     more
