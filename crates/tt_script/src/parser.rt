@@ -282,7 +282,7 @@ fn script_parts(
     }
     let mut builder = Builder::new(alloc, mode);
     builder.push(alloc, Part::Script(inside))?;
-    let end = push_parts(
+    let end = push_more(
         alloc,
         text,
         close + 1,
@@ -338,6 +338,7 @@ pub(crate) fn parts(
 
 /// Adds the parts up to what ends them, so that all parts are whole, and answers its place.
 #[cycle(parser)]
+#[inline(always)]
 fn push_parts(
     alloc: Global,
     text: &[u8],
@@ -358,6 +359,26 @@ fn push_parts(
     must_end(text, at, ending)?;
     builder.finish(alloc)?;
     Ok(at)
+}
+
+/// The same after a first part, apart from the code that most words take.
+#[cycle(parser)]
+#[cold]
+#[inline(never)]
+fn push_more(
+    alloc: Global,
+    text: &[u8],
+    from: usize,
+    ending: Ending,
+    depth: usize,
+    builder: &mut Builder,
+) -> Result<usize, Stop>
+    requires { from ≤ length text.now }
+    ensures read { Ends (reading.level depth) ending text.now builder.old builder.new result from }
+    ensures within { IfOk result (λ end. (from ≤ end) × ends_within ending end (length text.now)) }
+{
+    let end = push_parts(alloc, text, from, ending, depth, builder)?;
+    Ok(end)
 }
 
 /// Adds the part that begins here, or a run of letters, and answers the place after it.

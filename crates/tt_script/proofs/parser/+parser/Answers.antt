@@ -85,6 +85,10 @@ pub parts-returns-in_err-end-clause-read : goal.parts-returns-in_err-end-clause-
 parts-returns-in_err-end-clause-read t c =
     answers_exit _ _ c.from_residual.result _ _ c.from_residual.ensures.1 c.in_err-end.ensures.read
 
+pub push_more-returns-in_err-end-clause-read : goal.push_more-returns-in_err-end-clause-read
+push_more-returns-in_err-end-clause-read t c =
+    ends_exit (level c.args.depth) c.args.ending c.args.text.now c.args.builder.now c.push_parts.new.builder c.from_residual.result _ _ c.from_residual.ensures.1 c.in_err-end.ensures.read
+
 pub push_parts-returns-clause-read : goal.push_parts-returns-clause-read
 push_parts-returns-clause-read t c =
     let reached = c.loop-at.invariant.read in

@@ -22,6 +22,9 @@ decreases-parts l = 10 * l.depth + 5
 abbrev pub decreases-script_parts : goal.decreases-script_parts
 decreases-script_parts l = 10 * l.depth + 6
 
+abbrev pub decreases-push_more : goal.decreases-push_more
+decreases-push_more l = 10 * l.depth + 5
+
 abbrev pub decreases-push_parts : goal.decreases-push_parts
 decreases-push_parts l = 10 * l.depth + 4
 
