@@ -124,6 +124,21 @@ expands-room text from e =
     let last = (and-both (begins 125 (drop 2 (drop from text))) (begins_black (drop 3 (drop from text))) (and-both (begins 123 (drop from text) && begins 42 (drop 1 (drop from text))) _ e).1).1 in
     omega (arith, black-length (drop 3 (drop from text)) last, length-drop 3 (drop from text), length-drop from text)
 
+-- where a word's parts begin
+module _ (place : Place) (text : List ℕ) (from start : ℕ) where
+  pub word_at : (level : Level) (expand : Bool) → expands (drop from text) ≡ expand → (expand ≡ true → start ≡ from + 3) → (expand ≡ false → start ≡ from)
+      → after from (word place level (drop from text)) ≡ mapped (made expand) (after start (word_parts place level (drop start text)))
+  word_at level true e f g = word_at-expands place level text from e ∙ ap (λ k. mapped (made true) (after k (word_parts place level (drop k text)))) (sym (f refl))
+  word_at level false e f g = word_at-plain place level text from e ∙ ap (λ k. mapped (made false) (after k (word_parts place level (drop k text)))) (sym (g refl))
+
+  pub start-within : (expand : Bool) → expands (drop from text) ≡ expand → (expand ≡ true → start ≡ from + 3) → (expand ≡ false → start ≡ from) → from < length text → (from ≤ start) × (start ≤ length text)
+  start-within true e f g h = let three : start ≡ from + 3 = f refl in (omega arith, omega (arith, expands-room text from e))
+  start-within false e f g h = let same : start ≡ from = g refl in (omega arith, omega arith)
+
+  pub word-later : (expand : Bool) (end : ℕ) → (expand ≡ true → start ≡ from + 3) → (expand ≡ false → start ≡ from) → separates place (drop from text) ≡ false → start ≤ end → (separates place (drop start text) ≡ false → start < end) → from < end
+  word-later true end f g e h later = let three : start ≡ from + 3 = f refl in omega arith
+  word-later false end f g e h later = let same : start ≡ from = g refl in omega (arith, later (ap (λ k. separates place (drop k text)) same ∙ e))
+
 -- ---- words ----
 
 pub words-one : (place : Place) (level : Level) (b : ℕ) (text : List ℕ) (first : PlainWord) (n : ℕ) → word place level (b ∷ text) ≡ takes first n → ends_command place (drop (n + gap 0 (drop n (b ∷ text))) (b ∷ text)) ≡ true → words place level 0 (b ∷ text) ≡ takes (first ∷ []) n

@@ -2,7 +2,7 @@
 use Rattle.std.proofs.Common.{◌≡◌, ℕ, List, drop, ap, sym, subst, Result, Ok, Err}
 use Rattle.std.specs.Prelude.{IsErrAnd}
 use Rattle.tt_script.specs.Answers.{Answers, Continues, Refuses}
-use Rattle.tt_script.specs.Building.{Adds}
+use Rattle.tt_script.specs.Building.{Adds, Ends}
 use Rattle.tt_script.specs.Reading.{Read, fails, after, mapped, and_then, Level, parts}
 use Rattle.tt_script.specs.declared.builder.Builder.{Builder}
 use Rattle.tt_script.specs.declared.command.Ending.{Ending}
@@ -18,6 +18,10 @@ answers_exit mode view (Err y) e read h k = subst (λ stop. Refuses stop read) (
 pub adds_exit : (level : Level) (ending : Ending) (text : List ℕ) (old new : Builder) (r : Result ℕ Stop) (e : Stop) (at : ℕ) → IsErrAnd r (λ y. y ≡ e) → Refuses e (after at (parts level ending 0 (drop at text))) → Adds level ending text old new r at
 adds_exit level ending text old new (Ok next) e at h k = absurd h
 adds_exit level ending text old new (Err y) e at h k = subst (λ stop. Refuses stop (after at (parts level ending 0 (drop at text)))) (sym h) k
+
+pub ends_exit : (level : Level) (ending : Ending) (text : List ℕ) (old new : Builder) (r : Result ℕ Stop) (e : Stop) (from : ℕ) → IsErrAnd r (λ y. y ≡ e) → Refuses e (after from (parts level ending 0 (drop from text))) → Ends level ending text old new r from
+ends_exit level ending text old new (Ok end) e from h k = absurd h
+ends_exit level ending text old new (Err y) e from h k = subst (λ stop. Refuses stop (after from (parts level ending 0 (drop from text)))) (sym h) k
 
 pub continues_exit : {A : Type 0} (from : ℕ → Read A) (r : Result ℕ Stop) (e : Stop) (read : Read A) → IsErrAnd r (λ y. y ≡ e) → Refuses e read → Continues r from read
 continues_exit from (Ok x) e read h k = absurd h

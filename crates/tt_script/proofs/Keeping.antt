@@ -1,13 +1,10 @@
 -- What is kept of what was read, and what is added on the way.
 use Rattle.std.proofs.Common.{◌≡◌, ℕ, List, [], ◌∷◌, ◌++◌, drop, refl, ap, sym, ◌∙◌, Ok}
 use Rattle.std.proofs.lemmas.List.{append_assoc}
-use Rattle.tt_script.specs.Words.{PlainParts, PlainWord}
+use Rattle.tt_script.specs.Words.{PlainWord}
 use Rattle.tt_script.specs.Answers.{Answers}
-use Rattle.tt_script.specs.Building.{so_far}
 use Rattle.tt_script.specs.Plain.{plain_word, plain_words}
-use Rattle.tt_script.specs.Reading.{Read, takes, fails, after, mapped, Level, parts, words}
-use Rattle.tt_script.specs.declared.builder.Builder.{Builder}
-use Rattle.tt_script.specs.declared.command.Ending.{Ending}
+use Rattle.tt_script.specs.Reading.{Read, takes, fails, after, mapped, Level, words}
 use Rattle.tt_script.specs.declared.command.Place.{Place}
 use Rattle.tt_script.specs.declared.command.Word.{Word}
 use Rattle.tt_script.specs.declared.mode.Mode.{Mode}
@@ -21,13 +18,6 @@ kept view x read answer = answer.1 ∙ ap (λ value. takes value x.1) (sym (answ
 pub mapped-itself : {A : Type 0} (read : Read A) → read ≡ mapped (λ value. value) read
 mapped-itself (takes value n) = refl
 mapped-itself (fails fault) = refl
-
--- the parts from a place on are those from another on with what was added before them
-abbrev pub Reached : Level → Ending → List ℕ → Mode → Builder → ℕ → ℕ → Type 0
-Reached level ending text mode builder from at =
-    (add : PlainParts → PlainParts)
-    × (after from (parts level ending 0 (drop from text)) ≡ mapped add (after at (parts level ending 0 (drop at text))))
-    × (mode ≡ Keep → (rest : PlainParts) → so_far builder rest ≡ add rest)
 
 -- the words from a place on are those from another on with what was added before them
 abbrev pub Gathered : Place → Level → List ℕ → Mode → List Word → ℕ → ℕ → Type 0

@@ -15,6 +15,7 @@ pub mod IntoFaults
 pub mod IntoGrammar
 pub mod Joining
 pub mod Keeping
+pub mod LoneParts
 pub mod NameCuts
 pub mod Naming
 pub mod OperandSteps

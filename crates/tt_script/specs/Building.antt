@@ -2,8 +2,8 @@
 use Rattle.std.specs.Prelude.{◌≡◌, ℕ, List, [], ◌∷◌, drop, Result, Ok, Err}
 use Rattle.tt_script.specs.Words.{letters, PlainParts, more, with_letters}
 use Rattle.tt_script.specs.Answers.{Refuses}
-use Rattle.tt_script.specs.Reading.{after, mapped, Level, parts}
-use Rattle.tt_script.specs.Plain.{plain_part}
+use Rattle.tt_script.specs.Reading.{after, mapped, takes, Level, parts}
+use Rattle.tt_script.specs.Plain.{plain_part, plain_parts}
 use Rattle.tt_script.specs.declared.command.Part.{Part}
 use Rattle.tt_script.specs.declared.command.Ending.{Ending}
 use Rattle.tt_script.specs.declared.mode.Mode.TheVariants.{Keep}
@@ -31,3 +31,11 @@ Adds level ending text old new (Ok next) at =
     × (after at (parts level ending 0 (drop at text)) ≡ mapped add (after next (parts level ending 0 (drop next text))))
     × (old.mode ≡ Keep → (rest : PlainParts) → so_far new rest ≡ so_far old (add rest))
 Adds level ending text old new (Err stop) at = Refuses stop (after at (parts level ending 0 (drop at text)))
+
+-- it went on to where parts end, and added to the builder, where that keeps them, all that stand before, as whole parts
+abbrev pub Ends : Level → Ending → List ℕ → Builder → Builder → Result ℕ Stop → ℕ → Type 0
+Ends level ending text old new (Ok end) from =
+    (value : PlainParts)
+    × (after from (parts level ending 0 (drop from text)) ≡ takes value end)
+    × (old.mode ≡ Keep → plain_parts new.done.items ≡ so_far old value)
+Ends level ending text old new (Err stop) from = Refuses stop (after from (parts level ending 0 (drop from text)))

@@ -125,7 +125,16 @@ pub(crate) fn letters(alloc: Global, text: Text) -> Result<Vec<Part>, NoMemory>
     if text.as_bytes().is_empty() {
         return Ok(Vec::new(alloc));
     }
+    let parts = one(alloc, Part::Letters(text))?;
+    Ok(parts)
+}
+
+/// A part alone, in room for one.
+#[inline(always)]
+pub(crate) fn one(alloc: Global, part: Part) -> Result<Vec<Part>, NoMemory>
+    ensures { IfOk result (λ parts. parts.items ≡ part ∷ []) }
+{
     let mut parts = Vec::with_capacity(alloc, 1)?;
-    parts.push(Part::Letters(text))?;
+    parts.push(part)?;
     Ok(parts)
 }

@@ -1,6 +1,7 @@
 ghost use Rattle.std.specs.Prelude.{◌≡◌, ◌∷◌, ◌++◌, [], IfOk, OnOk};
 
-use crate::command::Word;
+use crate::builder::one;
+use crate::command::{Part, Word};
 use std::alloc::Global;
 use tt_text::{NoMemory, Text};
 
@@ -25,7 +26,30 @@ impl Mode {
         }
     }
 
+    /// A part alone, or none where it is skipped.
+    #[inline(always)]
+    pub(crate) fn one_part(self, alloc: Global, part: Part) -> Result<Vec<Part>, NoMemory>
+        ensures { self ≡ Mode.Keep → IfOk result (λ parts. parts.items ≡ part ∷ []) }
+    {
+        match self {
+            Mode::Keep => one(alloc, part),
+            Mode::Skip => Ok(Vec::new(alloc)),
+        }
+    }
+
+    /// Words in the making. Few commands have more than four.
+    #[inline(always)]
+    pub(crate) fn words(self, alloc: Global) -> Result<Vec<Word>, NoMemory>
+        ensures { IfOk result (λ words. words.items ≡ []) }
+    {
+        match self {
+            Mode::Keep => Ok(Vec::with_capacity(alloc, 4)?),
+            Mode::Skip => Ok(Vec::new(alloc)),
+        }
+    }
+
     /// Adds a word to the words so far.
+    #[inline(always)]
     pub(crate) fn push_word(self, words: &mut Vec<Word>, word: Word) -> Result<(), NoMemory>
         ensures { self ≡ Mode.Keep → OnOk result (words.new.items ≡ words.old.items ++ word ∷ []) }
     {

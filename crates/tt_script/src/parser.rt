@@ -1,8 +1,8 @@
 //! What nests: brackets, indices and the words around them (Tcl(n), rules 3 to 8).
 ghost use Rattle.std.specs.Prelude.{◌≡◌, ◌+◌, ◌-◌, ◌≤◌, ◌<◌, false, true, length, drop, take, slice_index, IfOk, IfSome, OnOk, IfErr};
-ghost use Rattle.tt_script.specs.Words.{none};
+ghost use Rattle.tt_script.specs.Words.{more, none, variable};
 ghost use Rattle.tt_script.specs.Answers.{Answers, Continues, Refuses, ends_within};
-ghost use Rattle.tt_script.specs.Building.{Adds};
+ghost use Rattle.tt_script.specs.Building.{Adds, Ends};
 ghost use Rattle.tt_script.specs.Plain.{plain_part, plain_parts, plain_word, plain_words};
 ghost use Rattle.tt_script.specs.Reading as reading;
 
@@ -175,7 +175,7 @@ pub(crate) fn words(
         (reading.after from (reading.words place (reading.level depth) 0 (drop from text.now))) }
     ensures within { IfOk result (λ r. (from < r.1) × (r.1 ≤ length text.now)) }
 {
-    let mut words = Vec::new(alloc);
+    let mut words = mode.words(alloc)?;
     let mut at = from;
     'next_word: loop {
         let (word, end) = word(alloc, text, at, place, depth, mode)?;
@@ -204,25 +204,19 @@ fn word(
         (reading.after from (reading.word place (reading.level depth) (drop from text.now))) }
     ensures within { IfOk result (λ r. (from < r.1) × (r.1 ≤ length text.now)) }
 {
-    if expands(text, from) {
-        let (parts, end) = word_parts(alloc, text, from + 3, place, depth, mode)?;
-        Ok((
-            Word {
-                expand: true,
-                parts,
-            },
-            end,
-        ))
-    } else {
-        let (parts, end) = word_parts(alloc, text, from, place, depth, mode)?;
-        Ok((
-            Word {
-                expand: false,
-                parts,
-            },
-            end,
-        ))
-    }
+    let expand = expands(text, from);
+    let start = after_expansion(from, expand);
+    let (parts, end) = word_parts(alloc, text, start, place, depth, mode)?;
+    Ok((Word { expand, parts }, end))
+}
+
+/// The place after `{*}`, where a word begins so (Tcl(n), rule 5).
+fn after_expansion(from: usize, expand: bool) -> usize
+    requires { expand ≡ true → from + 3 ≤ usize.MAX }
+    ensures expands { expand ≡ true → result ≡ from + 3 }
+    ensures plain { expand ≡ false → result ≡ from }
+{
+    if expand { from + 3 } else { from }
 }
 
 /// The parts of a word in quotes, in braces or bare.
@@ -248,6 +242,13 @@ fn word_parts(
     } else if begins(text, from, b'{') {
         let (parts, end) = braced(alloc, text, from + 1, place, mode)?;
         Ok((parts, end))
+    } else if let Some(end) = variable_end(text, from, place) {
+        let name = mode.text(alloc, &text[from + 1..end])?;
+        let parts = mode.one_part(alloc, Part::Variable(name))?;
+        Ok((parts, end))
+    } else if begins(text, from, b'[') {
+        let (parts, end) = script_parts(alloc, text, from, place, depth, mode)?;
+        Ok((parts, end))
     } else if let Some(end) = plain_end(text, from, Ending::Word(place)) {
         let plain = mode.text(alloc, &text[from..end])?;
         let parts = letters(alloc, plain)?;
@@ -256,6 +257,40 @@ fn word_parts(
         let (parts, end) = parts(alloc, text, from, Ending::Word(place), depth, mode)?;
         Ok((parts, end))
     }
+}
+
+/// The parts of a bare word whose first is the script in brackets that begins here. Most have no other.
+#[cycle(parser)]
+fn script_parts(
+    alloc: Global,
+    text: &[u8],
+    from: usize,
+    place: Place,
+    depth: usize,
+    mode: Mode,
+) -> Result<(Vec<Part>, usize), Stop>
+    requires here { from < length text.now }
+    requires bracket { reading.begins 91 (drop from text.now) ≡ true }
+    ensures read { Answers mode (λ parts. plain_parts parts.items) result
+        (reading.after from (reading.parts (reading.level depth) (Ending.Word place) 0 (drop from text.now))) }
+    ensures within { IfOk result (λ r. (from < r.1) × (r.1 ≤ length text.now)) }
+{
+    let (inside, close) = brackets(alloc, text, from + 1, depth, mode)?;
+    if separates(text, close + 1, place) {
+        let parts = mode.one_part(alloc, Part::Script(inside))?;
+        return Ok((parts, close + 1));
+    }
+    let mut builder = Builder::new(alloc, mode);
+    builder.push(alloc, Part::Script(inside))?;
+    let end = push_more(
+        alloc,
+        text,
+        close + 1,
+        Ending::Word(place),
+        depth,
+        &mut builder,
+    )?;
+    Ok((builder.done, end))
 }
 
 /// The parts of a word in quotes, whose text begins here.
@@ -297,13 +332,53 @@ pub(crate) fn parts(
     ensures later { reading.ends_parts ending (drop from text.now) ≡ false → IfOk result (λ r. from < r.1) }
 {
     let mut builder = Builder::new(alloc, mode);
+    let end = push_parts(alloc, text, from, ending, depth, &mut builder)?;
+    Ok((builder.done, end))
+}
+
+/// Adds the parts up to what ends them, so that all parts are whole, and answers its place.
+#[cycle(parser)]
+#[inline(always)]
+fn push_parts(
+    alloc: Global,
+    text: &[u8],
+    from: usize,
+    ending: Ending,
+    depth: usize,
+    builder: &mut Builder,
+) -> Result<usize, Stop>
+    requires { from ≤ length text.now }
+    ensures read { Ends (reading.level depth) ending text.now builder.old builder.new result from }
+    ensures within { IfOk result (λ end. (from ≤ end) × ends_within ending end (length text.now)) }
+    ensures later { reading.ends_parts ending (drop from text.now) ≡ false → IfOk result (λ end. from < end) }
+{
     let mut at = from;
     while at < text.len() && !ends_parts(text, at, ending) {
-        at = push_part(alloc, text, at, ending, depth, &mut builder)?;
+        at = push_part(alloc, text, at, ending, depth, builder)?;
     }
     must_end(text, at, ending)?;
     builder.finish(alloc)?;
-    Ok((builder.done, at))
+    Ok(at)
+}
+
+/// The same after a first part, apart from the code that most words take.
+#[cycle(parser)]
+#[cold]
+#[inline(never)]
+fn push_more(
+    alloc: Global,
+    text: &[u8],
+    from: usize,
+    ending: Ending,
+    depth: usize,
+    builder: &mut Builder,
+) -> Result<usize, Stop>
+    requires { from ≤ length text.now }
+    ensures read { Ends (reading.level depth) ending text.now builder.old builder.new result from }
+    ensures within { IfOk result (λ end. (from ≤ end) × ends_within ending end (length text.now)) }
+{
+    let end = push_parts(alloc, text, from, ending, depth, builder)?;
+    Ok(end)
 }
 
 /// Adds the part that begins here, or a run of letters, and answers the place after it.
@@ -344,6 +419,26 @@ fn push_part(
             builder.push_letters(&text[at..next])?;
             Ok(next)
         }
+    }
+}
+
+/// The end of a bare word that begins here, where it is `$` and a name alone.
+#[inline(always)]
+fn variable_end(text: &[u8], from: usize, place: Place) -> Option<usize>
+    requires { from ≤ length text.now }
+    ensures read { IfSome result (λ end. (level : reading.Level)
+        → reading.after from (reading.parts level (Ending.Word place) 0 (drop from text.now))
+        ≡ reading.takes (more (variable (take (end - (from + 1)) (drop (from + 1) text.now))) none) end) }
+    ensures within { IfSome result (λ end. (from + 1 < end) × (end ≤ length text.now)) }
+{
+    if !begins(text, from, b'$') {
+        return None;
+    }
+    let end = name_end(text, from + 1);
+    if end > from + 1 && separates(text, end, place) {
+        Some(end)
+    } else {
+        None
     }
 }
 

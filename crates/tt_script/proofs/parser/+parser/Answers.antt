@@ -1,10 +1,11 @@
-use Rattle.std.proofs.Common.{◌+◌, ◌-◌, ◌<◌, true, false, ℕ, List, [], ◌∷◌, ◌++◌, length, drop, take, append-nil, arith, ap, sym, ◌∙◌}
+use Rattle.std.proofs.Common.{◌+◌, ◌-◌, ◌<◌, ℕ, List, [], ◌∷◌, ◌++◌, length, drop, take, append-nil, arith, ap, sym, refl, ◌∙◌}
 use Rattle.tt_text.specs.Backslash.{backslash}
 use Rattle.std.proofs.lemmas.Option.{slice_get-get_or}
 use Rattle.std.proofs.Common.{Some}
-use Rattle.tt_script.specs.Words.{none, letters, variable, element, script, with_letters, with_part}
+use Rattle.tt_script.specs.Words.{none, more, letters, variable, element, script, with_letters, with_part}
 use Rattle.tt_script.specs.Building.{so_far}
-use Rattle.tt_script.specs.Plain.{plain_parts, plain_words}
+use Rattle.tt_script.specs.Plain.{plain_part, plain_parts, plain_words}
+use Rattle.tt_script.specs.declared.command.Part.TheVariants.{Script}
 use Rattle.tt_script.specs.Scanning.{ends_run}
 use Rattle.tt_script.specs.Reading.{takes, after, mapped, level, letters_of}
 use Rattle.tt_script.proofs.Builds.{plain_letters, plain_variable, plain_element, plain_script}
@@ -12,8 +13,9 @@ use Rattle.tt_script.proofs.Keeping.{mapped-itself, gathered-word}
 use Rattle.tt_script.proofs.Scanning.{run-within}
 use Rattle.tt_script.proofs.Readers.{mapped-mapped}
 use Rattle.tt_script.proofs.PartSteps.{index-too_deep, brackets-too_deep, dollar_at-braced, dollar_at-itself, dollar_at-variable, dollar_at-read, dollar_at-fault, part_at-dollar, part_at-script, part_at-script_fault, part_at-escape, parts_at-part, parts_at-fault, parts_at-letters}
-use Rattle.tt_script.proofs.CommandSteps.{quoted_at-fault, quoted_at-closed, quoted_at-after, parts_at-quoted, parts_at-braced, parts_at-bare, made, word_at-expands, word_at-plain, expands-room, words_at-last, words_at-more, words_at-fault, commands_at-closed, commands_at-ended, commands_at-more, commands_at-fault, brackets_at-closed, brackets_at-fault, ends_command-room, after_gap-word, in_brackets-word, index_at}
-use Rattle.tt_script.proofs.Exits.{answers_exit, adds_exit, continues_exit, refuses_by}
+use Rattle.tt_script.proofs.CommandSteps.{quoted_at-fault, quoted_at-closed, quoted_at-after, parts_at-quoted, parts_at-braced, parts_at-bare, made, word_at, start-within, word-later, expands-room, words_at-last, words_at-more, words_at-fault, commands_at-closed, commands_at-ended, commands_at-more, commands_at-fault, brackets_at-closed, brackets_at-fault, ends_command-room, after_gap-word, in_brackets-word, index_at}
+use Rattle.tt_script.proofs.LoneParts.{more_script_at, lone_script_at, script_at-fault, lone_part}
+use Rattle.tt_script.proofs.Exits.{answers_exit, adds_exit, ends_exit, continues_exit, refuses_by}
 use Rattle.tt_script.proofs.Escapes.{backslash_at_within}
 use Rattle.tt_script.proofs.parser.+parser.Goals as goal
 
@@ -76,17 +78,30 @@ index-returns-clause-read t c =
 
 pub parts-returns-clause-read : goal.parts-returns-clause-read
 parts-returns-clause-read t c =
+    let read = c.in_ok-end.ensures.read in
+    (read.0, read.1, λ keep. read.2 (c.new-builder.ensures.mode ∙ keep) ∙ c.new-builder.ensures.parts read.0)
+
+pub parts-returns-in_err-end-clause-read : goal.parts-returns-in_err-end-clause-read
+parts-returns-in_err-end-clause-read t c =
+    answers_exit _ _ c.from_residual.result _ _ c.from_residual.ensures.1 c.in_err-end.ensures.read
+
+pub push_more-returns-in_err-end-clause-read : goal.push_more-returns-in_err-end-clause-read
+push_more-returns-in_err-end-clause-read t c =
+    ends_exit (level c.args.depth) c.args.ending c.args.text.now c.args.builder.now c.push_parts.new.builder c.from_residual.result _ _ c.from_residual.ensures.1 c.in_err-end.ensures.read
+
+pub push_parts-returns-clause-read : goal.push_parts-returns-clause-read
+push_parts-returns-clause-read t c =
     let reached = c.loop-at.invariant.read in
     (reached.0 none, reached.1 ∙ ap (mapped reached.0) (c.in_ok-must_end.ensures.ok (level c.args.depth)), λ keep. c.in_ok-finish.ensures ∙ reached.2 keep none)
 
-pub parts-returns-in_err-must_end-clause-read : goal.parts-returns-in_err-must_end-clause-read
-parts-returns-in_err-must_end-clause-read t c =
-    answers_exit _ _ c.from_residual-in_err-must_end.result _ _ c.from_residual-in_err-must_end.ensures.1
+pub push_parts-returns-in_err-must_end-clause-read : goal.push_parts-returns-in_err-must_end-clause-read
+push_parts-returns-in_err-must_end-clause-read t c =
+    ends_exit (level c.args.depth) c.args.ending c.args.text.now c.args.builder.now c.loop-at.builder c.from_residual-in_err-must_end.result _ _ c.from_residual-in_err-must_end.ensures.1
     (refuses_by _ _ _ (λ fault e. c.loop-at.invariant.read.1 ∙ ap (mapped c.loop-at.invariant.read.0) e) (c.in_err-must_end.ensures.fault (level c.args.depth)))
 
-pub parts-returns-in_err-at-clause-read : goal.parts-returns-in_err-at-clause-read
-parts-returns-in_err-at-clause-read t c =
-    answers_exit _ _ c.from_residual.result _ _ c.from_residual.ensures.1
+pub push_parts-returns-in_err-at-clause-read : goal.push_parts-returns-in_err-at-clause-read
+push_parts-returns-in_err-at-clause-read t c =
+    ends_exit (level c.args.depth) c.args.ending c.args.text.now c.args.builder.now c.push_part.new.builder c.from_residual.result _ _ c.from_residual.ensures.1
     (refuses_by _ _ _ (λ fault e. c.loop-at.invariant.read.1 ∙ ap (mapped c.loop-at.invariant.read.0) e) c.in_err-at.ensures.read)
 
 pub push_part-slice_bounds-push_letters-end-in_default : goal.push_part-slice_bounds-push_letters-end-in_default
@@ -196,29 +211,29 @@ variable-returns-then-not-begins-clause-read t c = (
   λ keep. plain_variable _ ∙ ap variable (c.in_ok-name.ensures keep),
 )
 
-pub word-returns-in_err-parts-2-clause-read : goal.word-returns-in_err-parts-2-clause-read
-word-returns-in_err-parts-2-clause-read t c =
-    answers_exit _ _ c.from_residual-in_err-parts-2.result _ _ c.from_residual-in_err-parts-2.ensures.1
-    (refuses_by _ _ _ (λ fault e. word_at-plain c.args.place (level c.args.depth) c.args.text.now c.args.from (sym c.expands.ensures ∙ c.if-expands.false) ∙ ap (mapped (made false)) e) c.in_err-parts-2.ensures.read)
+pub word-after_expansion-start-requires : goal.word-after_expansion-start-requires
+word-after_expansion-start-requires t c expand =
+    omega (arith, expands-room c.args.text.now c.args.from (sym c.expands-expand.ensures ∙ expand))
+
+pub word-word_parts-requires : goal.word-word_parts-requires
+word-word_parts-requires t c =
+    (omega arith, (start-within c.args.place c.args.text.now c.args.from c.after_expansion-start.result c.expands-expand.result (sym c.expands-expand.ensures) c.after_expansion-start.ensures.expands c.after_expansion-start.ensures.plain c.requires.here).1)
 
 pub word-returns-in_err-parts-clause-read : goal.word-returns-in_err-parts-clause-read
 word-returns-in_err-parts-clause-read t c =
     answers_exit _ _ c.from_residual.result _ _ c.from_residual.ensures.1
-    (refuses_by _ _ _ (λ fault e. word_at-expands c.args.place (level c.args.depth) c.args.text.now c.args.from (sym c.expands.ensures ∙ c.if-expands.true) ∙ ap (mapped (made true)) e) c.in_err-parts.ensures.read)
+    (refuses_by _ _ _ (λ fault e. word_at c.args.place c.args.text.now c.args.from c.after_expansion-start.result (level c.args.depth) c.expands-expand.result (sym c.expands-expand.ensures) c.after_expansion-start.ensures.expands c.after_expansion-start.ensures.plain ∙ ap (mapped (made c.expands-expand.result)) e) c.in_err-parts.ensures.read)
 
-pub word-returns-in_ok-parts-2-clause-read : goal.word-returns-in_ok-parts-2-clause-read
-word-returns-in_ok-parts-2-clause-read t c =
-    let read = c.in_ok-parts-2.ensures.read in
-    (made false read.0, word_at-plain c.args.place (level c.args.depth) c.args.text.now c.args.from (sym c.expands.ensures ∙ c.if-expands.false) ∙ ap (mapped (made false)) read.1, λ keep. ap (made false) (read.2 keep))
-
-pub word-returns-in_ok-parts-clause-read : goal.word-returns-in_ok-parts-clause-read
-word-returns-in_ok-parts-clause-read t c =
+pub word-returns-clause-read : goal.word-returns-clause-read
+word-returns-clause-read t c =
     let read = c.in_ok-parts.ensures.read in
-    (made true read.0, word_at-expands c.args.place (level c.args.depth) c.args.text.now c.args.from (sym c.expands.ensures ∙ c.if-expands.true) ∙ ap (mapped (made true)) read.1, λ keep. ap (made true) (read.2 keep))
+    (made c.expands-expand.result read.0, word_at c.args.place c.args.text.now c.args.from c.after_expansion-start.result (level c.args.depth) c.expands-expand.result (sym c.expands-expand.ensures) c.after_expansion-start.ensures.expands c.after_expansion-start.ensures.plain ∙ ap (mapped (made c.expands-expand.result)) read.1, λ keep. ap (made c.expands-expand.result) (read.2 keep))
 
-pub word-word_parts-requires : goal.word-word_parts-requires
-word-word_parts-requires t c =
-    (omega arith, omega (arith, expands-room c.args.text.now c.args.from (sym c.expands.ensures ∙ c.if-expands.true)))
+pub word-returns-clause-within : goal.word-returns-clause-within
+word-returns-clause-within t c = (
+  word-later c.args.place c.args.text.now c.args.from c.after_expansion-start.result c.expands-expand.result c.in_ok-parts.end c.after_expansion-start.ensures.expands c.after_expansion-start.ensures.plain c.requires.begins c.in_ok-parts.ensures.within.0 c.in_ok-parts.ensures.later,
+  c.in_ok-parts.ensures.within.1,
+)
 
 pub word_parts-returns-in_ok-parts-clause-read : goal.word_parts-returns-in_ok-parts-clause-read
 word_parts-returns-in_ok-parts-clause-read t c =
@@ -240,6 +255,14 @@ word_parts-returns-in_err-parts-2-clause-read t c =
     answers_exit _ _ c.from_residual-in_err-parts-2.result _ _ c.from_residual-in_err-parts-2.ensures.1
     (refuses_by _ _ _ (λ fault e. parts_at-braced c.args.place (level c.args.depth) c.args.text.now c.args.from (sym c.begins.ensures ∙ c.if-begins.false) (sym c.begins-else-begins.ensures ∙ c.if-begins-2.true) ∙ e) c.in_err-parts-2.ensures.read)
 
+pub word_parts-returns-in_ok-parts-3-clause-read : goal.word_parts-returns-in_ok-parts-3-clause-read
+word_parts-returns-in_ok-parts-3-clause-read t c =
+    let name = take (c.in-Some.end - (c.args.from + 1)) (drop (c.args.from + 1) c.args.text.now) in (
+      more (variable name) none,
+      parts_at-bare c.args.place (level c.args.depth) c.args.text.now c.args.from (sym c.begins.ensures ∙ c.if-begins.false) (sym c.begins-else-begins.ensures ∙ c.if-begins-2.false) ∙ c.in-Some.ensures.read (level c.args.depth),
+      λ keep. lone_part c.in_ok-parts-3.parts.items _ _ (c.in_ok-parts-3.ensures keep) (plain_variable _ ∙ ap variable (c.in_ok-name.ensures keep)),
+    )
+
 pub word_parts-returns-in_ok-parts-4-clause-read : goal.word_parts-returns-in_ok-parts-4-clause-read
 word_parts-returns-in_ok-parts-4-clause-read t c =
     let read = c.in_ok-parts-4.ensures.read in
@@ -250,12 +273,57 @@ word_parts-returns-in_err-parts-4-clause-read t c =
     answers_exit _ _ c.from_residual-in_err-parts-4.result _ _ c.from_residual-in_err-parts-4.ensures.1
     (refuses_by _ _ _ (λ fault e. parts_at-bare c.args.place (level c.args.depth) c.args.text.now c.args.from (sym c.begins.ensures ∙ c.if-begins.false) (sym c.begins-else-begins.ensures ∙ c.if-begins-2.false) ∙ e) c.in_err-parts-4.ensures.read)
 
-pub word_parts-returns-in_ok-parts-3-clause-read : goal.word_parts-returns-in_ok-parts-3-clause-read
-word_parts-returns-in_ok-parts-3-clause-read t c = (
-  letters_of (take (c.in-Some.end - c.args.from) (drop c.args.from c.args.text.now)),
-  parts_at-bare c.args.place (level c.args.depth) c.args.text.now c.args.from (sym c.begins.ensures ∙ c.if-begins.false) (sym c.begins-else-begins.ensures ∙ c.if-begins-2.false) ∙ c.in-Some.ensures.read (level c.args.depth),
-  λ keep. c.in_ok-parts-3.ensures ∙ ap letters_of (c.in_ok-plain.ensures keep),
+pub word_parts-returns-in_ok-parts-5-clause-read : goal.word_parts-returns-in_ok-parts-5-clause-read
+word_parts-returns-in_ok-parts-5-clause-read t c = (
+  letters_of (take (c.in-Some-plain_end.end - c.args.from) (drop c.args.from c.args.text.now)),
+  parts_at-bare c.args.place (level c.args.depth) c.args.text.now c.args.from (sym c.begins.ensures ∙ c.if-begins.false) (sym c.begins-else-begins.ensures ∙ c.if-begins-2.false) ∙ c.in-Some-plain_end.ensures.read (level c.args.depth),
+  λ keep. c.in_ok-parts-5.ensures ∙ ap letters_of (c.in_ok-plain.ensures keep),
 )
+
+pub word_parts-returns-in_ok-parts-6-clause-read : goal.word_parts-returns-in_ok-parts-6-clause-read
+word_parts-returns-in_ok-parts-6-clause-read t c =
+    let read = c.in_ok-parts-6.ensures.read in
+    (read.0, parts_at-bare c.args.place (level c.args.depth) c.args.text.now c.args.from (sym c.begins.ensures ∙ c.if-begins.false) (sym c.begins-else-begins.ensures ∙ c.if-begins-2.false) ∙ read.1, read.2)
+
+pub word_parts-returns-in_err-parts-6-clause-read : goal.word_parts-returns-in_err-parts-6-clause-read
+word_parts-returns-in_err-parts-6-clause-read t c =
+    answers_exit _ _ c.from_residual-in_err-parts-6.result _ _ c.from_residual-in_err-parts-6.ensures.1
+    (refuses_by _ _ _ (λ fault e. parts_at-bare c.args.place (level c.args.depth) c.args.text.now c.args.from (sym c.begins.ensures ∙ c.if-begins.false) (sym c.begins-else-begins.ensures ∙ c.if-begins-2.false) ∙ e) c.in_err-parts-6.ensures.read)
+
+pub script_parts-returns-then-separates-clause-read : goal.script_parts-returns-then-separates-clause-read
+script_parts-returns-then-separates-clause-read t c =
+    let read = c.in_ok-inside.ensures.read in (
+      more (script read.0) none,
+      lone_script_at (level c.args.depth) c.args.place c.args.text.now c.args.from c.requires.bracket read.0 c.in_ok-inside.close read.1
+          (omega (arith, c.in_ok-inside.ensures.within)) (omega (arith, c.in_ok-inside.ensures.within)) (sym c.separates.ensures ∙ c.if-separates.true),
+      λ keep. lone_part c.in_ok-parts.parts.items _ _ (c.in_ok-parts.ensures keep) (plain_script _ ∙ ap script (read.2 keep)),
+    )
+
+pub script_parts-returns-clause-read : goal.script_parts-returns-clause-read
+script_parts-returns-clause-read t c =
+    let read = c.in_ok-inside.ensures.read in
+    let ended = c.in_ok-end.ensures.read in
+    let keeps = c.new-builder.ensures.mode in (
+      with_part (script read.0) ended.0,
+      more_script_at (level c.args.depth) c.args.place c.args.text.now c.args.from c.requires.bracket read.0 c.in_ok-inside.close read.1 (omega (arith, c.in_ok-inside.ensures.within))
+          ∙ ap (mapped (with_part (script read.0))) ended.1,
+      λ keep. ended.2 (c.in_ok-push.ensures.mode ∙ keeps ∙ keep) ∙ c.in_ok-push.ensures.added (keeps ∙ keep) ended.0
+          ∙ c.new-builder.ensures.parts (with_part (plain_part (Script c.in_ok-inside.inside)) ended.0)
+          ∙ ap (λ p. with_part p ended.0) (plain_script c.in_ok-inside.inside ∙ ap script (read.2 keep)),
+    )
+
+pub script_parts-returns-in_err-inside-clause-read : goal.script_parts-returns-in_err-inside-clause-read
+script_parts-returns-in_err-inside-clause-read t c =
+    answers_exit _ _ c.from_residual.result _ _ c.from_residual.ensures.1
+    (refuses_by _ _ _ (λ fault e. script_at-fault (level c.args.depth) c.args.place c.args.text.now c.args.from c.requires.bracket fault e) c.in_err-inside.ensures.read)
+
+pub script_parts-returns-in_err-end-clause-read : goal.script_parts-returns-in_err-end-clause-read
+script_parts-returns-in_err-end-clause-read t c =
+    let read = c.in_ok-inside.ensures.read in
+    answers_exit _ _ c.from_residual-in_err-end.result _ _ c.from_residual-in_err-end.ensures.1
+    (refuses_by _ _ _ (λ fault e.
+    more_script_at (level c.args.depth) c.args.place c.args.text.now c.args.from c.requires.bracket read.0 c.in_ok-inside.close read.1 (omega (arith, c.in_ok-inside.ensures.within))
+    ∙ ap (mapped (with_part (script read.0))) e) c.in_err-end.ensures.read)
 
 pub variable-returns-then-begins-clause-read : goal.variable-returns-then-begins-clause-read
 variable-returns-then-begins-clause-read t c =
@@ -290,7 +358,7 @@ words-next_word-preserved t c =
 
 pub words-returns-in_err-word-clause-read : goal.words-returns-in_err-word-clause-read
 words-returns-in_err-word-clause-read t c =
-    answers_exit _ _ c.from_residual.result _ _ c.from_residual.ensures.1
+    answers_exit _ _ c.from_residual-in_err-word.result _ _ c.from_residual-in_err-word.ensures.1
     (refuses_by _ _ _ (λ fault e. c.next_word.invariant.read.1 ∙ ap (mapped c.next_word.invariant.read.0) (words_at-fault c.args.place (level c.args.depth) c.args.text.now c.next_word.at c.next_word.invariant.within fault e)) c.in_err-word.ensures.read)
 
 pub words-returns-then-ends_command-clause-read : goal.words-returns-then-ends_command-clause-read
@@ -308,19 +376,19 @@ words-next_word-init t c = record {
   begun = omega arith;
   within = c.requires.here;
   word = c.requires.begins;
-  read = (λ rest. rest, mapped-itself _, λ keep rest. ap (λ ws. plain_words ws ++ rest) c.new-words.ensures.items);
+  read = (λ rest. rest, mapped-itself _, λ keep rest. ap (λ ws. plain_words ws ++ rest) c.in_ok-words.ensures);
 }
 
-pub parts-loop-at-init : goal.parts-loop-at-init
-parts-loop-at-init t c = record {
+pub push_parts-loop-at-init : goal.push_parts-loop-at-init
+push_parts-loop-at-init t c = record {
   begun = omega arith;
   within = c.requires;
-  mode = c.new-builder.ensures.mode;
-  read = (λ rest. rest, mapped-itself _, λ keep rest. c.new-builder.ensures.parts rest);
+  mode = refl;
+  read = (λ rest. rest, mapped-itself _, λ keep rest. refl);
 }
 
-pub parts-loop-at-preserved : goal.parts-loop-at-preserved
-parts-loop-at-preserved t c =
+pub push_parts-loop-at-preserved : goal.push_parts-loop-at-preserved
+push_parts-loop-at-preserved t c =
     let reached = c.loop-at.invariant.read in
     let step = c.in_ok-at.ensures.read in
     record {
