@@ -94,7 +94,11 @@ fn request_of(alloc: Global, doing: &Doing) -> Result<Option<Request>, NoMemory>
 {
     match doing {
         Doing::Evaluates(rest) => {
-            request_or(alloc, Request::End { code: 0 }, first_command(rest.as_bytes()))
+            request_or(
+                alloc,
+                Request::End { code: 0 },
+                first_command(rest.as_bytes()),
+            )
         }
         Doing::Serves(rest) => request_or(alloc, Request::Take, first_command(rest.as_bytes())),
         Doing::Other => Ok(None),
@@ -102,11 +106,7 @@ fn request_of(alloc: Global, doing: &Doing) -> Result<Option<Request>, NoMemory>
 }
 
 /// What the first command asks, or this where no command is left.
-fn request_or(
-    alloc: Global,
-    last: Request,
-    first: First<'_>,
-) -> Result<Option<Request>, NoMemory>
+fn request_or(alloc: Global, last: Request, first: First<'_>) -> Result<Option<Request>, NoMemory>
     ensures { IfOk result (λ request. request ≡ request_or last (plain.meaning first.entry)) }
 {
     match first {
@@ -203,11 +203,13 @@ fn after_take(reply: Reply) -> Doing
     ensures { meaning result ≡ after_take reply }
 {
     match reply {
-        Reply::Event(Event::Script {
-            script,
-            answer: false,
-            ..
-        }) => Doing::Serves(Rest::whole(script)),
+        Reply::Event(
+            Event::Script {
+                script,
+                answer: false,
+                ..
+            },
+        ) => Doing::Serves(Rest::whole(script)),
         _ => Doing::Other,
     }
 }
