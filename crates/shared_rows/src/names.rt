@@ -114,7 +114,11 @@ const NAMES: [(&str, usize, Name); 60] = [
     ("read", 1, Name::Plain(Plain::ReadLine(Input::Bytes))), // the bytes of standard input
     ("read-end", 0, Name::Plain(Plain::ReadLine(Input::End))),
     ("read-long", 0, Name::Plain(Plain::ReadLine(Input::TooLong))),
-    ("read-nothing", 0, Name::Plain(Plain::ReadLine(Input::Nothing))),
+    (
+        "read-nothing",
+        0,
+        Name::Plain(Plain::ReadLine(Input::Nothing)),
+    ),
     ("eof", 0, Name::Plain(Plain::StdinEof)),
     ("pause", 0, Name::Plain(Plain::Pause)),
     ("end", 1, Name::Plain(Plain::End)), // code
