@@ -1,5 +1,5 @@
 -- Threads that were made begin one after the other.
-use Rattle.std.proofs.Common.{◌≡◌, ◌∙◌, ◌+◌, ◌-◌, ◌==◌, ℕ, zero, suc, Bool, true, false, List, [], ◌∷◌, ◌++◌, length, drop, map, Option, Some, None, option_map, slice_get, ap, refl, sym, arith, add-one, append_assoc, if◌then◌else◌}
+use Rattle.std.proofs.Common.{◌≡◌, ◌+◌, ◌-◌, ◌==◌, ℕ, zero, suc, Bool, true, false, List, [], ◌∷◌, ◌++◌, length, drop, map, Option, Some, None, option_map, slice_get, ap, refl, arith, add-one, append_assoc, if◌then◌else◌}
 use Rattle.std.proofs.lemmas.List.{length_push}
 use Rattle.tt_calls.specs.declared.start.Start.{Start}
 use Rattle.tt_core.specs.Asking.{Doing, first_doing}

@@ -1,15 +1,15 @@
 -- Where a system stands after a step.
-use Rattle.std.proofs.Common.{◌≡◌, ◌≢◌, ◌∙◌, ◌↔◌, ◌≤◌, ℕ, Bool, true, false, List, [], ◌∷◌, ◌++◌, Option, Some, None, IsSome, IsNone, IsTrue, is_some, option_map, option_and_then, ap, refl, sym, subst, append-nil, append_assoc, arith}
+use Rattle.std.proofs.Common.{◌≡◌, ◌≢◌, ◌∙◌, ℕ, true, false, List, [], ◌∷◌, ◌++◌, Option, Some, None, IsSome, IsNone, is_some, option_map, option_and_then, ap, refl, sym, subst, append-nil, append_assoc}
 use Rattle.tt_calls.specs.declared.request.Request.{Request}
 use Rattle.tt_calls.specs.declared.start.Start.TheVariants as start
 use Rattle.tt_core.specs.Asking.{first_doing}
-use Rattle.tt_core.specs.Crew.{Crew, crew_after, crew_of, ready, written_by}
+use Rattle.tt_core.specs.Crew.{Crew, crew_after, ready, written_by}
 use Rattle.tt_core.specs.Machine.{Beginning, Machine, run, start_machine, step}
 use Rattle.tt_core.specs.Stage.{WritesOut}
 use Rattle.tt_core.specs.Standing.{IsStanding}
 use Rattle.tt_core.specs.declared.fault.StepFault.TheVariants.{NoMemory, WriteFault}
 use Rattle.tt_core.specs.declared.fault.StepFault.{StepFault}
-use Rattle.tt_core.proofs.StepLemmas.{IsStepped, done, ready-number, run-more, step-by, step-over, stepped}
+use Rattle.tt_core.proofs.StepLemmas.{IsStepped, done, run-more, step-by, step-over, stepped}
 use Rattle.tt_devices.proofs.StreamLemmas.{Grows-append, Grows-same}
 use Rattle.tt_devices.specs.Streams.{Grows, GrowsByPart}
 use Rattle.tt_shared.specs.State.{start_state}
@@ -156,13 +156,6 @@ writes-some crew number written (Some request) e = refl
 
 pub writes-ready : (crew : Crew) (number : ℕ) (written : List ℕ) → Writes crew number written → IsSome (ready crew number)
 writes-ready crew number written writes = writes-some crew number written (ready crew number) writes
-
-pub writes-number : (crew : Crew) (number : ℕ) (written : List ℕ) → Writes crew number written → 1 ≤ number
-writes-number crew number written writes = go (ready crew number) refl writes
-  where
-    go : (request : Option Request) → ready crew number ≡ request → Some written ≡ written_by crew number request → 1 ≤ number
-    go None is e = absurd (cc e)
-    go (Some request) is e = ready-number crew number request is
 
 pub next-writes : (beginning : Beginning) (numbers : List ℕ) (number : ℕ) (crew after : Crew) (written : List ℕ) (old_out new_out old_err new_err : Option (List ℕ)) → IsStanding beginning numbers crew None None old_out new_out old_err new_err → Writes crew number written → GoesOn crew number after → written ≢ [] → WritesOut (run beginning numbers) (next beginning numbers number)
 next-writes beginning numbers number crew after written old_out new_out old_err new_err is writes goes some =

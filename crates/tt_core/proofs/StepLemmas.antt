@@ -1,5 +1,5 @@
 -- A step of the machine by what its threads are at.
-use Rattle.std.proofs.Common.{◌≡◌, ◌∙◌, ◌≤◌, ◌-◌, ◌==◌, ℕ, zero, suc, Bool, true, false, List, [], ◌∷◌, ◌++◌, length, drop, map, Option, Some, None, option_map, option_and_then, slice_get, slice_set, if◌then◌else◌, nat_lt, ap, refl, sym, subst, arith, append-nil}
+use Rattle.std.proofs.Common.{◌≡◌, ◌∙◌, ◌-◌, ◌==◌, ℕ, Bool, true, false, List, [], ◌∷◌, ◌++◌, length, drop, map, Option, Some, None, option_map, option_and_then, slice_get, if◌then◌else◌, nat_lt, ap, refl, sym, append-nil}
 use Rattle.std.proofs.lemmas.List.{length-map, map-append, map-set}
 use Rattle.std.proofs.lemmas.Option.{slice_get-map}
 use Rattle.std.proofs.lemmas.Simd.{map-map}
@@ -8,8 +8,8 @@ use Rattle.tt_calls.specs.declared.reply.Reply.{Reply}
 use Rattle.tt_calls.specs.declared.request.Mode.TheVariants.{Later}
 use Rattle.tt_calls.specs.declared.request.Request.{Request}
 use Rattle.tt_calls.specs.declared.request.Request.TheVariants as ask
-use Rattle.tt_core.specs.Asking.{Doing, Evaluates, Serves, after_replies, after_reply, asked_of, first_doing, request_of, request_or}
-use Rattle.tt_core.specs.Crew.{Crew, all_begun, asked_at, asked_by, begins, crew_after, crew_of, doing_of_number, if_enabled, is_at, ready, told_at, told_unless, written_by}
+use Rattle.tt_core.specs.Asking.{Doing, Evaluates, Serves, after_replies, after_reply, asked_of, first_doing, request_or}
+use Rattle.tt_core.specs.Crew.{Crew, all_begun, asked_at, asked_by, crew_after, crew_of, doing_of_number, if_enabled, is_at, ready, told_at, told_unless, written_by}
 use Rattle.tt_core.specs.Crew as crew
 use Rattle.tt_core.specs.Machine.{Beginning, Machine, Thread, after_act, is_last, joined, new_thread, next_of, replied, replied_at, run, run_from, start_machine, step, step_asked, step_unless, thread_of, told}
 use Rattle.tt_plain.specs.PlainScript.{Command, First, Found, Nothing, Other, Puts, first}
@@ -104,11 +104,6 @@ run_from-more machine (one ∷ numbers) number = run_from-both numbers number (s
 pub run-more : (beginning : Beginning) (numbers : List ℕ) (number : ℕ) (machine : Machine) → run beginning numbers ≡ Some machine → run beginning (numbers ++ number ∷ []) ≡ step machine number
 unfolding run
 run-more beginning numbers number machine ran = rw (run_from-more (start_machine beginning) numbers number, ran) refl
-
--- a thread that is ready has a number from 1
-pub ready-number : (crew : Crew) (number : ℕ) (request : Request) → ready crew number ≡ Some request → 1 ≤ number
-ready-number crew zero request is = absurd (cc is)
-ready-number crew (suc number) request is = omega arith
 
 -- ---- no plain script writes on standard error ----
 

@@ -1,5 +1,5 @@
 -- What a thread asks next, by the replies that it has had: the evaluation of plain scripts (puts(n), thread(n)).
-use Rattle.std.specs.Prelude.{ℕ, Bool, true, false, List, [], ◌∷◌, ◌++◌, codes, bytes_eq, Option, Some, None, if◌then◌else◌, option_and_then, pos}
+use Rattle.std.specs.Prelude.{ℕ, false, List, [], ◌∷◌, ◌++◌, codes, bytes_eq, Option, Some, None, if◌then◌else◌, option_and_then, pos}
 use Rattle.tt_calls.specs.declared.event.Event.{Event}
 use Rattle.tt_calls.specs.declared.event.Event.TheVariants as event
 use Rattle.tt_calls.specs.declared.reply.Reply.{Reply}

@@ -1,5 +1,5 @@
 -- The threads over what they share, as the code has them: what each is at stands for the replies that it has had.
-use Rattle.std.specs.Prelude.{ℕ, ◌-◌, ◌==◌, Bool, true, false, List, ◌++◌, length, drop, map, Option, Some, None, slice_get, slice_set, if◌then◌else◌, option_and_then}
+use Rattle.std.specs.Prelude.{ℕ, ◌-◌, ◌==◌, Bool, List, ◌++◌, length, drop, map, Option, Some, None, slice_get, slice_set, if◌then◌else◌, option_and_then}
 use Rattle.tt_calls.specs.declared.reply.Reply.{Reply}
 use Rattle.tt_calls.specs.declared.request.Request.{Request}
 use Rattle.tt_core.specs.Asking.{Doing, Evaluates, Serves, after_reply, doing_of, first_doing, request_of}

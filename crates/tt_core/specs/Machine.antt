@@ -1,5 +1,5 @@
 -- The machine that a script runs on: its threads, each with its replies, over what they share (thread(n)).
-use Rattle.std.specs.Prelude.{ℕ, zero, suc, ◌-◌, ◌==◌, Bool, true, false, List, [], ◌∷◌, ◌++◌, length, drop, map, Option, Some, None, slice_get, slice_set, if◌then◌else◌, option_and_then}
+use Rattle.std.specs.Prelude.{ℕ, ◌-◌, ◌==◌, Bool, true, false, List, [], ◌∷◌, ◌++◌, length, drop, map, Option, Some, None, slice_get, slice_set, if◌then◌else◌, option_and_then}
 use Rattle.tt_calls.specs.declared.reply.Reply.{Reply}
 use Rattle.tt_calls.specs.declared.request.Request.{Request}
 use Rattle.tt_calls.specs.declared.request.Request.TheVariants as ask
@@ -9,7 +9,6 @@ use Rattle.tt_core.specs.Asking.{next_request}
 use Rattle.tt_shared.specs.Acts.{act}
 use Rattle.tt_shared.specs.Enabled.{enabled}
 use Rattle.tt_shared.specs.State.{Acted, State, start_state}
-use Rattle.tt_shared.specs.declared.applied.Applied.{Applied}
 use Rattle.tt_shared.specs.declared.applied.Line.TheVariants.{NotRead}
 use Rattle.tt_threads.specs.Rows.{is_living}
 use Rattle.tt_threads.specs.declared.row.Row.{Row}

@@ -1,7 +1,7 @@
-ghost use Rattle.std.specs.Prelude.{◌≡◌, ◌<◌, ◌++◌, ◌∷◌, [], length, IfOk, IsErr, IsSome, IsTrue, OnOk, is_some, option_copied};
+ghost use Rattle.std.specs.Prelude.{◌≡◌, ◌∷◌, [], IfOk, IsErr, IsSome, IsTrue, OnOk, is_some, option_copied};
 ghost use Rattle.tt_calls.specs.declared.start.Start.TheVariants as start;
 ghost use Rattle.tt_core.specs.Asking.{first_doing};
-ghost use Rattle.tt_core.specs.Crew.{all_begun, asked_by, begins, crew_after, ready, told_unless, written_by};
+ghost use Rattle.tt_core.specs.Crew.{all_begun, asked_by, crew_after, ready, told_unless, written_by};
 ghost use Rattle.tt_core.specs.Machine.{is_last};
 ghost use Rattle.tt_shared.specs.State.{start_state};
 ghost use Rattle.tt_threads.specs.Rows.{is_living};

@@ -1,7 +1,6 @@
-ghost use Rattle.std.specs.Prelude.{◌≡◌, ◌≢◌, ◌≤◌, ◌<◌, ◌++◌, ◌∷◌, [], ◌↔◌, ◌⊎◌, ℕ, Option, Some, None, Err, IsTrue, IfOk, IfErr, OnOk, IsErrOf, IsNone, IfSome, length};
-ghost use Rattle.tt_devices.specs.Faults.{Rises, greatest_count};
+ghost use Rattle.std.specs.Prelude.{◌≡◌, ◌≢◌, ◌<◌, ◌++◌, ◌∷◌, [], ◌↔◌, ◌⊎◌, Option, Some, None, Err, IsTrue, IfOk, IfErr, OnOk, IsErrOf, IsNone, IfSome, length};
+ghost use Rattle.tt_devices.specs.Faults.{Rises};
 ghost use Rattle.tt_schedule.specs.ScheduleText.{most_steps};
-ghost use Rattle.tt_text.specs.ThreadNumbers.{IsInRange};
 
 use crate::crew::Crew;
 use crate::fault::{NewFault, StepFault};

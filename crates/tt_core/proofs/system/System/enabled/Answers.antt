@@ -1,4 +1,4 @@
-use Rattle.std.proofs.Common.{◌∙◌, ap, refl, sym, IsNone, IsSome}
+use Rattle.std.proofs.Common.{◌∙◌, refl, sym, IsNone}
 use Rattle.tt_core.specs.Stage.{next_of}
 use Rattle.tt_core.proofs.StandLemmas.{next-over, next-ready, next-some, some-cannot}
 use Rattle.tt_core.proofs.system.System.enabled.Goals as goal

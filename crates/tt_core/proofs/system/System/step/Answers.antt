@@ -1,4 +1,4 @@
-use Rattle.std.proofs.Common.{◌≢◌, ◌∙◌, [], ap, refl, sym, Err, IsSome}
+use Rattle.std.proofs.Common.{◌≢◌, ◌∙◌, [], refl, sym, IsSome}
 use Rattle.tt_core.specs.Stage.{machine_of, next_of, WritesOut}
 use Rattle.tt_core.proofs.StandLemmas.{Writes, going, next-none, next-over, next-some, next-writes, some-cannot, stands-cut, stands-wrote, writes-ready}
 use Rattle.tt_core.proofs.system.System.step.Goals as goal
