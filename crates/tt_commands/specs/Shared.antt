@@ -114,9 +114,9 @@ searches name words =
     elim (unknown_mode (modes words)) [
       | Some word ↦ bad_option word
       | None ↦
-        if is_search words (modes words)
-        then runs name words after.Value
-        else wrong_number (shared_row shared.Lsearch).usage
+          if is_search words (modes words)
+          then runs name words after.Value
+          else wrong_number (shared_row shared.Lsearch).usage
     ]
 
 -- tsv::lock: the array is held while the script that the arguments make is evaluated

@@ -62,9 +62,8 @@ pub(crate) fn first_unknown<'a>(
 ) -> Option<&'a Text>
     ensures { option_map (λ word. word.now) result ≡ flags.first_unknown known.now (flags.before_last required words.now) }
 {
-    before_last(words, required)
-        .iter()
-        .find(|word| is_meant(word.as_bytes()) && named(known, word.as_bytes()).is_none())
+    before_last(words, required).iter().find(|word| is_meant(word.as_bytes())
+        && named(known, word.as_bytes()).is_none())
 }
 
 /// How many of these options stand in front.

@@ -39,13 +39,19 @@ fn mode(mode: Mode) -> &'static [u8] {
 fn put_chan(line: &mut Text, call: &ChanCall) -> Result<(), NoMemory> {
     match call {
         ChanCall::Pipe => put(line, &[b"pipe".as_slice()]),
-        ChanCall::Put { chan, bytes } => put(line, &[b"put".as_slice(), chan.as_bytes(), bytes.as_bytes()]),
+        ChanCall::Put { chan, bytes } => put(
+            line,
+            &[b"put".as_slice(), chan.as_bytes(), bytes.as_bytes()],
+        ),
         ChanCall::GetLine { chan } => put(line, &[b"getline".as_slice(), chan.as_bytes()]),
         ChanCall::Eof { chan } => put(line, &[b"eof".as_slice(), chan.as_bytes()]),
         ChanCall::Close { chan } => put(line, &[b"close".as_slice(), chan.as_bytes()]),
         ChanCall::Detach { chan } => put(line, &[b"detach".as_slice(), chan.as_bytes()]),
         ChanCall::Attach { chan } => put(line, &[b"attach".as_slice(), chan.as_bytes()]),
-        ChanCall::Transfer { id, chan } => put(line, &[b"transfer".as_slice(), id.as_bytes(), chan.as_bytes()]),
+        ChanCall::Transfer { id, chan } => put(
+            line,
+            &[b"transfer".as_slice(), id.as_bytes(), chan.as_bytes()],
+        ),
         ChanCall::AwaitMove { .. } => put(line, &[b"?".as_slice()]),
     }
 }
@@ -74,7 +80,10 @@ fn put_code(alloc: Global, line: &mut Text, request: &Request) -> Result<(), NoM
         Request::Tsv(call) => put_tsv(alloc, line, call),
         Request::Configure { id, words } => {
             let words = join_list(alloc, words.as_slice())?;
-            put(line, &[b"configure".as_slice(), id.as_bytes(), words.as_bytes()])
+            put(
+                line,
+                &[b"configure".as_slice(), id.as_bytes(), words.as_bytes()],
+            )
         }
         _ => put(line, &[b"?".as_slice()]),
     }
@@ -94,9 +103,18 @@ fn put_channel(alloc: Global, line: &mut Text, request: &Request) -> Result<(), 
 
 fn put_request(alloc: Global, line: &mut Text, request: &Request) -> Result<(), NoMemory> {
     match request {
-        Request::Create { joinable, preserved, script } => put(
+        Request::Create {
+            joinable,
+            preserved,
+            script,
+        } => put(
             line,
-            &[b"create".as_slice(), flag(*joinable), flag(*preserved), script.as_bytes()],
+            &[
+                b"create".as_slice(),
+                flag(*joinable),
+                flag(*preserved),
+                script.as_bytes(),
+            ],
         ),
         Request::Preserve { id } => put(line, &[b"preserve".as_slice(), id.as_bytes()]),
         Request::Release { id } => put(line, &[b"release".as_slice(), id.as_bytes()]),
@@ -105,9 +123,22 @@ fn put_request(alloc: Global, line: &mut Text, request: &Request) -> Result<(), 
         Request::Join { id } => put(line, &[b"join".as_slice(), id.as_bytes()]),
         Request::ErrorProc { name } => put(line, &[b"errorproc".as_slice(), option(name)]),
         Request::Broadcast { script } => put(line, &[b"broadcast".as_slice(), script.as_bytes()]),
-        Request::Send { id, script, mode: how, variable, head } => put(
+        Request::Send {
+            id,
+            script,
+            mode: how,
+            variable,
+            head,
+        } => put(
             line,
-            &[b"send".as_slice(), id.as_bytes(), script.as_bytes(), mode(*how), option(variable), flag(*head)],
+            &[
+                b"send".as_slice(),
+                id.as_bytes(),
+                script.as_bytes(),
+                mode(*how),
+                option(variable),
+                flag(*head),
+            ],
         ),
         _ => put_channel(alloc, line, request),
     }
@@ -142,7 +173,10 @@ fn put_call(alloc: Global, line: &mut Text, call: &Call) -> Result<(), NoMemory>
         Call::Bad(message) => line.push_bytes(message.as_bytes()),
         Call::Here(Here::Local(text)) => put(line, &[b"local".as_slice(), text.as_bytes()]),
         Call::Here(Here::Direct(script, name)) => {
-            put(line, &[b"direct".as_slice(), script.as_bytes(), option(name)])
+            put(
+                line,
+                &[b"direct".as_slice(), script.as_bytes(), option(name)],
+            )
         }
         Call::Ask { request, then } => {
             put_request(alloc, line, request)?;

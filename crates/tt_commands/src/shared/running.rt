@@ -12,12 +12,7 @@ use tt_list_commands::concat;
 use tt_text::{NoMemory, Text, Texts};
 
 /// The words go on, the command's name first.
-pub(crate) fn runs(
-    alloc: Global,
-    name: &[u8],
-    words: &[Text],
-    then: Then,
-) -> Result<Call, NoMemory>
+pub(crate) fn runs(alloc: Global, name: &[u8], words: &[Text], then: Then) -> Result<Call, NoMemory>
     ensures { IfOk result (λ call. meant call ≡ table.runs name.now words.now then) }
 {
     let words = with_name(alloc, name, words)?;

@@ -32,9 +32,7 @@ fn after_two(words: &[Text]) -> &[Text]
 pub(crate) fn unknown_mode(modes: &[Text]) -> Option<&Text>
     ensures { option_map (λ mode. mode.now) result ≡ table.unknown_mode modes.now }
 {
-    modes
-        .iter()
-        .find(|mode| is_meant(mode.as_bytes()) && !is_mode(mode.as_bytes()))
+    modes.iter().find(|mode| is_meant(mode.as_bytes()) && !is_mode(mode.as_bytes()))
 }
 
 /// Whether the first of these, if there is one, is a mode.

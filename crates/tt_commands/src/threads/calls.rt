@@ -26,12 +26,7 @@ pub(crate) fn create(alloc: Global, usage: &[u8], words: &[Text]) -> Result<Call
     created(alloc, usage, options, words)
 }
 
-fn created(
-    alloc: Global,
-    usage: &[u8],
-    options: &[Text],
-    words: &[Text],
-) -> Result<Call, NoMemory>
+fn created(alloc: Global, usage: &[u8], options: &[Text], words: &[Text]) -> Result<Call, NoMemory>
     ensures { IfOk result (λ call. meant call ≡ threads.created (wrong_number usage.now) options.now words.now) }
 {
     match words {
