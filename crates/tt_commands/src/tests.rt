@@ -25,14 +25,14 @@ fn option(text: &Option<Text>) -> &[u8] {
     }
 }
 
-fn flag(is: bool) -> &'static [u8] {
-    if is { b"1" } else { b"0" }
+fn put_flag(line: &mut Text, is: bool) -> Result<(), NoMemory> {
+    line.push_bytes(if is { b"1|" } else { b"0|" })
 }
 
-fn mode(mode: Mode) -> &'static [u8] {
+fn put_mode(line: &mut Text, mode: Mode) -> Result<(), NoMemory> {
     match mode {
-        Mode::Waits => b"waits",
-        Mode::Later => b"later",
+        Mode::Waits => line.push_bytes(b"waits|"),
+        Mode::Later => line.push_bytes(b"later|"),
     }
 }
 
@@ -101,21 +101,25 @@ fn put_channel(alloc: Global, line: &mut Text, request: &Request) -> Result<(), 
     }
 }
 
+fn put_create(
+    line: &mut Text,
+    joinable: bool,
+    preserved: bool,
+    script: &Text,
+) -> Result<(), NoMemory> {
+    line.push_bytes(b"create|")?;
+    put_flag(line, joinable)?;
+    put_flag(line, preserved)?;
+    put(line, &[script.as_bytes()])
+}
+
 fn put_request(alloc: Global, line: &mut Text, request: &Request) -> Result<(), NoMemory> {
     match request {
         Request::Create {
             joinable,
             preserved,
             script,
-        } => put(
-            line,
-            &[
-                b"create".as_slice(),
-                flag(*joinable),
-                flag(*preserved),
-                script.as_bytes(),
-            ],
-        ),
+        } => put_create(line, *joinable, *preserved, script),
         Request::Preserve { id } => put(line, &[b"preserve".as_slice(), id.as_bytes()]),
         Request::Release { id } => put(line, &[b"release".as_slice(), id.as_bytes()]),
         Request::Names => put(line, &[b"names".as_slice()]),
@@ -129,17 +133,15 @@ fn put_request(alloc: Global, line: &mut Text, request: &Request) -> Result<(), 
             mode: how,
             variable,
             head,
-        } => put(
-            line,
-            &[
-                b"send".as_slice(),
-                id.as_bytes(),
-                script.as_bytes(),
-                mode(*how),
-                option(variable),
-                flag(*head),
-            ],
-        ),
+        } => {
+            put(
+                line,
+                &[b"send".as_slice(), id.as_bytes(), script.as_bytes()],
+            )?;
+            put_mode(line, *how)?;
+            put(line, &[option(variable)])?;
+            put_flag(line, *head)
+        }
         _ => put_channel(alloc, line, request),
     }
 }
