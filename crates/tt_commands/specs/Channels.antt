@@ -1,0 +1,125 @@
+-- What the words of commands on channels mean (puts(n), gets(n), eof(n), close(n), chan(n); thread(n), thread::detach,
+-- thread::attach, thread::transfer).
+use Rattle.std.specs.Prelude.{ℕ, bytes_eq, List, [], ◌∷◌, ◌++◌, codes, Option, Some, None, if◌then◌else◌}
+use Rattle.std.specs.List.{find}
+use Rattle.tt_calls.specs.declared.chan_call.ChanCall.TheVariants as chan
+use Rattle.tt_calls.specs.declared.request.Request.TheVariants as ask
+use Rattle.tt_commands.specs.Flags.{by_options, has}
+use Rattle.tt_commands.specs.Meant.{Asks, Bad, Chan, Local, Meant, Plain, bad_option}
+use Rattle.tt_commands.specs.Rows.{Row, by_words, row}
+use Rattle.tt_commands.specs.declared.call.Here.TheVariants as here
+use Rattle.tt_commands.specs.declared.call.Then.{Then}
+use Rattle.tt_commands.specs.declared.call.Then.TheVariants as after
+use Rattle.tt_commands.specs.declared.channels.ChannelCommand.{ChannelCommand}
+use Rattle.tt_commands.specs.declared.channels.ChannelCommand.TheVariants as channel
+use Rattle.tt_commands.specs.declared.channels.standard.Standard.{Standard}
+use Rattle.tt_commands.specs.declared.channels.standard.Standard.TheVariants.{Input, Output, Errors}
+use Rattle.tt_commands.specs.declared.flags.Flag.TheVariants.{NoNewline}
+
+-- the standard channel of a name
+abbrev pub standard_of : (name : List ℕ) → Option Standard
+standard_of name =
+    if bytes_eq name (codes "stdin") then Some Input else
+    if bytes_eq name (codes "stdout") then Some Output else
+    if bytes_eq name (codes "stderr") then Some Errors else None
+
+-- the wrong end of a channel
+abbrev pub wrong_end : (name text : List ℕ) → Meant
+wrong_end name text = Bad (codes "channel \"" ++ (name ++ text))
+
+abbrev pub not_for_writing : (name : List ℕ) → Meant
+not_for_writing name = wrong_end name (codes "\" wasn't opened for writing")
+
+abbrev pub not_for_reading : (name : List ℕ) → Meant
+not_for_reading name = wrong_end name (codes "\" wasn't opened for reading")
+
+-- puts(n): a newline follows, but with -nonewline
+abbrev pub line : (options : List (List ℕ)) → (text : List ℕ) → List ℕ
+line options text = if has NoNewline options then text else text ++ 10 ∷ []
+
+abbrev pub puts_to : Option Standard → (name text : List ℕ) → Meant
+puts_to (Some Input) name text = not_for_writing name
+puts_to (Some Output) name text = Asks (Plain (ask.WriteOut text)) after.Value
+puts_to (Some Errors) name text = Asks (Plain (ask.WriteErr text)) after.Value
+puts_to None name text = Asks (Chan (chan.Put name text)) after.Value
+
+abbrev pub put : (wrong : Meant) → (options words : List (List ℕ)) → Meant
+put wrong options (text ∷ []) = puts_to (Some Output) (codes "stdout") (line options text)
+put wrong options (name ∷ text ∷ []) = puts_to (standard_of name) name (line options text)
+put wrong options words = wrong
+
+abbrev pub puts : (wrong : Meant) → (words : List (List ℕ)) → Meant
+puts wrong words = by_options (NoNewline ∷ []) 1 words (put wrong)
+
+-- gets(n)
+abbrev pub gets_from : Option Standard → (name : List ℕ) → Then → Meant
+gets_from (Some Input) name kept = Asks (Plain ask.ReadLine) kept
+gets_from (Some Output) name kept = not_for_reading name
+gets_from (Some Errors) name kept = not_for_reading name
+gets_from None name kept = Asks (Chan (chan.GetLine name)) kept
+
+abbrev pub gets : (wrong : Meant) → (words : List (List ℕ)) → Meant
+gets wrong (name ∷ []) = gets_from (standard_of name) name after.Value
+gets wrong (name ∷ variable ∷ []) = gets_from (standard_of name) name (after.Store variable)
+gets wrong words = wrong
+
+-- eof(n)
+abbrev pub eof_of : Option Standard → (name : List ℕ) → Meant
+eof_of (Some Input) name = Asks (Plain ask.StdinEof) after.Value
+eof_of (Some Output) name = Local (here.Local (codes "0"))
+eof_of (Some Errors) name = Local (here.Local (codes "0"))
+eof_of None name = Asks (Chan (chan.Eof name)) after.Value
+
+abbrev pub eof : (wrong : Meant) → (words : List (List ℕ)) → Meant
+eof wrong (name ∷ []) = eof_of (standard_of name) name
+eof wrong words = wrong
+
+-- close(n)
+abbrev pub close : (wrong : Meant) → (words : List (List ℕ)) → Meant
+close wrong (name ∷ []) = Asks (Chan (chan.Close name)) after.Value
+close wrong words = wrong
+
+-- chan(n), of which there is chan pipe
+abbrev pub pipe : (wrong : Meant) → (words : List (List ℕ)) → Meant
+pipe wrong [] = Asks (Chan chan.Pipe) after.Value
+pipe wrong words = wrong
+
+abbrev pub channel_pipe : (wrong : Meant) → (words : List (List ℕ)) → Meant
+channel_pipe wrong [] = wrong
+channel_pipe wrong (name ∷ words) = if bytes_eq name (codes "pipe") then pipe wrong words else bad_option name
+
+-- thread(n), thread::detach
+abbrev pub detach : (wrong : Meant) → (words : List (List ℕ)) → Meant
+detach wrong (name ∷ []) = Asks (Chan (chan.Detach name)) after.Value
+detach wrong words = wrong
+
+-- thread(n), thread::attach
+abbrev pub attach : (wrong : Meant) → (words : List (List ℕ)) → Meant
+attach wrong (name ∷ []) = Asks (Chan (chan.Attach name)) after.Value
+attach wrong words = wrong
+
+-- thread(n), thread::transfer
+unfoldable pub transfer : (wrong : Meant) → (words : List (List ℕ)) → Meant
+transfer wrong (id ∷ name ∷ []) = Asks (Chan (chan.Transfer id name)) after.AwaitMove
+transfer wrong words = wrong
+
+-- the table
+abbrev pub channel_row : ChannelCommand → Row
+channel_row channel.Puts = row (codes "puts") (codes "puts ?-nonewline? ?channelId? string") (by_words puts)
+channel_row channel.Gets = row (codes "gets") (codes "gets channelId ?varName?") (by_words gets)
+channel_row channel.Eof = row (codes "eof") (codes "eof channelId") (by_words eof)
+channel_row channel.Close = row (codes "close") (codes "close channelId") (by_words close)
+channel_row channel.Pipe = row (codes "chan") (codes "chan pipe") (by_words channel_pipe)
+channel_row channel.Detach = row (codes "thread::detach") (codes "thread::detach c") (by_words detach)
+channel_row channel.Attach = row (codes "thread::attach") (codes "thread::attach c") (by_words attach)
+channel_row channel.Transfer = row (codes "thread::transfer") (codes "thread::transfer id c") (by_words transfer)
+
+-- the commands of the table
+abbrev pub channel_commands : List ChannelCommand
+channel_commands =
+    channel.Puts ∷ channel.Gets ∷ channel.Eof ∷ channel.Close ∷ channel.Pipe ∷ channel.Detach ∷ channel.Attach ∷
+    channel.Transfer ∷ []
+
+-- the first of these that has a name
+abbrev pub channel_among : List ChannelCommand → (name : List ℕ) → Option ChannelCommand
+channel_among commands name = find (λ command. bytes_eq name (channel_row command).name) commands

@@ -1,0 +1,93 @@
+//! What words come to.
+ghost use Rattle.std.specs.Prelude.{◌≡◌, ◌++◌, IfOk, codes};
+ghost use Rattle.tt_commands.specs.Meant.{Asked, Meant, asked_of, bad_option, bad_value, meant, wrong_number};
+
+use crate::{Call, Then};
+use std::alloc::Global;
+use tt_calls::{ChanCall, LockCall, PoolCall, Request, TsvCall};
+use tt_text::{NoMemory, Text};
+
+/// That words are too few or too many for a usage.
+pub(crate) fn wrong_number(alloc: Global, usage: &[u8]) -> Result<Call, NoMemory>
+    ensures { IfOk result (λ call. meant call ≡ wrong_number usage.now) }
+{
+    let message = quoting(alloc, b"wrong # args: should be \"", usage)?;
+    Ok(Call::Bad(message))
+}
+
+/// That a word is no option, or no subcommand.
+pub(crate) fn bad_option(alloc: Global, word: &[u8]) -> Result<Call, NoMemory>
+    ensures { IfOk result (λ call. meant call ≡ bad_option word.now) }
+{
+    let message = quoting(alloc, b"bad option \"", word)?;
+    Ok(Call::Bad(message))
+}
+
+/// That an option doesn't have such a value.
+pub(crate) fn bad_value(alloc: Global, word: &[u8]) -> Result<Call, NoMemory>
+    ensures { IfOk result (λ call. meant call ≡ bad_value word.now) }
+{
+    let message = quoting(alloc, b"bad value \"", word)?;
+    Ok(Call::Bad(message))
+}
+
+fn quoting(alloc: Global, before: &[u8], quoted: &[u8]) -> Result<Text, NoMemory>
+    ensures { IfOk result (λ text. text ≡ before.now ++ (quoted.now ++ codes "\"")) }
+{
+    let mut text = Text::from_bytes(alloc, before)?;
+    text.push_bytes(quoted)?;
+    text.push_bytes(b"\"")?;
+    Ok(text)
+}
+
+/// That a word is an error, in these words.
+pub(crate) fn bad(alloc: Global, message: &[u8]) -> Result<Call, NoMemory>
+    ensures { IfOk result (λ call. meant call ≡ Meant.Bad message.now) }
+{
+    let message = Text::from_bytes(alloc, message)?;
+    Ok(Call::Bad(message))
+}
+
+/// This is asked, and then that follows.
+pub(crate) fn asks(alloc: Global, request: Request, then: Then) -> Result<Call, NoMemory>
+    ensures { IfOk result (λ call. meant call ≡ Meant.Asks (asked_of request) then) }
+{
+    let request = Box::new(alloc, request)?;
+    Ok(Call::Ask { request, then })
+}
+
+/// A call on shared variables.
+pub(crate) fn asks_tsv(alloc: Global, call: TsvCall, then: Then) -> Result<Call, NoMemory>
+    ensures { IfOk result (λ asked. meant asked ≡ Meant.Asks (Asked.Tsv call) then) }
+{
+    let call = Box::new(alloc, call)?;
+    let asked = asks(alloc, Request::Tsv(call), then)?;
+    Ok(asked)
+}
+
+/// A call on locks.
+pub(crate) fn asks_lock(alloc: Global, call: LockCall, then: Then) -> Result<Call, NoMemory>
+    ensures { IfOk result (λ asked. meant asked ≡ Meant.Asks (Asked.Lock call) then) }
+{
+    let call = Box::new(alloc, call)?;
+    let asked = asks(alloc, Request::Lock(call), then)?;
+    Ok(asked)
+}
+
+/// A call on pools.
+pub(crate) fn asks_pool(alloc: Global, call: PoolCall, then: Then) -> Result<Call, NoMemory>
+    ensures { IfOk result (λ asked. meant asked ≡ Meant.Asks (Asked.Pool call) then) }
+{
+    let call = Box::new(alloc, call)?;
+    let asked = asks(alloc, Request::Pool(call), then)?;
+    Ok(asked)
+}
+
+/// A call on channels.
+pub(crate) fn asks_chan(alloc: Global, call: ChanCall, then: Then) -> Result<Call, NoMemory>
+    ensures { IfOk result (λ asked. meant asked ≡ Meant.Asks (Asked.Chan call) then) }
+{
+    let call = Box::new(alloc, call)?;
+    let asked = asks(alloc, Request::Chan(call), then)?;
+    Ok(asked)
+}
