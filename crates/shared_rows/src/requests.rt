@@ -1,7 +1,7 @@
 use crate::calls::{chan_call, lock_call, pool_call, tsv_call};
 use crate::names::{Input, Name, OfMail, OfThread, Plain};
 use crate::words::Words;
-use tt_calls::{Mode, Request};
+use tt_calls::{Boxed, Mode, Request};
 use tt_shared::Line;
 
 /// The request of a name and its words.
@@ -12,19 +12,19 @@ pub(crate) fn request_of(name: Name, words: &Words) -> anyhow::Result<Request> {
         Name::Mail(which) => of_mail(which, words),
         Name::Variable(which) => {
             let call = tsv_call(which, words)?;
-            Ok(Request::Tsv(Box::new(words.alloc, call)?))
+            Ok(Request::Tsv(Boxed::new(words.alloc, call)?))
         }
         Name::Lock(which) => {
             let call = lock_call(which, words)?;
-            Ok(Request::Lock(Box::new(words.alloc, call)?))
+            Ok(Request::Lock(Boxed::new(words.alloc, call)?))
         }
         Name::Pool(which) => {
             let call = pool_call(which, words)?;
-            Ok(Request::Pool(Box::new(words.alloc, call)?))
+            Ok(Request::Pool(Boxed::new(words.alloc, call)?))
         }
         Name::Channel(which) => {
             let call = chan_call(which, words)?;
-            Ok(Request::Chan(Box::new(words.alloc, call)?))
+            Ok(Request::Chan(Boxed::new(words.alloc, call)?))
         }
     }
 }

@@ -25,10 +25,10 @@ fn shapes_for(request: &Request) -> &'static [Shape]
         Request::TakeReady => &[Shape::Event, Shape::NoEvent],
         Request::Deliver { .. } => &[Shape::Served, Shape::Refused],
         Request::Report { .. } => &[Shape::Served],
-        Request::Tsv(call) => tsv_shapes(call),
-        Request::Lock(call) => lock_shapes(call),
-        Request::Pool(call) => pool_shapes(call),
-        Request::Chan(call) => chan_shapes(call),
+        Request::Tsv(call) => tsv_shapes(call.get()),
+        Request::Lock(call) => lock_shapes(call.get()),
+        Request::Pool(call) => pool_shapes(call.get()),
+        Request::Chan(call) => chan_shapes(call.get()),
         Request::StdinEof | Request::Names | Request::Exists { .. } => &[Shape::Value],
         Request::Create { .. }
         | Request::Preserve { .. }

@@ -2,6 +2,7 @@
 //! evaluation ended.
 #![tactic(auto)]
 
+mod boxed;
 mod chan_call;
 mod event;
 mod fitting;
@@ -13,6 +14,7 @@ mod request;
 mod start;
 mod tsv_call;
 
+pub use boxed::Boxed;
 pub use chan_call::ChanCall;
 pub use event::Event;
 pub use fitting::fits;

@@ -1,4 +1,4 @@
-use crate::{ChanCall, LockCall, Outcome, PoolCall, TsvCall};
+use crate::{Boxed, ChanCall, LockCall, Outcome, PoolCall, TsvCall};
 use tt_text::{Text, Texts};
 
 /// Whether the sender of a script waits for its result (thread(n), thread::send).
@@ -93,13 +93,13 @@ pub enum Request {
         script: Text,
     },
     /// A call on shared variables (tsv(n)).
-    Tsv(Box<TsvCall>),
+    Tsv(Boxed<TsvCall>),
     /// A call on a lock (thread(n), thread::mutex, thread::rwmutex, thread::cond, thread::eval).
-    Lock(Box<LockCall>),
+    Lock(Boxed<LockCall>),
     /// A call on a pool of workers (tpool(n)).
-    Pool(Box<PoolCall>),
+    Pool(Boxed<PoolCall>),
     /// A call on a channel (chan(n); thread(n), thread::transfer).
-    Chan(Box<ChanCall>),
+    Chan(Boxed<ChanCall>),
     /// Let others go on.
     Pause,
     /// End this thread with an exit code.

@@ -1,4 +1,4 @@
-use crate::{Code, Event, LockCall, Mode, Outcome, PoolCall, Reply, Request, Start, fits};
+use crate::{Boxed, Code, Event, LockCall, Mode, Outcome, PoolCall, Reply, Request, Start, fits};
 use std::alloc::Global;
 use std::test::Fail;
 use tt_text::Text;
@@ -38,7 +38,7 @@ fn look(alloc: Global) -> Result<Request, Fail> {
         pool: Text::new(alloc),
         jobs: tt_text::Texts::new(alloc),
     };
-    Ok(Request::Pool(Box::new(alloc, call)?))
+    Ok(Request::Pool(Boxed::new(alloc, call)?))
 }
 
 #[test]
@@ -59,7 +59,7 @@ fn replies_fit_requests(rt: HostRuntime) -> Result<(), Fail> {
     let notify = LockCall::Notify {
         id: Text::new(rt.alloc()),
     };
-    let notify = Request::Lock(Box::new(rt.alloc(), notify)?);
+    let notify = Request::Lock(Boxed::new(rt.alloc(), notify)?);
     assert!(rt; fits(&notify, &Reply::Go) && fits(&notify, &Reply::Refused(Text::new(rt.alloc()))));
     Ok(())
 }

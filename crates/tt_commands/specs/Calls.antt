@@ -1,13 +1,14 @@
 -- What the words of a command mean: the families of commands, each with its table.
 use Rattle.std.specs.Prelude.{ℕ, List, [], ◌∷◌, Option, Some, None}
 use Rattle.tt_commands.specs.Channels.{channel_among, channel_commands, channel_row}
-use Rattle.tt_commands.specs.Meant.{Meant, Other}
+use Rattle.tt_commands.specs.declared.call.Call.{Call}
+use Rattle.tt_commands.specs.declared.call.Call.TheVariants.{Other}
 use Rattle.tt_commands.specs.Rows.{meaning_by}
 use Rattle.tt_commands.specs.Shared.{shared_among, shared_commands, shared_meaning}
 use Rattle.tt_commands.specs.Threads.{thread_among, thread_commands, thread_row}
 
 -- shared variables (tsv(n)), or another name
-abbrev pub shared_call : (name : List ℕ) → (words : List (List ℕ)) → Meant
+abbrev pub shared_call : (name : List ℕ) → (words : List (List ℕ)) → Call
 shared_call name words =
     elim (shared_among shared_commands name) [
       | Some command ↦ shared_meaning command name words
@@ -15,7 +16,7 @@ shared_call name words =
     ]
 
 -- channels (puts(n), gets(n), eof(n), close(n), chan(n), thread(n)), or another name
-abbrev pub channel_call : (me : ℕ) → (name : List ℕ) → (words : List (List ℕ)) → Meant
+abbrev pub channel_call : (me : ℕ) → (name : List ℕ) → (words : List (List ℕ)) → Call
 channel_call me name words =
     elim (channel_among channel_commands name) [
       | Some command ↦ meaning_by (channel_row command) me words
@@ -23,7 +24,7 @@ channel_call me name words =
     ]
 
 -- threads (thread(n), vwait(n), update(n), exit(n)), or another name
-abbrev pub thread_call : (me : ℕ) → (name : List ℕ) → (words : List (List ℕ)) → Meant
+abbrev pub thread_call : (me : ℕ) → (name : List ℕ) → (words : List (List ℕ)) → Call
 thread_call me name words =
     elim (thread_among thread_commands name) [
       | Some command ↦ meaning_by (thread_row command) me words
@@ -31,6 +32,6 @@ thread_call me name words =
     ]
 
 -- a command's name and the words after it
-abbrev pub call_of : (words : List (List ℕ)) → (me : ℕ) → Meant
+abbrev pub call_of : (words : List (List ℕ)) → (me : ℕ) → Call
 call_of [] me = Other
 call_of (name ∷ words) me = thread_call me name words

@@ -5,7 +5,9 @@ use Rattle.std.specs.List.{find}
 use Rattle.tt_calls.specs.declared.chan_call.ChanCall.TheVariants as chan
 use Rattle.tt_calls.specs.declared.request.Request.TheVariants as ask
 use Rattle.tt_commands.specs.Flags.{by_options, has}
-use Rattle.tt_commands.specs.Meant.{Asks, Bad, Chan, Local, Meant, Plain, bad_option}
+use Rattle.tt_commands.specs.Usages.{bad_option}
+use Rattle.tt_commands.specs.declared.call.Call.{Call}
+use Rattle.tt_commands.specs.declared.call.Call.TheVariants.{Ask, Bad, Here}
 use Rattle.tt_commands.specs.Rows.{Row, by_words, row}
 use Rattle.tt_commands.specs.declared.call.Here.TheVariants as here
 use Rattle.tt_commands.specs.declared.call.Then.{Then}
@@ -24,83 +26,83 @@ standard_of name =
     if bytes_eq name (codes "stderr") then Some Errors else None
 
 -- the wrong end of a channel
-abbrev pub wrong_end : (name text : List ℕ) → Meant
+abbrev pub wrong_end : (name text : List ℕ) → Call
 wrong_end name text = Bad (codes "channel \"" ++ (name ++ text))
 
-abbrev pub not_for_writing : (name : List ℕ) → Meant
+abbrev pub not_for_writing : (name : List ℕ) → Call
 not_for_writing name = wrong_end name (codes "\" wasn't opened for writing")
 
-abbrev pub not_for_reading : (name : List ℕ) → Meant
+abbrev pub not_for_reading : (name : List ℕ) → Call
 not_for_reading name = wrong_end name (codes "\" wasn't opened for reading")
 
 -- puts(n): a newline follows, but with -nonewline
 abbrev pub line : (options : List (List ℕ)) → (text : List ℕ) → List ℕ
 line options text = if has NoNewline options then text else text ++ 10 ∷ []
 
-abbrev pub puts_to : Option Standard → (name text : List ℕ) → Meant
+abbrev pub puts_to : Option Standard → (name text : List ℕ) → Call
 puts_to (Some Input) name text = not_for_writing name
-puts_to (Some Output) name text = Asks (Plain (ask.WriteOut text)) after.Value
-puts_to (Some Errors) name text = Asks (Plain (ask.WriteErr text)) after.Value
-puts_to None name text = Asks (Chan (chan.Put name text)) after.Value
+puts_to (Some Output) name text = Ask (ask.WriteOut text) after.Value
+puts_to (Some Errors) name text = Ask (ask.WriteErr text) after.Value
+puts_to None name text = Ask (ask.Chan (chan.Put name text)) after.Value
 
-abbrev pub put : (wrong : Meant) → (options words : List (List ℕ)) → Meant
+abbrev pub put : (wrong : Call) → (options words : List (List ℕ)) → Call
 put wrong options (text ∷ []) = puts_to (Some Output) (codes "stdout") (line options text)
 put wrong options (name ∷ text ∷ []) = puts_to (standard_of name) name (line options text)
 put wrong options words = wrong
 
-abbrev pub puts : (wrong : Meant) → (words : List (List ℕ)) → Meant
+abbrev pub puts : (wrong : Call) → (words : List (List ℕ)) → Call
 puts wrong words = by_options (NoNewline ∷ []) 1 words (put wrong)
 
 -- gets(n)
-abbrev pub gets_from : Option Standard → (name : List ℕ) → Then → Meant
-gets_from (Some Input) name kept = Asks (Plain ask.ReadLine) kept
+abbrev pub gets_from : Option Standard → (name : List ℕ) → Then → Call
+gets_from (Some Input) name kept = Ask ask.ReadLine kept
 gets_from (Some Output) name kept = not_for_reading name
 gets_from (Some Errors) name kept = not_for_reading name
-gets_from None name kept = Asks (Chan (chan.GetLine name)) kept
+gets_from None name kept = Ask (ask.Chan (chan.GetLine name)) kept
 
-abbrev pub gets : (wrong : Meant) → (words : List (List ℕ)) → Meant
+abbrev pub gets : (wrong : Call) → (words : List (List ℕ)) → Call
 gets wrong (name ∷ []) = gets_from (standard_of name) name after.Value
 gets wrong (name ∷ variable ∷ []) = gets_from (standard_of name) name (after.Store variable)
 gets wrong words = wrong
 
 -- eof(n)
-abbrev pub eof_of : Option Standard → (name : List ℕ) → Meant
-eof_of (Some Input) name = Asks (Plain ask.StdinEof) after.Value
-eof_of (Some Output) name = Local (here.Local (codes "0"))
-eof_of (Some Errors) name = Local (here.Local (codes "0"))
-eof_of None name = Asks (Chan (chan.Eof name)) after.Value
+abbrev pub eof_of : Option Standard → (name : List ℕ) → Call
+eof_of (Some Input) name = Ask ask.StdinEof after.Value
+eof_of (Some Output) name = Here (here.Local (codes "0"))
+eof_of (Some Errors) name = Here (here.Local (codes "0"))
+eof_of None name = Ask (ask.Chan (chan.Eof name)) after.Value
 
-abbrev pub eof : (wrong : Meant) → (words : List (List ℕ)) → Meant
+abbrev pub eof : (wrong : Call) → (words : List (List ℕ)) → Call
 eof wrong (name ∷ []) = eof_of (standard_of name) name
 eof wrong words = wrong
 
 -- close(n)
-abbrev pub close : (wrong : Meant) → (words : List (List ℕ)) → Meant
-close wrong (name ∷ []) = Asks (Chan (chan.Close name)) after.Value
+abbrev pub close : (wrong : Call) → (words : List (List ℕ)) → Call
+close wrong (name ∷ []) = Ask (ask.Chan (chan.Close name)) after.Value
 close wrong words = wrong
 
 -- chan(n), of which there is chan pipe
-abbrev pub pipe : (wrong : Meant) → (words : List (List ℕ)) → Meant
-pipe wrong [] = Asks (Chan chan.Pipe) after.Value
+abbrev pub pipe : (wrong : Call) → (words : List (List ℕ)) → Call
+pipe wrong [] = Ask (ask.Chan chan.Pipe) after.Value
 pipe wrong words = wrong
 
-abbrev pub channel_pipe : (wrong : Meant) → (words : List (List ℕ)) → Meant
+abbrev pub channel_pipe : (wrong : Call) → (words : List (List ℕ)) → Call
 channel_pipe wrong [] = wrong
 channel_pipe wrong (name ∷ words) = if bytes_eq name (codes "pipe") then pipe wrong words else bad_option name
 
 -- thread(n), thread::detach
-abbrev pub detach : (wrong : Meant) → (words : List (List ℕ)) → Meant
-detach wrong (name ∷ []) = Asks (Chan (chan.Detach name)) after.Value
+abbrev pub detach : (wrong : Call) → (words : List (List ℕ)) → Call
+detach wrong (name ∷ []) = Ask (ask.Chan (chan.Detach name)) after.Value
 detach wrong words = wrong
 
 -- thread(n), thread::attach
-abbrev pub attach : (wrong : Meant) → (words : List (List ℕ)) → Meant
-attach wrong (name ∷ []) = Asks (Chan (chan.Attach name)) after.Value
+abbrev pub attach : (wrong : Call) → (words : List (List ℕ)) → Call
+attach wrong (name ∷ []) = Ask (ask.Chan (chan.Attach name)) after.Value
 attach wrong words = wrong
 
 -- thread(n), thread::transfer
-unfoldable pub transfer : (wrong : Meant) → (words : List (List ℕ)) → Meant
-transfer wrong (id ∷ name ∷ []) = Asks (Chan (chan.Transfer id name)) after.AwaitMove
+unfoldable pub transfer : (wrong : Call) → (words : List (List ℕ)) → Call
+transfer wrong (id ∷ name ∷ []) = Ask (ask.Chan (chan.Transfer id name)) after.AwaitMove
 transfer wrong words = wrong
 
 -- the table

@@ -2,7 +2,9 @@
 use Rattle.std.specs.Prelude.{ℕ, ◌%◌, ◌==◌, Bool, true, false, ◌||◌, ℤ, pos, negsuc, bytes_eq, List, [], ◌∷◌, length, codes, Option, Some, None, Result, Ok, Err, if◌then◌else◌}
 use Rattle.std.specs.Option.{is_some}
 use Rattle.tt_calls.specs.declared.request.Request.TheVariants as ask
-use Rattle.tt_commands.specs.Meant.{Asks, Meant, Plain, bad_option, bad_value}
+use Rattle.tt_commands.specs.Usages.{bad_option, bad_value}
+use Rattle.tt_commands.specs.declared.call.Call.{Call}
+use Rattle.tt_commands.specs.declared.call.Call.TheVariants.{Ask}
 use Rattle.tt_commands.specs.declared.call.Then.TheVariants as after
 use Rattle.tt_exprs.specs.Apply.{boolean_of}
 use Rattle.tt_number.specs.Numerals.{whole_of}
@@ -64,14 +66,14 @@ told_words [] = []
 told_words (option ∷ []) = told_alone (option ∷ [])
 told_words (option ∷ value ∷ words) = option ∷ told_value option value ∷ told_words words
 
-abbrev pub configures : (id : List ℕ) → (words : List (List ℕ)) → Meant
+abbrev pub configures : (id : List ℕ) → (words : List (List ℕ)) → Call
 configures id words =
     elim (first_bad words) [
       | Some value ↦ bad_value value
-      | None ↦ Asks (Plain (ask.Configure id (told_words words))) after.Value
+      | None ↦ Ask (ask.Configure id (told_words words)) after.Value
     ]
 
-abbrev pub configured : (wrong : Meant) → (id : List ℕ) → (words : List (List ℕ)) → Meant
+abbrev pub configured : (wrong : Call) → (id : List ℕ) → (words : List (List ℕ)) → Call
 configured wrong id words =
     elim (first_unknown words) [
       | Some option ↦ bad_option option
@@ -79,6 +81,6 @@ configured wrong id words =
     ]
 
 -- thread::configure
-abbrev pub configure : (wrong : Meant) → (words : List (List ℕ)) → Meant
+abbrev pub configure : (wrong : Call) → (words : List (List ℕ)) → Call
 configure wrong [] = wrong
 configure wrong (id ∷ words) = configured wrong id words

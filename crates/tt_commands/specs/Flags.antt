@@ -3,7 +3,8 @@
 use Rattle.std.specs.Prelude.{ℕ, ◌-◌, Bool, false, ◌&&◌, not, ◌==◌, bytes_eq, List, [], ◌∷◌, length, take, drop, take_while, codes, Option, Some, None}
 use Rattle.std.specs.List.{find, list_any}
 use Rattle.std.specs.Option.{is_some}
-use Rattle.tt_commands.specs.Meant.{Meant, bad_option}
+use Rattle.tt_commands.specs.Usages.{bad_option}
+use Rattle.tt_commands.specs.declared.call.Call.{Call}
 use Rattle.tt_commands.specs.declared.flags.Flag.{Flag}
 use Rattle.tt_commands.specs.declared.flags.Flag.TheVariants.{Joinable, Preserved, Wait, Async, Head, NoNewline, Recursive, Detached, NoWait}
 
@@ -46,12 +47,12 @@ abbrev pub has : Flag → (options : List (List ℕ)) → Bool
 has flag options = list_any (λ word. bytes_eq word (spelling flag)) options
 
 -- what a command means by the options in front and the words after them
-abbrev pub cut : ℕ → (words : List (List ℕ)) → (meaning : (options after : List (List ℕ)) → Meant) → Meant
+abbrev pub cut : ℕ → (words : List (List ℕ)) → (meaning : (options after : List (List ℕ)) → Call) → Call
 cut count words meaning = meaning (take count words) (drop count words)
 
 -- a word before the last ones that is meant as an option, and is none, is an error
 abbrev pub by_options :
-    (known : List Flag) → (required : ℕ) → (words : List (List ℕ)) → (meaning : (options after : List (List ℕ)) → Meant) → Meant
+    (known : List Flag) → (required : ℕ) → (words : List (List ℕ)) → (meaning : (options after : List (List ℕ)) → Call) → Call
 by_options known required words meaning =
     elim (first_unknown known (before_last required words)) [
       | Some word ↦ bad_option word

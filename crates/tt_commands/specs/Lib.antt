@@ -2,8 +2,8 @@ pub mod Calls
 pub mod Channels
 pub mod Configuring
 pub mod Flags
-pub mod Meant
 pub mod Rows
 pub mod Sending
 pub mod Shared
 pub mod Threads
+pub mod Usages

@@ -3,7 +3,8 @@ use Rattle.std.specs.Prelude.{ℕ, ◌^◌, Bool, true, false, ◌&&◌, not, �
 use Rattle.tt_calls.specs.declared.request.Mode.TheVariants.{Waits, Later}
 use Rattle.tt_calls.specs.declared.request.Request.TheVariants as ask
 use Rattle.tt_commands.specs.Flags.{by_options, has}
-use Rattle.tt_commands.specs.Meant.{Asks, Bad, Local, Meant, Plain}
+use Rattle.tt_commands.specs.declared.call.Call.{Call}
+use Rattle.tt_commands.specs.declared.call.Call.TheVariants.{Ask, Bad, Here}
 use Rattle.tt_commands.specs.declared.call.Here.TheVariants as here
 use Rattle.tt_commands.specs.declared.call.Then.{Then}
 use Rattle.tt_commands.specs.declared.call.Then.TheVariants as after
@@ -12,7 +13,7 @@ use Rattle.tt_ids.specs.Ids.{id_named}
 use Rattle.tt_ids.specs.declared.id.IdKind.TheVariants as kind
 
 -- no thread has the empty id
-abbrev pub by_id : (meaning : List ℕ → Meant) → (id : List ℕ) → Meant
+abbrev pub by_id : (meaning : List ℕ → Call) → (id : List ℕ) → Call
 by_id meaning [] = Bad (codes "thread \"\" does not exist")
 by_id meaning (b ∷ id) = meaning (b ∷ id)
 
@@ -21,20 +22,20 @@ abbrev pub is_id_of : (me : ℕ) → (id : List ℕ) → Bool
 is_id_of me id = elim (id_named kind.Thread id) [ Some number ↦ number == me | None ↦ false ]
 
 -- thread::send: a script to oneself is evaluated in place, but with -async
-abbrev pub sends : (me : ℕ) → (options : List (List ℕ)) → (id script : List ℕ) → (variable : Option (List ℕ)) → Meant
+abbrev pub sends : (me : ℕ) → (options : List (List ℕ)) → (id script : List ℕ) → (variable : Option (List ℕ)) → Call
 sends me options id script variable =
     if has Async options
-    then Asks (Plain (ask.Send id script Later variable (has Head options))) after.Value else
+    then Ask (ask.Send id script Later variable (has Head options)) after.Value else
     if is_id_of me id
-    then Local (here.Direct script variable)
-    else Asks (Plain (ask.Send id script Waits None (has Head options))) (after.AwaitResult variable)
+    then Here (here.Direct script variable)
+    else Ask (ask.Send id script Waits None (has Head options)) (after.AwaitResult variable)
 
-abbrev pub sent : (me : ℕ) → (wrong : Meant) → (options words : List (List ℕ)) → Meant
+abbrev pub sent : (me : ℕ) → (wrong : Call) → (options words : List (List ℕ)) → Call
 sent me wrong options (id ∷ script ∷ []) = sends me options id script None
 sent me wrong options (id ∷ script ∷ variable ∷ []) = sends me options id script (Some variable)
 sent me wrong options words = wrong
 
-abbrev pub send : (me : ℕ) → (wrong : Meant) → (words : List (List ℕ)) → Meant
+abbrev pub send : (me : ℕ) → (wrong : Call) → (words : List (List ℕ)) → Call
 send me wrong words = by_options (Async ∷ Head ∷ []) 2 words (sent me wrong)
 
 -- the number that an id gives another thread, of 32 bits
@@ -53,14 +54,14 @@ abbrev pub after_release : (me : ℕ) → (waits : Bool) → (id : List ℕ) →
 after_release me true id = awaits (other_thread me id)
 after_release me false id = after.Value
 
-abbrev pub releases : (me : ℕ) → (options : List (List ℕ)) → (id : List ℕ) → Meant
+abbrev pub releases : (me : ℕ) → (options : List (List ℕ)) → (id : List ℕ) → Call
 releases me options id =
-    by_id (λ id. Asks (Plain (ask.Release id)) (after_release me (has Wait options) id)) id
+    by_id (λ id. Ask (ask.Release id) (after_release me (has Wait options) id)) id
 
-abbrev pub released : (me : ℕ) → (wrong : Meant) → (options words : List (List ℕ)) → Meant
-released me wrong options [] = Asks (Plain (ask.Release [])) after.Value
+abbrev pub released : (me : ℕ) → (wrong : Call) → (options words : List (List ℕ)) → Call
+released me wrong options [] = Ask (ask.Release []) after.Value
 released me wrong options (id ∷ []) = releases me options id
 released me wrong options words = wrong
 
-abbrev pub release : (me : ℕ) → (wrong : Meant) → (words : List (List ℕ)) → Meant
+abbrev pub release : (me : ℕ) → (wrong : Call) → (words : List (List ℕ)) → Call
 release me wrong words = by_options (Wait ∷ []) 0 words (released me wrong)

@@ -3,7 +3,10 @@ use Rattle.std.specs.Prelude.{ℕ, ◌-◌, Bool, true, ◌&&◌, ◌||◌, not,
 use Rattle.std.specs.List.{find}
 use Rattle.tt_calls.specs.declared.tsv_call.TsvCall.TheVariants as tsv
 use Rattle.tt_commands.specs.Flags.{is_meant}
-use Rattle.tt_commands.specs.Meant.{Asks, Meant, Tsv, bad_option, wrong_number}
+use Rattle.tt_calls.specs.declared.request.Request.TheVariants as ask
+use Rattle.tt_commands.specs.Usages.{bad_option, wrong_number}
+use Rattle.tt_commands.specs.declared.call.Call.{Call}
+use Rattle.tt_commands.specs.declared.call.Call.TheVariants.{Ask}
 use Rattle.tt_commands.specs.declared.call.Then.{Then}
 use Rattle.tt_commands.specs.declared.call.Then.TheVariants as after
 use Rattle.tt_commands.specs.declared.shared.ArrayCommand.{ArrayCommand}
@@ -103,13 +106,13 @@ is_first_mode [] = true
 is_first_mode (mode ∷ modes) = is_mode mode
 
 -- the words of a command go on, its name first
-abbrev pub runs : (name : List ℕ) → (words : List (List ℕ)) → Then → Meant
-runs name words kept = Asks (Tsv (tsv.Run (name ∷ words))) kept
+abbrev pub runs : (name : List ℕ) → (words : List (List ℕ)) → Then → Call
+runs name words kept = Ask (ask.Tsv (tsv.Run (name ∷ words))) kept
 
 abbrev pub is_search : (words modes : List (List ℕ)) → Bool
 is_search words modes = fits (shared_row shared.Lsearch) words && is_first_mode modes
 
-abbrev pub searches : (name : List ℕ) → (words : List (List ℕ)) → Meant
+abbrev pub searches : (name : List ℕ) → (words : List (List ℕ)) → Call
 searches name words =
     elim (unknown_mode (modes words)) [
       | Some word ↦ bad_option word
@@ -120,18 +123,18 @@ searches name words =
     ]
 
 -- tsv::lock: the array is held while the script that the arguments make is evaluated
-unfoldable pub locks : (wrong : Meant) → (words : List (List ℕ)) → Meant
-locks wrong (array ∷ arg ∷ args) = Asks (Tsv (tsv.Hold array)) (after.Held (concatenation (arg ∷ args)))
+unfoldable pub locks : (wrong : Call) → (words : List (List ℕ)) → Call
+locks wrong (array ∷ arg ∷ args) = Ask (ask.Tsv (tsv.Hold array)) (after.Held (concatenation (arg ∷ args)))
 locks wrong words = wrong
 
 -- tsv::array
-abbrev pub array_runs : ArrayCommand → (name : List ℕ) → (words : List (List ℕ)) → (count : ℕ) → Meant
+abbrev pub array_runs : ArrayCommand → (name : List ℕ) → (words : List (List ℕ)) → (count : ℕ) → Call
 array_runs command name words count =
     if is_between (array_row command).least (array_row command).most count
     then runs name words after.Value
     else wrong_number (array_row command).usage
 
-abbrev pub arrays : (name : List ℕ) → (words : List (List ℕ)) → Meant
+abbrev pub arrays : (name : List ℕ) → (words : List (List ℕ)) → Call
 arrays name [] = wrong_number (shared_row shared.Array).usage
 arrays name (sub ∷ words) =
     elim (array_among array_commands sub) [
@@ -140,14 +143,14 @@ arrays name (sub ∷ words) =
     ]
 
 -- the others
-abbrev pub elements : SharedCommand → (name : List ℕ) → (words : List (List ℕ)) → Meant
+abbrev pub elements : SharedCommand → (name : List ℕ) → (words : List (List ℕ)) → Call
 elements command name words =
     if fits (shared_row command) words
     then runs name words (kept command words)
     else wrong_number (shared_row command).usage
 
 -- what the words after a name mean
-abbrev pub shared_meaning : SharedCommand → (name : List ℕ) → (words : List (List ℕ)) → Meant
+abbrev pub shared_meaning : SharedCommand → (name : List ℕ) → (words : List (List ℕ)) → Call
 shared_meaning shared.Array name words = arrays name words
 shared_meaning shared.Lock name words = locks (wrong_number (shared_row shared.Lock).usage) words
 shared_meaning shared.Lsearch name words = searches name words

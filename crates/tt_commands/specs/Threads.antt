@@ -4,7 +4,8 @@ use Rattle.std.specs.List.{find}
 use Rattle.tt_calls.specs.declared.request.Request.TheVariants as ask
 use Rattle.tt_commands.specs.Configuring.{configure}
 use Rattle.tt_commands.specs.Flags.{by_options, has}
-use Rattle.tt_commands.specs.Meant.{Asks, Bad, Local, Meant, Plain}
+use Rattle.tt_commands.specs.declared.call.Call.{Call}
+use Rattle.tt_commands.specs.declared.call.Call.TheVariants.{Ask, Bad, Here}
 use Rattle.tt_commands.specs.Rows.{Row, by_words, row}
 use Rattle.tt_commands.specs.Sending.{by_id, release, send}
 use Rattle.tt_commands.specs.declared.call.Goal.TheVariants as goal
@@ -20,89 +21,89 @@ use Rattle.tt_number.specs.Numerals.{whole_of}
 use Rattle.tt_number.specs.declared.numeral.NumberFault.{NumberFault}
 
 -- vwait(n)
-abbrev pub vwait : (wrong : Meant) → (words : List (List ℕ)) → Meant
-vwait wrong (name ∷ []) = Asks (Plain ask.Take) (after.Serve (goal.Written name))
+abbrev pub vwait : (wrong : Call) → (words : List (List ℕ)) → Call
+vwait wrong (name ∷ []) = Ask ask.Take (after.Serve (goal.Written name))
 vwait wrong words = wrong
 
 -- update(n)
-abbrev pub update : (wrong : Meant) → (words : List (List ℕ)) → Meant
-update wrong [] = Asks (Plain ask.TakeReady) (after.Serve goal.Idle)
+abbrev pub update : (wrong : Call) → (words : List (List ℕ)) → Call
+update wrong [] = Ask ask.TakeReady (after.Serve goal.Idle)
 update wrong words = wrong
 
 -- thread(n), thread::wait
-abbrev pub wait : (wrong : Meant) → (words : List (List ℕ)) → Meant
-wait wrong [] = Asks (Plain ask.Take) (after.Serve goal.Stopped)
+abbrev pub wait : (wrong : Call) → (words : List (List ℕ)) → Call
+wait wrong [] = Ask ask.Take (after.Serve goal.Stopped)
 wait wrong words = wrong
 
 -- thread(n), thread::create: without a script, thread::wait
-abbrev pub creates : (options : List (List ℕ)) → (script : List ℕ) → Meant
-creates options script = Asks (Plain (ask.Create (has Joinable options) (has Preserved options) script)) after.Value
+abbrev pub creates : (options : List (List ℕ)) → (script : List ℕ) → Call
+creates options script = Ask (ask.Create (has Joinable options) (has Preserved options) script) after.Value
 
-abbrev pub created : (wrong : Meant) → (options words : List (List ℕ)) → Meant
+abbrev pub created : (wrong : Call) → (options words : List (List ℕ)) → Call
 created wrong options [] = creates options (codes "thread::wait")
 created wrong options (script ∷ []) = creates options script
 created wrong options words = wrong
 
-abbrev pub create : (wrong : Meant) → (words : List (List ℕ)) → Meant
+abbrev pub create : (wrong : Call) → (words : List (List ℕ)) → Call
 create wrong words = by_options (Joinable ∷ Preserved ∷ []) 0 words (created wrong)
 
 -- thread(n), thread::preserve: of oneself without an id; no thread has the empty id
-abbrev pub preserves : (id : List ℕ) → Meant
-preserves id = by_id (λ id. Asks (Plain (ask.Preserve id)) after.Value) id
+abbrev pub preserves : (id : List ℕ) → Call
+preserves id = by_id (λ id. Ask (ask.Preserve id) after.Value) id
 
-abbrev pub preserve : (wrong : Meant) → (words : List (List ℕ)) → Meant
-preserve wrong [] = Asks (Plain (ask.Preserve [])) after.Value
+abbrev pub preserve : (wrong : Call) → (words : List (List ℕ)) → Call
+preserve wrong [] = Ask (ask.Preserve []) after.Value
 preserve wrong (id ∷ []) = preserves id
 preserve wrong words = wrong
 
 -- thread(n), thread::id
-abbrev pub id : (me : ℕ) → (wrong : Meant) → (words : List (List ℕ)) → Meant
-id me wrong [] = Local (here.Local (ids.id kind.Thread me))
+abbrev pub id : (me : ℕ) → (wrong : Call) → (words : List (List ℕ)) → Call
+id me wrong [] = Here (here.Local (ids.id kind.Thread me))
 id me wrong words = wrong
 
 -- thread(n), thread::names
-abbrev pub names : (wrong : Meant) → (words : List (List ℕ)) → Meant
-names wrong [] = Asks (Plain ask.Names) after.Value
+abbrev pub names : (wrong : Call) → (words : List (List ℕ)) → Call
+names wrong [] = Ask ask.Names after.Value
 names wrong words = wrong
 
 -- thread(n), thread::exists
-abbrev pub exists : (wrong : Meant) → (words : List (List ℕ)) → Meant
-exists wrong (id ∷ []) = Asks (Plain (ask.Exists id)) after.Value
+abbrev pub exists : (wrong : Call) → (words : List (List ℕ)) → Call
+exists wrong (id ∷ []) = Ask (ask.Exists id) after.Value
 exists wrong words = wrong
 
 -- thread(n), thread::join
-abbrev pub join : (wrong : Meant) → (words : List (List ℕ)) → Meant
-join wrong (id ∷ []) = Asks (Plain (ask.Join id)) (after.AwaitEnd None)
+abbrev pub join : (wrong : Call) → (words : List (List ℕ)) → Call
+join wrong (id ∷ []) = Ask (ask.Join id) (after.AwaitEnd None)
 join wrong words = wrong
 
 -- thread(n), thread::errorproc
-abbrev pub errorproc : (wrong : Meant) → (words : List (List ℕ)) → Meant
-errorproc wrong [] = Asks (Plain (ask.ErrorProc None)) after.Value
-errorproc wrong (name ∷ []) = Asks (Plain (ask.ErrorProc (Some name))) after.Value
+abbrev pub errorproc : (wrong : Call) → (words : List (List ℕ)) → Call
+errorproc wrong [] = Ask (ask.ErrorProc None) after.Value
+errorproc wrong (name ∷ []) = Ask (ask.ErrorProc (Some name)) after.Value
 errorproc wrong words = wrong
 
 -- thread(n), thread::broadcast
-abbrev pub broadcast : (wrong : Meant) → (words : List (List ℕ)) → Meant
-broadcast wrong (script ∷ []) = Asks (Plain (ask.Broadcast script)) after.Value
+abbrev pub broadcast : (wrong : Call) → (words : List (List ℕ)) → Call
+broadcast wrong (script ∷ []) = Ask (ask.Broadcast script) after.Value
 broadcast wrong words = wrong
 
 -- thread(n), thread::exit
-abbrev pub ends : (code : List ℕ) → Result ℤ NumberFault → Meant
-ends code (Ok number) = Asks (Plain (ask.End number)) after.Value
+abbrev pub ends : (code : List ℕ) → Result ℤ NumberFault → Call
+ends code (Ok number) = Ask (ask.End number) after.Value
 ends code (Err fault) = Bad (number_message fault code)
 
-abbrev pub thread_exit : (wrong : Meant) → (words : List (List ℕ)) → Meant
-thread_exit wrong [] = Asks (Plain (ask.End (pos 0))) after.Value
+abbrev pub thread_exit : (wrong : Call) → (words : List (List ℕ)) → Call
+thread_exit wrong [] = Ask (ask.End (pos 0)) after.Value
 thread_exit wrong (code ∷ []) = ends code (whole_of code)
 thread_exit wrong words = wrong
 
 -- exit(n)
-abbrev pub exits : (code : List ℕ) → Result ℤ NumberFault → Meant
-exits code (Ok number) = Asks (Plain (ask.Exit number)) after.Value
+abbrev pub exits : (code : List ℕ) → Result ℤ NumberFault → Call
+exits code (Ok number) = Ask (ask.Exit number) after.Value
 exits code (Err fault) = Bad (number_message fault code)
 
-abbrev pub exit : (wrong : Meant) → (words : List (List ℕ)) → Meant
-exit wrong [] = Asks (Plain (ask.Exit (pos 0))) after.Value
+abbrev pub exit : (wrong : Call) → (words : List (List ℕ)) → Call
+exit wrong [] = Ask (ask.Exit (pos 0)) after.Value
 exit wrong (code ∷ []) = exits code (whole_of code)
 exit wrong words = wrong
 

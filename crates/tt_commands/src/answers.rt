@@ -1,15 +1,17 @@
 //! What words come to.
 ghost use Rattle.std.specs.Prelude.{◌≡◌, ◌++◌, IfOk, codes};
-ghost use Rattle.tt_commands.specs.Meant.{Asked, Meant, asked_of, bad_option, bad_value, meant, wrong_number};
+ghost use Rattle.tt_calls.specs.declared.request.Request.TheVariants as ask;
+ghost use Rattle.tt_commands.specs.Usages.{bad_option, bad_value, wrong_number};
+ghost use Rattle.tt_commands.specs.declared.call.Call.TheVariants as calls;
 
 use crate::{Call, Then};
 use std::alloc::Global;
-use tt_calls::{ChanCall, LockCall, PoolCall, Request, TsvCall};
+use tt_calls::{Boxed, ChanCall, LockCall, PoolCall, Request, TsvCall};
 use tt_text::{NoMemory, Text};
 
 /// That words are too few or too many for a usage.
 pub(crate) fn wrong_number(alloc: Global, usage: &[u8]) -> Result<Call, NoMemory>
-    ensures { IfOk result (λ call. meant call ≡ wrong_number usage.now) }
+    ensures { IfOk result (λ call. call ≡ wrong_number usage.now) }
 {
     let message = quoting(alloc, b"wrong # args: should be \"", usage)?;
     Ok(Call::Bad(message))
@@ -17,7 +19,7 @@ pub(crate) fn wrong_number(alloc: Global, usage: &[u8]) -> Result<Call, NoMemory
 
 /// That a word is no option, or no subcommand.
 pub(crate) fn bad_option(alloc: Global, word: &[u8]) -> Result<Call, NoMemory>
-    ensures { IfOk result (λ call. meant call ≡ bad_option word.now) }
+    ensures { IfOk result (λ call. call ≡ bad_option word.now) }
 {
     let message = quoting(alloc, b"bad option \"", word)?;
     Ok(Call::Bad(message))
@@ -25,7 +27,7 @@ pub(crate) fn bad_option(alloc: Global, word: &[u8]) -> Result<Call, NoMemory>
 
 /// That an option doesn't have such a value.
 pub(crate) fn bad_value(alloc: Global, word: &[u8]) -> Result<Call, NoMemory>
-    ensures { IfOk result (λ call. meant call ≡ bad_value word.now) }
+    ensures { IfOk result (λ call. call ≡ bad_value word.now) }
 {
     let message = quoting(alloc, b"bad value \"", word)?;
     Ok(Call::Bad(message))
@@ -42,7 +44,7 @@ fn quoting(alloc: Global, before: &[u8], quoted: &[u8]) -> Result<Text, NoMemory
 
 /// That a word is an error, in these words.
 pub(crate) fn bad(alloc: Global, message: &[u8]) -> Result<Call, NoMemory>
-    ensures { IfOk result (λ call. meant call ≡ Meant.Bad message.now) }
+    ensures { IfOk result (λ call. call ≡ calls.Bad message.now) }
 {
     let message = Text::from_bytes(alloc, message)?;
     Ok(Call::Bad(message))
@@ -50,44 +52,44 @@ pub(crate) fn bad(alloc: Global, message: &[u8]) -> Result<Call, NoMemory>
 
 /// This is asked, and then that follows.
 pub(crate) fn asks(alloc: Global, request: Request, then: Then) -> Result<Call, NoMemory>
-    ensures { IfOk result (λ call. meant call ≡ Meant.Asks (asked_of request) then) }
+    ensures { IfOk result (λ call. call ≡ calls.Ask request then) }
 {
-    let request = Box::new(alloc, request)?;
+    let request = Boxed::new(alloc, request)?;
     Ok(Call::Ask { request, then })
 }
 
 /// A call on shared variables.
 pub(crate) fn asks_tsv(alloc: Global, call: TsvCall, then: Then) -> Result<Call, NoMemory>
-    ensures { IfOk result (λ asked. meant asked ≡ Meant.Asks (Asked.Tsv call) then) }
+    ensures { IfOk result (λ asked. asked ≡ calls.Ask (ask.Tsv call) then) }
 {
-    let call = Box::new(alloc, call)?;
+    let call = Boxed::new(alloc, call)?;
     let asked = asks(alloc, Request::Tsv(call), then)?;
     Ok(asked)
 }
 
 /// A call on locks.
 pub(crate) fn asks_lock(alloc: Global, call: LockCall, then: Then) -> Result<Call, NoMemory>
-    ensures { IfOk result (λ asked. meant asked ≡ Meant.Asks (Asked.Lock call) then) }
+    ensures { IfOk result (λ asked. asked ≡ calls.Ask (ask.Lock call) then) }
 {
-    let call = Box::new(alloc, call)?;
+    let call = Boxed::new(alloc, call)?;
     let asked = asks(alloc, Request::Lock(call), then)?;
     Ok(asked)
 }
 
 /// A call on pools.
 pub(crate) fn asks_pool(alloc: Global, call: PoolCall, then: Then) -> Result<Call, NoMemory>
-    ensures { IfOk result (λ asked. meant asked ≡ Meant.Asks (Asked.Pool call) then) }
+    ensures { IfOk result (λ asked. asked ≡ calls.Ask (ask.Pool call) then) }
 {
-    let call = Box::new(alloc, call)?;
+    let call = Boxed::new(alloc, call)?;
     let asked = asks(alloc, Request::Pool(call), then)?;
     Ok(asked)
 }
 
 /// A call on channels.
 pub(crate) fn asks_chan(alloc: Global, call: ChanCall, then: Then) -> Result<Call, NoMemory>
-    ensures { IfOk result (λ asked. meant asked ≡ Meant.Asks (Asked.Chan call) then) }
+    ensures { IfOk result (λ asked. asked ≡ calls.Ask (ask.Chan call) then) }
 {
-    let call = Box::new(alloc, call)?;
+    let call = Boxed::new(alloc, call)?;
     let asked = asks(alloc, Request::Chan(call), then)?;
     Ok(asked)
 }

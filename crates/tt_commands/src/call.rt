@@ -1,4 +1,4 @@
-use tt_calls::Request;
+use tt_calls::{Boxed, Request};
 use tt_text::Text;
 
 /// What the words of a command come to, where its name is one of `thread::`, `tsv::` or `tpool::`, or one of puts(n),
@@ -12,7 +12,7 @@ pub enum Call {
     /// Nothing is asked.
     Here(Here),
     /// What is asked, and what follows the reply.
-    Ask { request: Box<Request>, then: Then },
+    Ask { request: Boxed<Request>, then: Then },
 }
 
 /// What a command does that asks nothing.

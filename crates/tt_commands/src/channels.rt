@@ -1,7 +1,6 @@
 //! What the words of commands on channels mean: the table, and a command for each row.
 ghost use Rattle.std.specs.Prelude.{◌≡◌, IfOk};
 ghost use Rattle.tt_commands.specs.Channels as table;
-ghost use Rattle.tt_commands.specs.Meant.{meant};
 ghost use Rattle.tt_commands.specs.Rows.{meaning_by};
 
 mod moving;
@@ -77,7 +76,7 @@ pub(crate) fn call(
     words: &[Text],
     me: u32,
 ) -> Result<Call, NoMemory>
-    ensures { IfOk result (λ call. meant call ≡ meaning_by (table.channel_row command) me words.now) }
+    ensures { IfOk result (λ call. call ≡ meaning_by (table.channel_row command) me words.now) }
 {
     let usage = row_of(command).usage;
     match command {

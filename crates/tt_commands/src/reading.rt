@@ -1,6 +1,5 @@
 ghost use Rattle.std.specs.Prelude.{◌≡◌, IfOk};
 ghost use Rattle.tt_commands.specs.Calls.{call_of, channel_call, shared_call, thread_call};
-ghost use Rattle.tt_commands.specs.Meant.{meant};
 
 use crate::{Call, channels, shared, threads};
 use std::alloc::Global;
@@ -11,7 +10,7 @@ use tt_text::{NoMemory, Text};
 /// `Other` comes exactly where the first word is no command of the tables. Errors come in this order: an option or a
 /// subcommand that isn't known, a wrong number of words, what the words say. `NoMemory` where memory is refused.
 pub fn read_call(alloc: Global, words: &[Text], me: u32) -> Result<Call, NoMemory>
-    ensures call { IfOk result (λ call. meant call ≡ call_of words.now me) }
+    ensures call { IfOk result (λ call. call ≡ call_of words.now me) }
 {
     match words {
         [name, words @ ..] => thread_call(alloc, name.as_bytes(), words, me),
@@ -20,7 +19,7 @@ pub fn read_call(alloc: Global, words: &[Text], me: u32) -> Result<Call, NoMemor
 }
 
 fn thread_call(alloc: Global, name: &[u8], words: &[Text], me: u32) -> Result<Call, NoMemory>
-    ensures { IfOk result (λ call. meant call ≡ thread_call me name.now words.now) }
+    ensures { IfOk result (λ call. call ≡ thread_call me name.now words.now) }
 {
     match threads::command_of(name) {
         Some(command) => threads::call(alloc, command, words, me),
@@ -29,7 +28,7 @@ fn thread_call(alloc: Global, name: &[u8], words: &[Text], me: u32) -> Result<Ca
 }
 
 fn channel_call(alloc: Global, name: &[u8], words: &[Text], me: u32) -> Result<Call, NoMemory>
-    ensures { IfOk result (λ call. meant call ≡ channel_call me name.now words.now) }
+    ensures { IfOk result (λ call. call ≡ channel_call me name.now words.now) }
 {
     match channels::command_of(name) {
         Some(command) => channels::call(alloc, command, words, me),
@@ -38,7 +37,7 @@ fn channel_call(alloc: Global, name: &[u8], words: &[Text], me: u32) -> Result<C
 }
 
 fn shared_call(alloc: Global, name: &[u8], words: &[Text]) -> Result<Call, NoMemory>
-    ensures { IfOk result (λ call. meant call ≡ shared_call name.now words.now) }
+    ensures { IfOk result (λ call. call ≡ shared_call name.now words.now) }
 {
     match shared::command_of(name) {
         Some(command) => shared::call(alloc, command, name, words),

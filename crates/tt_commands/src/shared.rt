@@ -1,6 +1,5 @@
 //! What the words of commands on shared variables mean: the tables, and what a command asks.
 ghost use Rattle.std.specs.Prelude.{◌≡◌, IfOk};
-ghost use Rattle.tt_commands.specs.Meant.{meant};
 ghost use Rattle.tt_commands.specs.Shared as table;
 
 mod counted;
@@ -199,7 +198,7 @@ pub(crate) fn call(
     name: &[u8],
     words: &[Text],
 ) -> Result<Call, NoMemory>
-    ensures { IfOk result (λ call. meant call ≡ table.shared_meaning command name.now words.now) }
+    ensures { IfOk result (λ call. call ≡ table.shared_meaning command name.now words.now) }
 {
     match command {
         SharedCommand::Array => arrays(alloc, name, words),
@@ -231,7 +230,7 @@ fn elements(
     name: &[u8],
     words: &[Text],
 ) -> Result<Call, NoMemory>
-    ensures { IfOk result (λ call. meant call ≡ table.elements command name.now words.now) }
+    ensures { IfOk result (λ call. call ≡ table.elements command name.now words.now) }
 {
     if !fits(command, words) {
         return wrong_number(alloc, row_of(command).usage);
@@ -241,7 +240,7 @@ fn elements(
 }
 
 fn arrays(alloc: Global, name: &[u8], words: &[Text]) -> Result<Call, NoMemory>
-    ensures { IfOk result (λ call. meant call ≡ table.arrays name.now words.now) }
+    ensures { IfOk result (λ call. call ≡ table.arrays name.now words.now) }
 {
     let [sub, after @ ..] = words else {
         return wrong_number(alloc, row_of(SharedCommand::Array).usage);
@@ -259,7 +258,7 @@ fn array_runs(
     words: &[Text],
     count: usize,
 ) -> Result<Call, NoMemory>
-    ensures { IfOk result (λ call. meant call ≡ table.array_runs command name.now words.now count) }
+    ensures { IfOk result (λ call. call ≡ table.array_runs command name.now words.now count) }
 {
     let row = array_row(command);
     if !is_between(row.least, row.most, count) {
@@ -269,7 +268,7 @@ fn array_runs(
 }
 
 fn searches(alloc: Global, name: &[u8], words: &[Text]) -> Result<Call, NoMemory>
-    ensures { IfOk result (λ call. meant call ≡ table.searches name.now words.now) }
+    ensures { IfOk result (λ call. call ≡ table.searches name.now words.now) }
 {
     let modes = modes(words);
     if let Some(word) = unknown_mode(modes) {

@@ -76,8 +76,8 @@ fn put_code(alloc: Global, line: &mut Text, request: &Request) -> Result<(), NoM
     match request {
         Request::End { code } => put_number(alloc, line, b"end", *code),
         Request::Exit { code } => put_number(alloc, line, b"exit", *code),
-        Request::Chan(call) => put_chan(line, call),
-        Request::Tsv(call) => put_tsv(alloc, line, call),
+        Request::Chan(call) => put_chan(line, call.get()),
+        Request::Tsv(call) => put_tsv(alloc, line, call.get()),
         Request::Configure { id, words } => {
             let words = join_list(alloc, words.as_slice())?;
             put(
@@ -181,7 +181,7 @@ fn put_call(alloc: Global, line: &mut Text, call: &Call) -> Result<(), NoMemory>
             )
         }
         Call::Ask { request, then } => {
-            put_request(alloc, line, request)?;
+            put_request(alloc, line, request.get())?;
             put_then(alloc, line, then)
         }
     }

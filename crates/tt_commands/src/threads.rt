@@ -1,6 +1,6 @@
 //! What the words of commands of threads mean: the table, and a command for each row.
 ghost use Rattle.std.specs.Prelude.{◌≡◌, IfOk};
-ghost use Rattle.tt_commands.specs.Meant.{meant, wrong_number};
+ghost use Rattle.tt_commands.specs.Usages.{wrong_number};
 ghost use Rattle.tt_commands.specs.Rows.{meaning_by};
 ghost use Rattle.tt_commands.specs.Threads as table;
 
@@ -111,7 +111,7 @@ pub(crate) fn call(
     words: &[Text],
     me: u32,
 ) -> Result<Call, NoMemory>
-    ensures { IfOk result (λ call. meant call ≡ meaning_by (table.thread_row command) me words.now) }
+    ensures { IfOk result (λ call. call ≡ meaning_by (table.thread_row command) me words.now) }
 {
     let usage = row_of(command).usage;
     match command {

@@ -21,10 +21,10 @@ impl Shared {
             }
             Request::Await { n } => !self.waits_for_answer(thread, *n),
             Request::Take => self.queues.has_event(thread),
-            Request::Tsv(call) => !self.arrays.waits(thread, call),
-            Request::Lock(call) => !self.locks.waits(thread, call),
-            Request::Pool(call) => self.can_pool(thread, call),
-            Request::Chan(call) => !self.chans.waits(thread, call),
+            Request::Tsv(call) => !self.arrays.waits(thread, call.get()),
+            Request::Lock(call) => !self.locks.waits(thread, call.get()),
+            Request::Pool(call) => self.can_pool(thread, call.get()),
+            Request::Chan(call) => !self.chans.waits(thread, call.get()),
             _ => true,
         }
     }

@@ -20,6 +20,3 @@ pub use posts::{Posts, VariablePost};
 pub use queues::Queues;
 pub use reports::ErrorProcedure;
 pub use shared::Shared;
-
-#[cfg(test)]
-mod tests;

@@ -1,7 +1,7 @@
 //! Commands that make ends of pipes, close them and hand them on.
 ghost use Rattle.std.specs.Prelude.{◌≡◌, IfOk};
 ghost use Rattle.tt_commands.specs.Channels as channels;
-ghost use Rattle.tt_commands.specs.Meant.{meant, wrong_number};
+ghost use Rattle.tt_commands.specs.Usages.{wrong_number};
 
 use crate::answers::{asks_chan, bad_option, wrong_number};
 use crate::{Call, Then};
@@ -10,7 +10,7 @@ use tt_calls::ChanCall;
 use tt_text::{NoMemory, Text};
 
 pub(crate) fn close(alloc: Global, usage: &[u8], words: &[Text]) -> Result<Call, NoMemory>
-    ensures { IfOk result (λ call. meant call ≡ channels.close (wrong_number usage.now) words.now) }
+    ensures { IfOk result (λ call. call ≡ channels.close (wrong_number usage.now) words.now) }
 {
     match words {
         [name] => {
@@ -22,7 +22,7 @@ pub(crate) fn close(alloc: Global, usage: &[u8], words: &[Text]) -> Result<Call,
 }
 
 pub(crate) fn channel_pipe(alloc: Global, usage: &[u8], words: &[Text]) -> Result<Call, NoMemory>
-    ensures { IfOk result (λ call. meant call ≡ channels.channel_pipe (wrong_number usage.now) words.now) }
+    ensures { IfOk result (λ call. call ≡ channels.channel_pipe (wrong_number usage.now) words.now) }
 {
     let [name, words @ ..] = words else {
         return wrong_number(alloc, usage);
@@ -35,7 +35,7 @@ pub(crate) fn channel_pipe(alloc: Global, usage: &[u8], words: &[Text]) -> Resul
 }
 
 fn pipe(alloc: Global, usage: &[u8], words: &[Text]) -> Result<Call, NoMemory>
-    ensures { IfOk result (λ call. meant call ≡ channels.pipe (wrong_number usage.now) words.now) }
+    ensures { IfOk result (λ call. call ≡ channels.pipe (wrong_number usage.now) words.now) }
 {
     match words {
         [] => asks_chan(alloc, ChanCall::Pipe, Then::Value),
@@ -44,7 +44,7 @@ fn pipe(alloc: Global, usage: &[u8], words: &[Text]) -> Result<Call, NoMemory>
 }
 
 pub(crate) fn detach(alloc: Global, usage: &[u8], words: &[Text]) -> Result<Call, NoMemory>
-    ensures { IfOk result (λ call. meant call ≡ channels.detach (wrong_number usage.now) words.now) }
+    ensures { IfOk result (λ call. call ≡ channels.detach (wrong_number usage.now) words.now) }
 {
     match words {
         [name] => {
@@ -56,7 +56,7 @@ pub(crate) fn detach(alloc: Global, usage: &[u8], words: &[Text]) -> Result<Call
 }
 
 pub(crate) fn attach(alloc: Global, usage: &[u8], words: &[Text]) -> Result<Call, NoMemory>
-    ensures { IfOk result (λ call. meant call ≡ channels.attach (wrong_number usage.now) words.now) }
+    ensures { IfOk result (λ call. call ≡ channels.attach (wrong_number usage.now) words.now) }
 {
     match words {
         [name] => {
@@ -69,7 +69,7 @@ pub(crate) fn attach(alloc: Global, usage: &[u8], words: &[Text]) -> Result<Call
 
 #[tactic(auto, unfolding(crate::specs::Channels::transfer))]
 pub(crate) fn transfer(alloc: Global, usage: &[u8], words: &[Text]) -> Result<Call, NoMemory>
-    ensures { IfOk result (λ call. meant call ≡ channels.transfer (wrong_number usage.now) words.now) }
+    ensures { IfOk result (λ call. call ≡ channels.transfer (wrong_number usage.now) words.now) }
 {
     match words {
         [id, name] => {

@@ -1,7 +1,6 @@
 //! The channels that belong to every thread, and those at their wrong end.
 ghost use Rattle.std.specs.Prelude.{◌≡◌, IfOk};
 ghost use Rattle.tt_commands.specs.Channels as channels;
-ghost use Rattle.tt_commands.specs.Meant.{meant};
 
 use crate::Call;
 use std::alloc::Global;
@@ -36,7 +35,7 @@ pub(crate) fn standard_of(name: &[u8]) -> Option<Standard>
 
 /// That it is the end to read from.
 pub(crate) fn not_for_writing(alloc: Global, name: &[u8]) -> Result<Call, NoMemory>
-    ensures { IfOk result (λ call. meant call ≡ channels.not_for_writing name.now) }
+    ensures { IfOk result (λ call. call ≡ channels.not_for_writing name.now) }
 {
     let call = wrong_end(alloc, name, b"\" wasn't opened for writing")?;
     Ok(call)
@@ -44,14 +43,14 @@ pub(crate) fn not_for_writing(alloc: Global, name: &[u8]) -> Result<Call, NoMemo
 
 /// That it is the end to write to.
 pub(crate) fn not_for_reading(alloc: Global, name: &[u8]) -> Result<Call, NoMemory>
-    ensures { IfOk result (λ call. meant call ≡ channels.not_for_reading name.now) }
+    ensures { IfOk result (λ call. call ≡ channels.not_for_reading name.now) }
 {
     let call = wrong_end(alloc, name, b"\" wasn't opened for reading")?;
     Ok(call)
 }
 
 fn wrong_end(alloc: Global, name: &[u8], text: &[u8]) -> Result<Call, NoMemory>
-    ensures { IfOk result (λ call. meant call ≡ channels.wrong_end name.now text.now) }
+    ensures { IfOk result (λ call. call ≡ channels.wrong_end name.now text.now) }
 {
     let mut message = Text::from_bytes(alloc, b"channel \"")?;
     message.push_bytes(name)?;

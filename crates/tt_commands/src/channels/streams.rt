@@ -1,7 +1,7 @@
 //! Commands that write and read.
 ghost use Rattle.std.specs.Prelude.{◌≡◌, IfOk};
 ghost use Rattle.tt_commands.specs.Channels as channels;
-ghost use Rattle.tt_commands.specs.Meant.{meant, wrong_number};
+ghost use Rattle.tt_commands.specs.Usages.{wrong_number};
 
 use super::standard::{Standard, not_for_reading, not_for_writing, standard_of};
 use crate::answers::{asks, asks_chan, bad_option, wrong_number};
@@ -14,7 +14,7 @@ use tt_text::{NoMemory, Text};
 const PUTS: [Flag; 1] = [Flag::NoNewline];
 
 pub(crate) fn puts(alloc: Global, usage: &[u8], words: &[Text]) -> Result<Call, NoMemory>
-    ensures { IfOk result (λ call. meant call ≡ channels.puts (wrong_number usage.now) words.now) }
+    ensures { IfOk result (λ call. call ≡ channels.puts (wrong_number usage.now) words.now) }
 {
     if let Some(word) = first_unknown(&PUTS, 1, words) {
         return bad_option(alloc, word.as_bytes());
@@ -24,7 +24,7 @@ pub(crate) fn puts(alloc: Global, usage: &[u8], words: &[Text]) -> Result<Call, 
 }
 
 fn put(alloc: Global, usage: &[u8], options: &[Text], words: &[Text]) -> Result<Call, NoMemory>
-    ensures { IfOk result (λ call. meant call ≡ channels.put (wrong_number usage.now) options.now words.now) }
+    ensures { IfOk result (λ call. call ≡ channels.put (wrong_number usage.now) options.now words.now) }
 {
     match words {
         [text] => {
@@ -55,7 +55,7 @@ fn puts_to(
     name: &[u8],
     text: Text,
 ) -> Result<Call, NoMemory>
-    ensures { IfOk result (λ call. meant call ≡ channels.puts_to standard name.now text) }
+    ensures { IfOk result (λ call. call ≡ channels.puts_to standard name.now text) }
 {
     match standard {
         Some(Standard::Input) => not_for_writing(alloc, name),
@@ -69,7 +69,7 @@ fn puts_to(
 }
 
 pub(crate) fn gets(alloc: Global, usage: &[u8], words: &[Text]) -> Result<Call, NoMemory>
-    ensures { IfOk result (λ call. meant call ≡ channels.gets (wrong_number usage.now) words.now) }
+    ensures { IfOk result (λ call. call ≡ channels.gets (wrong_number usage.now) words.now) }
 {
     match words {
         [name] => gets_from(alloc, name.as_bytes(), Then::Value),
@@ -82,7 +82,7 @@ pub(crate) fn gets(alloc: Global, usage: &[u8], words: &[Text]) -> Result<Call, 
 }
 
 fn gets_from(alloc: Global, name: &[u8], then: Then) -> Result<Call, NoMemory>
-    ensures { IfOk result (λ call. meant call ≡ channels.gets_from (channels.standard_of name.now) name.now then) }
+    ensures { IfOk result (λ call. call ≡ channels.gets_from (channels.standard_of name.now) name.now then) }
 {
     match standard_of(name) {
         Some(Standard::Input) => asks(alloc, Request::ReadLine, then),
@@ -95,7 +95,7 @@ fn gets_from(alloc: Global, name: &[u8], then: Then) -> Result<Call, NoMemory>
 }
 
 pub(crate) fn eof(alloc: Global, usage: &[u8], words: &[Text]) -> Result<Call, NoMemory>
-    ensures { IfOk result (λ call. meant call ≡ channels.eof (wrong_number usage.now) words.now) }
+    ensures { IfOk result (λ call. call ≡ channels.eof (wrong_number usage.now) words.now) }
 {
     match words {
         [name] => eof_of(alloc, name.as_bytes()),
@@ -104,7 +104,7 @@ pub(crate) fn eof(alloc: Global, usage: &[u8], words: &[Text]) -> Result<Call, N
 }
 
 fn eof_of(alloc: Global, name: &[u8]) -> Result<Call, NoMemory>
-    ensures { IfOk result (λ call. meant call ≡ channels.eof_of (channels.standard_of name.now) name.now) }
+    ensures { IfOk result (λ call. call ≡ channels.eof_of (channels.standard_of name.now) name.now) }
 {
     match standard_of(name) {
         Some(Standard::Input) => asks(alloc, Request::StdinEof, Then::Value),

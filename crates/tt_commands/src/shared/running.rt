@@ -1,6 +1,6 @@
 //! What is asked of shared variables.
 ghost use Rattle.std.specs.Prelude.{◌≡◌, ◌∷◌, IfOk};
-ghost use Rattle.tt_commands.specs.Meant.{meant, wrong_number};
+ghost use Rattle.tt_commands.specs.Usages.{wrong_number};
 ghost use Rattle.tt_commands.specs.Shared as table;
 
 use super::SharedCommand;
@@ -13,7 +13,7 @@ use tt_text::{NoMemory, Text, Texts};
 
 /// The words go on, the command's name first.
 pub(crate) fn runs(alloc: Global, name: &[u8], words: &[Text], then: Then) -> Result<Call, NoMemory>
-    ensures { IfOk result (λ call. meant call ≡ table.runs name.now words.now then) }
+    ensures { IfOk result (λ call. call ≡ table.runs name.now words.now then) }
 {
     let words = with_name(alloc, name, words)?;
     asks_tsv(alloc, TsvCall::Run { words }, then)
@@ -43,7 +43,7 @@ pub(crate) fn kept(command: SharedCommand, words: &[Text]) -> Result<Then, NoMem
 /// `tsv::lock`
 #[tactic(auto, unfolding(crate::specs::Shared::locks))]
 pub(crate) fn locks(alloc: Global, usage: &[u8], words: &[Text]) -> Result<Call, NoMemory>
-    ensures { IfOk result (λ call. meant call ≡ table.locks (wrong_number usage.now) words.now) }
+    ensures { IfOk result (λ call. call ≡ table.locks (wrong_number usage.now) words.now) }
 {
     match words {
         [array, args @ ..] => lock(alloc, usage, array, args),
@@ -53,7 +53,7 @@ pub(crate) fn locks(alloc: Global, usage: &[u8], words: &[Text]) -> Result<Call,
 
 #[tactic(auto, unfolding(crate::specs::Shared::locks))]
 fn lock(alloc: Global, usage: &[u8], array: &Text, args: &[Text]) -> Result<Call, NoMemory>
-    ensures { IfOk result (λ call. meant call ≡ table.locks (wrong_number usage.now) (array.now ∷ args.now)) }
+    ensures { IfOk result (λ call. call ≡ table.locks (wrong_number usage.now) (array.now ∷ args.now)) }
 {
     if args.is_empty() {
         return wrong_number(alloc, usage);

@@ -1,7 +1,7 @@
 //! Commands that ask once (thread(n), exit(n)).
 ghost use Rattle.std.specs.Prelude.{◌≡◌, IfOk};
 ghost use Rattle.tt_commands.specs.Flags.{before_last};
-ghost use Rattle.tt_commands.specs.Meant.{meant, wrong_number};
+ghost use Rattle.tt_commands.specs.Usages.{wrong_number};
 ghost use Rattle.tt_commands.specs.Threads as threads;
 ghost use Rattle.tt_number.specs.Numerals.{whole_of};
 
@@ -17,7 +17,7 @@ use tt_text::{NoMemory, Text};
 const CREATE: [Flag; 2] = [Flag::Joinable, Flag::Preserved];
 
 pub(crate) fn create(alloc: Global, usage: &[u8], words: &[Text]) -> Result<Call, NoMemory>
-    ensures { IfOk result (λ call. meant call ≡ threads.create (wrong_number usage.now) words.now) }
+    ensures { IfOk result (λ call. call ≡ threads.create (wrong_number usage.now) words.now) }
 {
     if let Some(word) = first_unknown(&CREATE, 0, words) {
         return bad_option(alloc, word.as_bytes());
@@ -27,7 +27,7 @@ pub(crate) fn create(alloc: Global, usage: &[u8], words: &[Text]) -> Result<Call
 }
 
 fn created(alloc: Global, usage: &[u8], options: &[Text], words: &[Text]) -> Result<Call, NoMemory>
-    ensures { IfOk result (λ call. meant call ≡ threads.created (wrong_number usage.now) options.now words.now) }
+    ensures { IfOk result (λ call. call ≡ threads.created (wrong_number usage.now) options.now words.now) }
 {
     match words {
         [] => creates(alloc, options, b"thread::wait"),
@@ -37,7 +37,7 @@ fn created(alloc: Global, usage: &[u8], options: &[Text], words: &[Text]) -> Res
 }
 
 fn creates(alloc: Global, options: &[Text], script: &[u8]) -> Result<Call, NoMemory>
-    ensures { IfOk result (λ call. meant call ≡ threads.creates options.now script.now) }
+    ensures { IfOk result (λ call. call ≡ threads.creates options.now script.now) }
 {
     let request = Request::Create {
         joinable: has(Flag::Joinable, options),
@@ -48,7 +48,7 @@ fn creates(alloc: Global, options: &[Text], script: &[u8]) -> Result<Call, NoMem
 }
 
 pub(crate) fn preserve(alloc: Global, usage: &[u8], words: &[Text]) -> Result<Call, NoMemory>
-    ensures { IfOk result (λ call. meant call ≡ threads.preserve (wrong_number usage.now) words.now) }
+    ensures { IfOk result (λ call. call ≡ threads.preserve (wrong_number usage.now) words.now) }
 {
     match words {
         [] => {
@@ -61,7 +61,7 @@ pub(crate) fn preserve(alloc: Global, usage: &[u8], words: &[Text]) -> Result<Ca
 }
 
 fn preserves(alloc: Global, id: &[u8]) -> Result<Call, NoMemory>
-    ensures { IfOk result (λ call. meant call ≡ threads.preserves id.now) }
+    ensures { IfOk result (λ call. call ≡ threads.preserves id.now) }
 {
     match id {
         [] => bad(alloc, b"thread \"\" does not exist"),
@@ -73,7 +73,7 @@ fn preserves(alloc: Global, id: &[u8]) -> Result<Call, NoMemory>
 }
 
 pub(crate) fn id(alloc: Global, usage: &[u8], words: &[Text], me: u32) -> Result<Call, NoMemory>
-    ensures { IfOk result (λ call. meant call ≡ threads.id me (wrong_number usage.now) words.now) }
+    ensures { IfOk result (λ call. call ≡ threads.id me (wrong_number usage.now) words.now) }
 {
     match words {
         [] => {
@@ -85,7 +85,7 @@ pub(crate) fn id(alloc: Global, usage: &[u8], words: &[Text], me: u32) -> Result
 }
 
 pub(crate) fn names(alloc: Global, usage: &[u8], words: &[Text]) -> Result<Call, NoMemory>
-    ensures { IfOk result (λ call. meant call ≡ threads.names (wrong_number usage.now) words.now) }
+    ensures { IfOk result (λ call. call ≡ threads.names (wrong_number usage.now) words.now) }
 {
     match words {
         [] => asks(alloc, Request::Names, Then::Value),
@@ -94,7 +94,7 @@ pub(crate) fn names(alloc: Global, usage: &[u8], words: &[Text]) -> Result<Call,
 }
 
 pub(crate) fn exists(alloc: Global, usage: &[u8], words: &[Text]) -> Result<Call, NoMemory>
-    ensures { IfOk result (λ call. meant call ≡ threads.exists (wrong_number usage.now) words.now) }
+    ensures { IfOk result (λ call. call ≡ threads.exists (wrong_number usage.now) words.now) }
 {
     match words {
         [id] => {
@@ -106,7 +106,7 @@ pub(crate) fn exists(alloc: Global, usage: &[u8], words: &[Text]) -> Result<Call
 }
 
 pub(crate) fn join(alloc: Global, usage: &[u8], words: &[Text]) -> Result<Call, NoMemory>
-    ensures { IfOk result (λ call. meant call ≡ threads.join (wrong_number usage.now) words.now) }
+    ensures { IfOk result (λ call. call ≡ threads.join (wrong_number usage.now) words.now) }
 {
     match words {
         [id] => {
@@ -118,7 +118,7 @@ pub(crate) fn join(alloc: Global, usage: &[u8], words: &[Text]) -> Result<Call, 
 }
 
 pub(crate) fn errorproc(alloc: Global, usage: &[u8], words: &[Text]) -> Result<Call, NoMemory>
-    ensures { IfOk result (λ call. meant call ≡ threads.errorproc (wrong_number usage.now) words.now) }
+    ensures { IfOk result (λ call. call ≡ threads.errorproc (wrong_number usage.now) words.now) }
 {
     match words {
         [] => asks(alloc, Request::ErrorProc { name: None }, Then::Value),
@@ -131,7 +131,7 @@ pub(crate) fn errorproc(alloc: Global, usage: &[u8], words: &[Text]) -> Result<C
 }
 
 pub(crate) fn broadcast(alloc: Global, usage: &[u8], words: &[Text]) -> Result<Call, NoMemory>
-    ensures { IfOk result (λ call. meant call ≡ threads.broadcast (wrong_number usage.now) words.now) }
+    ensures { IfOk result (λ call. call ≡ threads.broadcast (wrong_number usage.now) words.now) }
 {
     match words {
         [script] => {
@@ -143,7 +143,7 @@ pub(crate) fn broadcast(alloc: Global, usage: &[u8], words: &[Text]) -> Result<C
 }
 
 pub(crate) fn thread_exit(alloc: Global, usage: &[u8], words: &[Text]) -> Result<Call, NoMemory>
-    ensures { IfOk result (λ call. meant call ≡ threads.thread_exit (wrong_number usage.now) words.now) }
+    ensures { IfOk result (λ call. call ≡ threads.thread_exit (wrong_number usage.now) words.now) }
 {
     match words {
         [] => asks(alloc, Request::End { code: 0 }, Then::Value),
@@ -153,7 +153,7 @@ pub(crate) fn thread_exit(alloc: Global, usage: &[u8], words: &[Text]) -> Result
 }
 
 fn ends(alloc: Global, code: &[u8]) -> Result<Call, NoMemory>
-    ensures { IfOk result (λ call. meant call ≡ threads.ends code.now (whole_of code.now)) }
+    ensures { IfOk result (λ call. call ≡ threads.ends code.now (whole_of code.now)) }
 {
     match read_whole(code) {
         Ok(code) => asks(alloc, Request::End { code }, Then::Value),
@@ -162,7 +162,7 @@ fn ends(alloc: Global, code: &[u8]) -> Result<Call, NoMemory>
 }
 
 pub(crate) fn exit(alloc: Global, usage: &[u8], words: &[Text]) -> Result<Call, NoMemory>
-    ensures { IfOk result (λ call. meant call ≡ threads.exit (wrong_number usage.now) words.now) }
+    ensures { IfOk result (λ call. call ≡ threads.exit (wrong_number usage.now) words.now) }
 {
     match words {
         [] => asks(alloc, Request::Exit { code: 0 }, Then::Value),
@@ -172,7 +172,7 @@ pub(crate) fn exit(alloc: Global, usage: &[u8], words: &[Text]) -> Result<Call, 
 }
 
 fn exits(alloc: Global, code: &[u8]) -> Result<Call, NoMemory>
-    ensures { IfOk result (λ call. meant call ≡ threads.exits code.now (whole_of code.now)) }
+    ensures { IfOk result (λ call. call ≡ threads.exits code.now (whole_of code.now)) }
 {
     match read_whole(code) {
         Ok(code) => asks(alloc, Request::Exit { code }, Then::Value),

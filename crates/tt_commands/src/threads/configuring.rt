@@ -2,7 +2,7 @@
 ghost use Rattle.std.specs.Prelude.{◌≡◌, ◌++◌, IfOk};
 ghost use Rattle.std.specs.Option.{option_map};
 ghost use Rattle.tt_commands.specs.Configuring as configuring;
-ghost use Rattle.tt_commands.specs.Meant.{meant, wrong_number};
+ghost use Rattle.tt_commands.specs.Usages.{wrong_number};
 ghost use Rattle.tt_number.specs.Numerals.{whole_of};
 
 use crate::answers::{asks, bad_option, bad_value, wrong_number};
@@ -26,7 +26,7 @@ fn is_unwinding(option: &[u8]) -> bool
 }
 
 pub(crate) fn configure(alloc: Global, usage: &[u8], words: &[Text]) -> Result<Call, NoMemory>
-    ensures { IfOk result (λ call. meant call ≡ configuring.configure (wrong_number usage.now) words.now) }
+    ensures { IfOk result (λ call. call ≡ configuring.configure (wrong_number usage.now) words.now) }
 {
     match words {
         [id, words @ ..] => configured(alloc, usage, id, words),
@@ -35,7 +35,7 @@ pub(crate) fn configure(alloc: Global, usage: &[u8], words: &[Text]) -> Result<C
 }
 
 fn configured(alloc: Global, usage: &[u8], id: &Text, words: &[Text]) -> Result<Call, NoMemory>
-    ensures { IfOk result (λ call. meant call ≡ configuring.configured (wrong_number usage.now) id.now words.now) }
+    ensures { IfOk result (λ call. call ≡ configuring.configured (wrong_number usage.now) id.now words.now) }
 {
     if let Some(option) = first_unknown(words) {
         return bad_option(alloc, option.as_bytes());
@@ -47,7 +47,7 @@ fn configured(alloc: Global, usage: &[u8], id: &Text, words: &[Text]) -> Result<
 }
 
 fn configures(alloc: Global, id: &Text, words: &[Text]) -> Result<Call, NoMemory>
-    ensures { IfOk result (λ call. meant call ≡ configuring.configures id.now words.now) }
+    ensures { IfOk result (λ call. call ≡ configuring.configures id.now words.now) }
 {
     if let Some(value) = first_bad(words) {
         return bad_value(alloc, value.as_bytes());

@@ -1,6 +1,6 @@
 //! Commands that serve events.
 ghost use Rattle.std.specs.Prelude.{◌≡◌, IfOk};
-ghost use Rattle.tt_commands.specs.Meant.{meant, wrong_number};
+ghost use Rattle.tt_commands.specs.Usages.{wrong_number};
 ghost use Rattle.tt_commands.specs.Threads as threads;
 
 use crate::answers::{asks, wrong_number};
@@ -10,7 +10,7 @@ use tt_calls::Request;
 use tt_text::{NoMemory, Text};
 
 pub(crate) fn vwait(alloc: Global, usage: &[u8], words: &[Text]) -> Result<Call, NoMemory>
-    ensures { IfOk result (λ call. meant call ≡ threads.vwait (wrong_number usage.now) words.now) }
+    ensures { IfOk result (λ call. call ≡ threads.vwait (wrong_number usage.now) words.now) }
 {
     match words {
         [name] => {
@@ -22,7 +22,7 @@ pub(crate) fn vwait(alloc: Global, usage: &[u8], words: &[Text]) -> Result<Call,
 }
 
 pub(crate) fn update(alloc: Global, usage: &[u8], words: &[Text]) -> Result<Call, NoMemory>
-    ensures { IfOk result (λ call. meant call ≡ threads.update (wrong_number usage.now) words.now) }
+    ensures { IfOk result (λ call. call ≡ threads.update (wrong_number usage.now) words.now) }
 {
     match words {
         [] => asks(alloc, Request::TakeReady, Then::Serve(Goal::Idle)),
@@ -31,7 +31,7 @@ pub(crate) fn update(alloc: Global, usage: &[u8], words: &[Text]) -> Result<Call
 }
 
 pub(crate) fn wait(alloc: Global, usage: &[u8], words: &[Text]) -> Result<Call, NoMemory>
-    ensures { IfOk result (λ call. meant call ≡ threads.wait (wrong_number usage.now) words.now) }
+    ensures { IfOk result (λ call. call ≡ threads.wait (wrong_number usage.now) words.now) }
 {
     match words {
         [] => asks(alloc, Request::Take, Then::Serve(Goal::Stopped)),

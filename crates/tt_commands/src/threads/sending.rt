@@ -1,6 +1,6 @@
 //! The commands that speak of oneself and of others: thread::send and thread::release.
 ghost use Rattle.std.specs.Prelude.{◌≡◌, IfOk};
-ghost use Rattle.tt_commands.specs.Meant.{meant, wrong_number};
+ghost use Rattle.tt_commands.specs.Usages.{wrong_number};
 ghost use Rattle.tt_commands.specs.Sending as sending;
 
 use crate::answers::{asks, bad, bad_option, wrong_number};
@@ -16,7 +16,7 @@ const SEND: [Flag; 2] = [Flag::Async, Flag::Head];
 const RELEASE: [Flag; 1] = [Flag::Wait];
 
 pub(crate) fn send(alloc: Global, usage: &[u8], words: &[Text], me: u32) -> Result<Call, NoMemory>
-    ensures { IfOk result (λ call. meant call ≡ sending.send me (wrong_number usage.now) words.now) }
+    ensures { IfOk result (λ call. call ≡ sending.send me (wrong_number usage.now) words.now) }
 {
     if let Some(word) = first_unknown(&SEND, 2, words) {
         return bad_option(alloc, word.as_bytes());
@@ -32,7 +32,7 @@ fn sent(
     words: &[Text],
     me: u32,
 ) -> Result<Call, NoMemory>
-    ensures { IfOk result (λ call. meant call ≡ sending.sent me (wrong_number usage.now) options.now words.now) }
+    ensures { IfOk result (λ call. call ≡ sending.sent me (wrong_number usage.now) options.now words.now) }
 {
     match words {
         [id, script] => sends(alloc, options, id, script, None, me),
@@ -52,7 +52,7 @@ fn sends(
     variable: Option<Text>,
     me: u32,
 ) -> Result<Call, NoMemory>
-    ensures { IfOk result (λ call. meant call ≡ sending.sends me options.now id.now script.now variable) }
+    ensures { IfOk result (λ call. call ≡ sending.sends me options.now id.now script.now variable) }
 {
     let id = id.copy()?;
     let script = script.copy()?;
@@ -95,7 +95,7 @@ pub(crate) fn release(
     words: &[Text],
     me: u32,
 ) -> Result<Call, NoMemory>
-    ensures { IfOk result (λ call. meant call ≡ sending.release me (wrong_number usage.now) words.now) }
+    ensures { IfOk result (λ call. call ≡ sending.release me (wrong_number usage.now) words.now) }
 {
     if let Some(word) = first_unknown(&RELEASE, 0, words) {
         return bad_option(alloc, word.as_bytes());
@@ -111,7 +111,7 @@ fn released(
     words: &[Text],
     me: u32,
 ) -> Result<Call, NoMemory>
-    ensures { IfOk result (λ call. meant call ≡ sending.released me (wrong_number usage.now) options.now words.now) }
+    ensures { IfOk result (λ call. call ≡ sending.released me (wrong_number usage.now) options.now words.now) }
 {
     match words {
         [] => {
@@ -124,7 +124,7 @@ fn released(
 }
 
 fn releases(alloc: Global, options: &[Text], id: &[u8], me: u32) -> Result<Call, NoMemory>
-    ensures { IfOk result (λ call. meant call ≡ sending.releases me options.now id.now) }
+    ensures { IfOk result (λ call. call ≡ sending.releases me options.now id.now) }
 {
     match id {
         [] => bad(alloc, b"thread \"\" does not exist"),

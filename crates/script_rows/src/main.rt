@@ -1,0 +1,33 @@
+//! Tables of scripts, and of what they write and how they end (Tcl(n) and the pages of its commands). They stand in the
+//! files of `data/`, and this says of each how many rows hold, or the first that doesn't and what came in its place.
+//!
+//! A row begins with `== ` and its name; a `*` at the end of the name says that Tcl 8.6 itself differs there. The lines
+//! after it are the script, after a line `%% limit N` where it may spend so many units alone. After a line `-- ` come the
+//! lines of standard output, after a line `!! ` those of standard error, and `=> ` with the exit code ends the row.
+#![tactic(auto)]
+
+mod host;
+mod row;
+mod table;
+
+use std::fs;
+
+const TABLES: [&str; 9] = [
+    "words.rows",
+    "expressions.rows",
+    "control.rows",
+    "errors.rows",
+    "variables.rows",
+    "lists.rows",
+    "strings.rows",
+    "switch.rows",
+    "limits.rows",
+];
+
+fn main(rt: HostRuntime) -> anyhow::Result<()> {
+    for name in TABLES {
+        let text = fs::read_to_string(&rt, name)?;
+        table::tell(&rt, rt.alloc(), name, text.as_str())?;
+    }
+    Ok(())
+}

@@ -1,0 +1,41 @@
+use tt_exprs::Op;
+use tt_text::Text;
+
+/// What is done with the values so far.
+#[derive(Debug, Drop)]
+pub(crate) enum Instruction {
+    /// Adds this text.
+    Push(Text),
+    /// Adds the value of the variable of this name.
+    Variable(Text),
+    /// Replaces the newest, an index, by the value of the element of the array of this name.
+    Element(Text),
+    /// Adds the result of this script.
+    Script(Text),
+    /// Joins the two newest.
+    Append,
+    /// Replaces the newest, a list, by its items.
+    Expand,
+    /// Replaces so many of the newest by what the operator gives on them.
+    Apply(Op, usize),
+    /// Replaces the newest by its truth, as 1 or 0.
+    Truth,
+    /// Passes over so many instructions.
+    Skip(usize),
+    /// Takes the newest; passes over so many instructions where it is false.
+    SkipIfFalse(usize),
+    /// Takes the newest; passes over so many instructions where it is true.
+    SkipIfTrue(usize),
+    /// Replaces the newest, the value of a whole expression, by its result.
+    Result,
+    /// Gives the newest, to which all has come.
+    Give,
+    /// Refuses an operator with another number of operands than it has.
+    WrongOperands,
+}
+
+/// The code of a command's words or of an expression. A contract says what it needs.
+#[derive(Debug, Drop)]
+pub struct Code {
+    pub(crate) instructions: Vec<Instruction>,
+}

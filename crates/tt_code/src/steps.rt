@@ -1,0 +1,219 @@
+//! What the instructions do.
+ghost use Rattle.std.specs.Prelude.{◌≡◌, ◌∷◌, ◌++◌, IfOk, List, ℕ, reverse};
+ghost use Rattle.tt_code.specs.Code.{Next, act};
+ghost use Rattle.tt_code.specs.Needs.{expanded, unless_failed};
+ghost use Rattle.tt_code.specs.Running.{stepped};
+ghost use Rattle.tt_code.specs.declared.code.Instruction.TheVariants as code;
+
+use crate::code::Instruction;
+use crate::stack::Stack;
+use std::alloc::Global;
+use tt_calls::{Code, Outcome};
+use tt_exprs::{Op, apply, result, truth};
+use tt_lists::{Split, split};
+use tt_text::{NoMemory, Text};
+
+/// Where running code halts.
+#[derive(Debug, Drop)]
+pub enum Halt {
+    /// It goes on with the value of the variable of this name.
+    Variable(Text),
+    /// It goes on with the value of an element: the array's name, and the index.
+    Element(Text, Text),
+    /// It goes on with the result of this script.
+    Script(Text),
+    /// It has this error.
+    Refused(Text),
+    /// An expression has come to this value.
+    Value(Text),
+    /// A command's words have come to these values.
+    Values(Vec<Text>),
+}
+
+/// What comes after an instruction.
+#[derive(Drop)]
+pub(crate) enum Step {
+    /// It goes on after so many instructions more.
+    Goes(usize),
+    /// It halts.
+    Halts(Halt),
+}
+
+/// One instruction.
+pub(crate) fn perform(
+    alloc: Global,
+    instruction: &Instruction,
+    values: &mut Stack,
+) -> Result<Step, NoMemory>
+    ensures { IfOk result (λ step. (next : Next)
+        → act instruction.now next values.old ≡ stepped step next values.new) }
+{
+    match instruction {
+        Instruction::Push(text) => push(values, text.copy()?),
+        Instruction::Variable(name) => Ok(Step::Halts(Halt::Variable(name.copy()?))),
+        Instruction::Element(name) => element(alloc, name, values),
+        Instruction::Script(text) => Ok(Step::Halts(Halt::Script(text.copy()?))),
+        Instruction::Append => append(alloc, values),
+        Instruction::Expand => expand(alloc, values),
+        Instruction::Apply(op, count) => apply_to(alloc, *op, *count, values),
+        Instruction::Truth => truth_of(alloc, values),
+        Instruction::Skip(count) => Ok(Step::Goes(*count)),
+        Instruction::SkipIfFalse(count) => skip_if_false(alloc, *count, values),
+        Instruction::SkipIfTrue(count) => skip_if_true(alloc, *count, values),
+        Instruction::Result => result_of(alloc, values),
+        Instruction::Give => give(alloc, values),
+        Instruction::WrongOperands => wrong_operands(alloc),
+    }
+}
+
+fn wrong_operands(alloc: Global) -> Result<Step, NoMemory>
+    ensures { IfOk result (λ step. (next : Next) (values : List (List ℕ))
+        → act code.WrongOperands next values ≡ stepped step next values) }
+{
+    let message = Text::from_bytes(alloc, b"wrong number of operands")?;
+    Ok(Step::Halts(Halt::Refused(message)))
+}
+
+fn push(values: &mut Stack, text: Text) -> Result<Step, NoMemory>
+    ensures { IfOk result (λ step. (next : Next)
+        → act (code.Push text) next values.old ≡ stepped step next values.new) }
+{
+    values.push(text)?;
+    Ok(Step::Goes(0))
+}
+
+fn element(alloc: Global, name: &Text, values: &mut Stack) -> Result<Step, NoMemory>
+    ensures { IfOk result (λ step. (next : Next)
+        → act (code.Element name.now) next values.old ≡ stepped step next values.new) }
+{
+    match values.pop() {
+        Some(index) => Ok(Step::Halts(Halt::Element(name.copy()?, index))),
+        None => wrong_operands(alloc),
+    }
+}
+
+fn append(alloc: Global, values: &mut Stack) -> Result<Step, NoMemory>
+    ensures { IfOk result (λ step. (next : Next)
+        → act code.Append next values.old ≡ stepped step next values.new) }
+{
+    match (values.pop(), values.pop()) {
+        (Some(back), Some(mut front)) => {
+            front.push_bytes(back.as_bytes())?;
+            push(values, front)
+        }
+        _ => wrong_operands(alloc),
+    }
+}
+
+fn expand(alloc: Global, values: &mut Stack) -> Result<Step, NoMemory>
+    ensures { IfOk result (λ step. (next : Next)
+        → act code.Expand next values.old ≡ stepped step next values.new) }
+{
+    match values.pop() {
+        Some(list) => push_items(alloc, list, values),
+        None => wrong_operands(alloc),
+    }
+}
+
+fn push_items(alloc: Global, list: Text, values: &mut Stack) -> Result<Step, NoMemory>
+    ensures { IfOk result (λ step. (next : Next)
+        → expanded list (λ items. next 0 (reverse items ++ values.old)) ≡ stepped step next values.new) }
+{
+    match split(alloc, list.as_bytes())? {
+        Split::Items(items) => {
+            values.push_all(items)?;
+            Ok(Step::Goes(0))
+        }
+        Split::Bad(fault) => Ok(Step::Halts(Halt::Refused(fault.message(alloc)?))),
+    }
+}
+
+fn apply_to(alloc: Global, op: Op, count: usize, values: &mut Stack) -> Result<Step, NoMemory>
+    ensures { IfOk result (λ step. (next : Next)
+        → act (code.Apply op count) next values.old ≡ stepped step next values.new) }
+{
+    let operands = values.newest(count);
+    if op.is_lazy() || !op.takes(operands.len()) {
+        return wrong_operands(alloc);
+    }
+    let outcome = apply(alloc, op, operands)?;
+    values.forget(count);
+    push_value(outcome, values)
+}
+
+/// The value of an outcome, unless it has failed.
+fn push_value(outcome: Outcome, values: &mut Stack) -> Result<Step, NoMemory>
+    ensures { IfOk result (λ step. (next : Next)
+        → unless_failed outcome (λ v. next 0 (v ∷ values.old)) ≡ stepped step next values.new) }
+{
+    let Outcome { code, value, .. } = outcome;
+    match code {
+        Code::Fine => push(values, value),
+        _ => Ok(Step::Halts(Halt::Refused(value))),
+    }
+}
+
+fn result_of(alloc: Global, values: &mut Stack) -> Result<Step, NoMemory>
+    ensures { IfOk result (λ step. (next : Next)
+        → act code.Result next values.old ≡ stepped step next values.new) }
+{
+    match values.pop() {
+        Some(value) => {
+            let outcome = result(alloc, value)?;
+            push_value(outcome, values)
+        }
+        None => wrong_operands(alloc),
+    }
+}
+
+fn give(alloc: Global, values: &mut Stack) -> Result<Step, NoMemory>
+    ensures { IfOk result (λ step. (next : Next)
+        → act code.Give next values.old ≡ stepped step next values.new) }
+{
+    match values.pop() {
+        Some(value) => Ok(Step::Halts(Halt::Value(value))),
+        None => wrong_operands(alloc),
+    }
+}
+
+fn truth_of(alloc: Global, values: &mut Stack) -> Result<Step, NoMemory>
+    ensures { IfOk result (λ step. (next : Next)
+        → act code.Truth next values.old ≡ stepped step next values.new) }
+{
+    let Some(value) = values.pop() else {
+        return wrong_operands(alloc);
+    };
+    match truth(alloc, value.as_bytes())? {
+        Ok(true) => push(values, Text::from_bytes(alloc, b"1")?),
+        Ok(false) => push(values, Text::from_bytes(alloc, b"0")?),
+        Err(message) => Ok(Step::Halts(Halt::Refused(message))),
+    }
+}
+
+fn skip_if_false(alloc: Global, count: usize, values: &mut Stack) -> Result<Step, NoMemory>
+    ensures { IfOk result (λ step. (next : Next)
+        → act (code.SkipIfFalse count) next values.old ≡ stepped step next values.new) }
+{
+    let Some(value) = values.pop() else {
+        return wrong_operands(alloc);
+    };
+    match truth(alloc, value.as_bytes())? {
+        Ok(true) => Ok(Step::Goes(0)),
+        Ok(false) => Ok(Step::Goes(count)),
+        Err(message) => Ok(Step::Halts(Halt::Refused(message))),
+    }
+}
+
+fn skip_if_true(alloc: Global, count: usize, values: &mut Stack) -> Result<Step, NoMemory>
+    ensures { IfOk result (λ step. (next : Next)
+        → act (code.SkipIfTrue count) next values.old ≡ stepped step next values.new) }
+{
+    let Some(value) = values.pop() else {
+        return wrong_operands(alloc);
+    };
+    match truth(alloc, value.as_bytes())? {
+        Ok(true) => Ok(Step::Goes(count)),
+        Ok(false) => Ok(Step::Goes(0)),
+        Err(message) => Ok(Step::Halts(Halt::Refused(message))),
+    }
+}

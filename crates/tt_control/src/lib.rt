@@ -1,0 +1,21 @@
+//! What the words of the commands that control evaluation mean (break(n), catch(n), continue(n), error(n), expr(n),
+//! for(n), foreach(n), if(n), return(n), switch(n), while(n)): a table of names, usages and meanings. Nothing is
+//! evaluated.
+#![tactic(auto)]
+
+mod answers;
+mod branches;
+mod choices;
+mod command;
+mod control;
+mod endings;
+mod evaluating;
+mod options;
+mod reading;
+mod turns;
+
+pub use control::Control;
+pub use reading::read_control;
+
+#[cfg(test)]
+mod tests;

@@ -1,0 +1,69 @@
+ghost use Rattle.std.specs.Prelude.{◌≡◌, IfOk};
+ghost use Rattle.tt_control.specs.Answers.{wrong_number};
+ghost use Rattle.tt_control.specs.Table as table;
+
+use crate::Control;
+use crate::branches::branch;
+use crate::choices::switch;
+use crate::command::{Command, command_of, usage};
+use crate::endings::{break_loop, continue_loop, error, return_value};
+use crate::evaluating::{catch, expression, for_loop, while_loop};
+use crate::turns::foreach;
+use std::alloc::Global;
+use tt_script::global_name;
+use tt_text::{NoMemory, Text};
+
+/// What the words of a command mean, its name first. A leading `::` of the name is dropped.
+///
+/// `Other` comes exactly where the first word is no command of the table, and where there is no word. Errors come in this
+/// order: an option that isn't known, from the left; a wrong number of words; what the words say. `NoMemory` where
+/// memory is refused.
+pub fn read_control(alloc: Global, words: &[Text]) -> Result<Control, NoMemory>
+    ensures control { IfOk result (λ control. control ≡ table.control_of words.now) }
+{
+    match words {
+        [name, words @ ..] => by_command(alloc, command_of(plain_name(name.as_bytes())), words),
+        [] => Ok(Control::Other),
+    }
+}
+
+fn plain_name(name: &[u8]) -> &[u8]
+    ensures { result.now ≡ table.plain_name name.now }
+{
+    match global_name(name) {
+        Some(name) => name,
+        None => name,
+    }
+}
+
+fn by_command(alloc: Global, command: Option<Command>, words: &[Text]) -> Result<Control, NoMemory>
+    ensures { IfOk result (λ control. control ≡ table.by_command command words.now) }
+{
+    match command {
+        Some(command) => meaning(alloc, command, usage(command), words),
+        None => Ok(Control::Other),
+    }
+}
+
+fn meaning(
+    alloc: Global,
+    command: Command,
+    usage: &[u8],
+    words: &[Text],
+) -> Result<Control, NoMemory>
+    ensures { IfOk result (λ control. control ≡ (table.row_of command).meaning (wrong_number usage.now) words.now) }
+{
+    match command {
+        Command::Break => break_loop(alloc, usage, words),
+        Command::Catch => catch(alloc, usage, words),
+        Command::Continue => continue_loop(alloc, usage, words),
+        Command::Error => error(alloc, usage, words),
+        Command::Expr => expression(alloc, usage, words),
+        Command::For => for_loop(alloc, usage, words),
+        Command::Foreach => foreach(alloc, usage, words),
+        Command::If => branch(alloc, usage, words),
+        Command::Return => return_value(alloc, usage, words),
+        Command::Switch => switch(alloc, usage, words),
+        Command::While => while_loop(alloc, usage, words),
+    }
+}

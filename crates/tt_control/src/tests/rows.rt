@@ -1,0 +1,283 @@
+//! Commands with their words, and what they mean.
+
+/// Other names, and the commands that end what is evaluated around them (break(n), continue(n), return(n), error(n)).
+pub(super) static ENDINGS: [(&str, &str); 44] = [
+    ("", "other|"),
+    ("{}", "other|"),
+    ("set x 1", "other|"),
+    ("If 1 a", "other|"),
+    ("::::break", "other|"),
+    ("foo::break", "other|"),
+    ("break", "break|"),
+    ("::break", "break|"),
+    ("break x", "bad|wrong # args: should be \"break\"|"),
+    ("::break x", "bad|wrong # args: should be \"break\"|"),
+    ("continue", "continue|"),
+    ("continue {}", "bad|wrong # args: should be \"continue\"|"),
+    ("return", "return|ok||"),
+    ("return 5", "return|ok|5|"),
+    ("return -5", "return|ok|-5|"),
+    ("return -foo", "return|ok|-foo|"),
+    ("return -code", "return|ok|-code|"),
+    ("return -code ok", "return|ok||"),
+    ("return -code error", "return|error||"),
+    ("return -code error msg", "return|error|msg|"),
+    ("return -code return x", "return|return|x|"),
+    ("return -code break x", "return|break|x|"),
+    ("return -code continue -x", "return|continue|-x|"),
+    ("return -code error -code ok x", "return|ok|x|"),
+    ("return -code what -code break", "return|break||"),
+    ("return -code what x", "bad|bad value \"what\"|"),
+    ("return -code 1 x", "bad|bad value \"1\"|"),
+    ("return -code {} x", "bad|bad value \"\"|"),
+    ("return -code -x v", "bad|bad value \"-x\"|"),
+    ("return -foo x", "bad|bad option \"-foo\"|"),
+    ("return -code error -foo x", "bad|bad option \"-foo\"|"),
+    ("return -code what a -b c", "bad|bad option \"-b\"|"),
+    (
+        "return a b",
+        "bad|wrong # args: should be \"return ?-code code? ?value?\"|",
+    ),
+    (
+        "return - b",
+        "bad|wrong # args: should be \"return ?-code code? ?value?\"|",
+    ),
+    (
+        "return a -code error",
+        "bad|wrong # args: should be \"return ?-code code? ?value?\"|",
+    ),
+    (
+        "return -code what a b",
+        "bad|wrong # args: should be \"return ?-code code? ?value?\"|",
+    ),
+    ("error m", "error|m|-|"),
+    ("error m {}", "error|m|-|"),
+    ("error m trace", "error|m|trace|"),
+    ("error m {} c", "error|m|-|"),
+    ("error m trace c", "error|m|trace|"),
+    ("error {}", "error||-|"),
+    (
+        "error",
+        "bad|wrong # args: should be \"error message ?info? ?code?\"|",
+    ),
+    (
+        "error a b c d",
+        "bad|wrong # args: should be \"error message ?info? ?code?\"|",
+    ),
+];
+
+/// Commands that evaluate their words as they stand (catch(n), expr(n), while(n), for(n)).
+pub(super) static EVALUATING: [(&str, &str); 16] = [
+    ("catch {set x}", "catch|set x|-|"),
+    ("catch {set x} v", "catch|set x|v|"),
+    ("catch {} {}", "catch|||"),
+    (
+        "catch",
+        "bad|wrong # args: should be \"catch script ?varName?\"|",
+    ),
+    (
+        "catch a b c",
+        "bad|wrong # args: should be \"catch script ?varName?\"|",
+    ),
+    ("expr 1", "expr|1|"),
+    ("expr 1 + {2 * 3}", "expr|1 + 2 * 3|"),
+    ("expr {} {} x", "expr|  x|"),
+    ("::expr {1 }", "expr|1 |"),
+    (
+        "expr",
+        "bad|wrong # args: should be \"expr arg ?arg ...?\"|",
+    ),
+    ("while {$i < 3} {incr i}", "while|$i < 3|incr i|"),
+    (
+        "while 1",
+        "bad|wrong # args: should be \"while test body\"|",
+    ),
+    (
+        "while a b c",
+        "bad|wrong # args: should be \"while test body\"|",
+    ),
+    (
+        "for {set i 0} {$i < 3} {incr i} {puts $i}",
+        "for|set i 0|$i < 3|incr i|puts $i|",
+    ),
+    (
+        "for a b c",
+        "bad|wrong # args: should be \"for start test next body\"|",
+    ),
+    (
+        "for a b c d e",
+        "bad|wrong # args: should be \"for start test next body\"|",
+    ),
+];
+
+/// The tests and bodies of if(n).
+pub(super) static BRANCHES: [(&str, &str); 26] = [
+    ("if 1 a", "if|1 a|"),
+    ("if 1 then a", "if|1 a|"),
+    ("if 1 a b", "if|1 a b|"),
+    ("if 1 a else b", "if|1 a b|"),
+    ("if 1 then a else b", "if|1 a b|"),
+    ("if 1 then then", "if|1 then|"),
+    ("if 1 else", "if|1 else|"),
+    ("if 1 a elseif 2 b", "if|1 a 2 b|"),
+    ("if 1 then a elseif 2 then b else c", "if|1 a 2 b c|"),
+    ("if 1 a elseif 2 b elseif 3 then c d", "if|1 a 2 b 3 c d|"),
+    ("if then then a", "if|then a|"),
+    ("if elseif a", "if|elseif a|"),
+    ("if 1 a else else", "if|1 a else|"),
+    ("if 1 a else elseif", "if|1 a elseif|"),
+    ("if 1 a else then", "if|1 a then|"),
+    ("if 1 {} {}", "if|1 {} {}|"),
+    (
+        "if",
+        "bad|wrong # args: should be \"if expr1 ?then? body1 ?elseif expr2 ?then? body2 ...? ?else? ?bodyN?\"|",
+    ),
+    (
+        "if 1",
+        "bad|wrong # args: should be \"if expr1 ?then? body1 ?elseif expr2 ?then? body2 ...? ?else? ?bodyN?\"|",
+    ),
+    (
+        "if 1 then",
+        "bad|wrong # args: should be \"if expr1 ?then? body1 ?elseif expr2 ?then? body2 ...? ?else? ?bodyN?\"|",
+    ),
+    (
+        "if 1 a else",
+        "bad|wrong # args: should be \"if expr1 ?then? body1 ?elseif expr2 ?then? body2 ...? ?else? ?bodyN?\"|",
+    ),
+    (
+        "if 1 a elseif",
+        "bad|wrong # args: should be \"if expr1 ?then? body1 ?elseif expr2 ?then? body2 ...? ?else? ?bodyN?\"|",
+    ),
+    (
+        "if 1 a elseif 2",
+        "bad|wrong # args: should be \"if expr1 ?then? body1 ?elseif expr2 ?then? body2 ...? ?else? ?bodyN?\"|",
+    ),
+    (
+        "if 1 a elseif 2 then",
+        "bad|wrong # args: should be \"if expr1 ?then? body1 ?elseif expr2 ?then? body2 ...? ?else? ?bodyN?\"|",
+    ),
+    (
+        "if 1 a b c",
+        "bad|wrong # args: should be \"if expr1 ?then? body1 ?elseif expr2 ?then? body2 ...? ?else? ?bodyN?\"|",
+    ),
+    (
+        "if 1 a else b c",
+        "bad|wrong # args: should be \"if expr1 ?then? body1 ?elseif expr2 ?then? body2 ...? ?else? ?bodyN?\"|",
+    ),
+    (
+        "if 1 a then b",
+        "bad|wrong # args: should be \"if expr1 ?then? body1 ?elseif expr2 ?then? body2 ...? ?else? ?bodyN?\"|",
+    ),
+];
+
+/// The variables of foreach(n) and their values, turn by turn.
+pub(super) static TURNS: [(&str, &str); 21] = [
+    ("foreach x {1 2 3} b", "foreach|x|1 2 3|b|"),
+    ("foreach x {} b", "foreach|x||b|"),
+    ("foreach {x y} {1 2 3} b", "foreach|x y|1 2 3 {}|b|"),
+    ("foreach {x y} {1 2 3 4} b", "foreach|x y|1 2 3 4|b|"),
+    ("foreach {x y z} 1 b", "foreach|x y z|1 {} {}|b|"),
+    ("foreach x {1 2} y {a b c} b", "foreach|x y|1 a 2 b {} c|b|"),
+    (
+        "foreach {x y} {1 2 3} z {a b c} b",
+        "foreach|x y z|1 2 a 3 {} b {} {} c|b|",
+    ),
+    ("foreach x {} y {a} z {} b", "foreach|x y z|{} a {}|b|"),
+    ("foreach {x x} {1 {2 3}} {}", "foreach|x x|1 {2 3}||"),
+    ("foreach {} {1 2} b", "bad|empty variable list|"),
+    ("foreach {} \\{ b", "bad|empty variable list|"),
+    ("foreach x {1} {} {} b", "bad|empty variable list|"),
+    ("foreach \\{ \\\" b", "bad|unmatched open brace in list|"),
+    ("foreach x \\\" b", "bad|unmatched open quote in list|"),
+    ("foreach x \\{ {} {} b", "bad|unmatched open brace in list|"),
+    (
+        "foreach x {{a}b} y {} b",
+        "bad|list element in braces followed by \"b\" instead of space|",
+    ),
+    (
+        "foreach",
+        "bad|wrong # args: should be \"foreach varList list ?varList list ...? body\"|",
+    ),
+    (
+        "foreach x",
+        "bad|wrong # args: should be \"foreach varList list ?varList list ...? body\"|",
+    ),
+    (
+        "foreach x {}",
+        "bad|wrong # args: should be \"foreach varList list ?varList list ...? body\"|",
+    ),
+    (
+        "foreach {} {} a b",
+        "bad|wrong # args: should be \"foreach varList list ?varList list ...? body\"|",
+    ),
+    (
+        "foreach \\{ {} a {} b c",
+        "bad|wrong # args: should be \"foreach varList list ?varList list ...? body\"|",
+    ),
+];
+
+/// The body that switch(n) chooses.
+pub(super) static CHOICES: [(&str, &str); 53] = [
+    ("switch b a 1 b 2 c 3", "script|2|"),
+    ("switch x a 1 b 2", "script||"),
+    ("switch b {a 1 b 2 c 3}", "script|2|"),
+    ("switch a a 1 a 2", "script|1|"),
+    ("switch x {}", "script||"),
+    ("switch x { }", "script||"),
+    ("switch {} {} 1", "script|1|"),
+    ("switch a a - b - c 3 d 4", "script|3|"),
+    ("switch b {a - b - c 3 d 4}", "script|3|"),
+    ("switch x a - b 2", "script||"),
+    ("switch a a - a 2", "script|2|"),
+    ("switch x a 1 default 2", "script|2|"),
+    ("switch x default 1 a 2", "script||"),
+    ("switch default default 1 a 2", "script|1|"),
+    ("switch a default - a 2", "script|2|"),
+    ("switch x a 1 default {}", "script||"),
+    ("switch b a 1 b - default 3", "script|3|"),
+    ("switch -exact a* a* 1", "script|1|"),
+    ("switch -exact ab a* 1", "script||"),
+    ("switch a a* 1 a 2", "script|2|"),
+    ("switch -glob ab a* 1 ab 2", "script|1|"),
+    ("switch -glob ab {b* 1 *b 2}", "script|2|"),
+    ("switch -glob x ? 1", "script|1|"),
+    ("switch -glob -exact ab a* 1 default 2", "script|2|"),
+    ("switch -exact -glob ab {a* 1}", "script|1|"),
+    ("switch -glob é ? 1 ?? 2", "script|1|"),
+    ("switch -- -a -a 1", "script|1|"),
+    ("switch -glob -- -a -* 1", "script|1|"),
+    ("switch -a {-a 1}", "script|1|"),
+    ("switch -- {a 1}", "script||"),
+    ("switch -exact -exact {-exact 1}", "script|1|"),
+    ("switch -- -glob {-glob 1}", "script|1|"),
+    ("switch - - 1", "script|1|"),
+    ("switch a -b 1", "script||"),
+    ("switch -- -- -- 1", "script|1|"),
+    ("switch -foo a 1", "bad|bad option \"-foo\"|"),
+    ("switch -glob -foo a 1", "bad|bad option \"-foo\"|"),
+    ("switch -nocase -foo a 1", "bad|bad option \"-nocase\"|"),
+    ("switch -foo a b c d", "bad|bad option \"-foo\"|"),
+    (
+        "switch",
+        "bad|wrong # args: should be \"switch ?-exact? ?-glob? ?--? string pattern body ?pattern body ...?\"|",
+    ),
+    (
+        "switch x",
+        "bad|wrong # args: should be \"switch ?-exact? ?-glob? ?--? string pattern body ?pattern body ...?\"|",
+    ),
+    ("switch -glob x", "bad|switch pattern without body|"),
+    ("switch x a 1 b", "bad|switch pattern without body|"),
+    ("switch a a 1 b", "bad|switch pattern without body|"),
+    ("switch x {a 1 b}", "bad|switch pattern without body|"),
+    ("switch x {a}", "bad|switch pattern without body|"),
+    ("switch x a", "bad|switch pattern without body|"),
+    ("switch a a 1 b -", "bad|switch pattern without body|"),
+    ("switch a {a 1 b -}", "bad|switch pattern without body|"),
+    ("switch x {a -}", "bad|switch pattern without body|"),
+    ("switch a a 1 default -", "bad|switch pattern without body|"),
+    ("switch x \\{", "bad|unmatched open brace in list|"),
+    (
+        "switch x {a \"b\"c}",
+        "bad|list element in quotes followed by \"c\" instead of space|",
+    ),
+];

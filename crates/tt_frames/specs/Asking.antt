@@ -1,0 +1,134 @@
+-- Commands that ask what the threads share, and what follows the replies (thread(n), tsv(n), tpool(n), puts(n), gets(n)).
+use Rattle.std.specs.Prelude.{ℕ, Bool, true, false, List, [], ◌∷◌, ◌++◌, codes, length, decimal, Option, Some, None}
+use Rattle.tt_calls.specs.declared.chan_call.ChanCall.{ChanCall}
+use Rattle.tt_calls.specs.declared.chan_call.ChanCall.TheVariants as chan
+use Rattle.tt_calls.specs.declared.lock_call.LockCall.{LockCall}
+use Rattle.tt_calls.specs.declared.lock_call.LockCall.TheVariants as lock
+use Rattle.tt_calls.specs.declared.outcome.Outcome.{Outcome}
+use Rattle.tt_calls.specs.declared.reply.Reply.{Reply}
+use Rattle.tt_calls.specs.declared.reply.Reply.TheVariants as reply
+use Rattle.tt_calls.specs.declared.request.Request.{Request}
+use Rattle.tt_calls.specs.declared.request.Request.TheVariants as ask
+use Rattle.tt_commands.specs.declared.call.Call.{Call}
+use Rattle.tt_commands.specs.declared.call.Call.TheVariants as call
+use Rattle.tt_commands.specs.declared.call.Here.TheVariants as here
+use Rattle.tt_commands.specs.declared.call.Then.{Then as After}
+use Rattle.tt_commands.specs.declared.call.Then.TheVariants as after
+use Rattle.tt_endings.specs.Endings.{code_of, failed, fine, number_of, of_outcome, text_of}
+use Rattle.tt_endings.specs.declared.ending.Ending.{Ending}
+use Rattle.tt_plans.specs.Plans.{Asks, Calls}
+use Rattle.tt_text.specs.Characters.{characters}
+use Rattle.tt_wants.specs.declared.got.Got.{Got}
+use Rattle.tt_wants.specs.declared.got.Got.TheVariants as got
+use Rattle.tt_wants.specs.declared.want.Want.TheVariants.{Ask}
+use Rattle.tt_frames.specs.Vocabulary.{OnEnding, Then, passed, stored}
+use Rattle.tt_frames.specs.declared.job.Awaits.{Awaits}
+use Rattle.tt_frames.specs.declared.job.Awaits.TheVariants as awaits
+use Rattle.tt_frames.specs.declared.job.Job.TheVariants as job
+
+-- ---- replies ----
+
+-- the error of a script's target that has ended (thread(n), thread::send)
+abbrev pub died : List ℕ
+died = codes "target thread died"
+
+-- the answer that a reply is
+abbrev pub answer : Reply → Ending
+answer (reply.Refused message) = failed message
+answer (reply.Value value) = fine value
+answer (reply.Line line) = fine line
+answer (reply.Answer outcome) = of_outcome outcome
+answer reply.Died = failed died
+answer reply = fine []
+
+-- a reply that a variable gets, with the command's answer: of gets(n) how many characters, or -1 at the end; of tsv::get
+-- whether there is one; of tpool::cancel the jobs that are removed
+abbrev pub kept_in : (name : List ℕ) → Reply → Then
+kept_in name (reply.Line line) = stored (Some name) line (decimal (length (characters line)))
+kept_in name reply.LineEnd = stored (Some name) [] (codes "-1")
+kept_in name (reply.Found true value) = stored (Some name) value (codes "1")
+kept_in name (reply.Found false value) = passed (fine (codes "0"))
+kept_in name (reply.Lists removed left) = stored (Some name) left removed
+kept_in name reply = passed (answer reply)
+
+-- the outcome of a post: a variable gets its value, and the answer is its code
+abbrev pub outcome_in : Option (List ℕ) → Reply → Then
+outcome_in (Some name) (reply.Answer outcome) = stored (Some name) outcome.value (number_of outcome.code)
+outcome_in variable reply = passed (answer reply)
+
+-- an answer, if it isn't refused
+abbrev pub unless_refused : (value : List ℕ) → Reply → Ending
+unless_refused value (reply.Refused message) = failed message
+unless_refused value reply = fine value
+
+-- ---- requests ----
+
+-- what follows a reply
+abbrev pub on_reply : (go : Reply → Then) → Got → Then
+on_reply go (got.Reply reply) = go reply
+on_reply go got = passed (fine [])
+
+-- a request, and what follows its reply
+abbrev pub asking : Request → (go : Reply → Then) → Then
+asking request go state = Asks (Ask request) state (on_reply go)
+
+-- the reply is the answer
+abbrev pub answering : Reply → Then
+answering reply = passed (answer reply)
+
+-- what follows the first reply to a command: its answer, or a wait
+abbrev pub following : Awaits → Reply → Then
+following awaits.Value reply = answering reply
+following (awaits.Store name) reply = kept_in name reply
+following (awaits.Outcome variable) reply = outcome_in variable reply
+following (awaits.Answers value) reply = passed (unless_refused value reply)
+following (awaits.Result variable) (reply.Posted n) = asking (ask.Await n) (outcome_in variable)
+following (awaits.End thread) (reply.Value count) =
+    asking (ask.AwaitEnd thread) (λ reply. passed (unless_refused count reply))
+following awaits.NamedEnd (reply.Waits thread) = asking (ask.AwaitEnd thread) answering
+following (awaits.Move name) reply.Go = asking (ask.Chan (chan.AwaitMove name)) answering
+following (awaits.Retake condition mutex) reply.Go = asking (ask.Lock (lock.CondTake condition mutex)) answering
+following awaits reply = answering reply
+
+-- the channel that is moved, and the condition that is waited for (thread(n), thread::transfer, thread::cond)
+abbrev pub moving : Request → Awaits
+moving (ask.Chan (chan.Transfer id name)) = awaits.Move name
+moving request = awaits.Value
+
+abbrev pub retaking : Request → Awaits
+retaking (ask.Lock (lock.CondWait condition mutex)) = awaits.Retake condition mutex
+retaking request = awaits.Value
+
+abbrev pub awaits_of : Request → After → Awaits
+awaits_of request after.Value = awaits.Value
+awaits_of request (after.Store name) = awaits.Store name
+awaits_of request (after.AwaitResult variable) = awaits.Result variable
+awaits_of request (after.AwaitEnd (Some thread)) = awaits.End thread
+awaits_of request (after.AwaitEnd None) = awaits.NamedEnd
+awaits_of request after.AwaitMove = moving request
+awaits_of request after.Retake = retaking request
+awaits_of request after = awaits.Value
+
+-- ---- commands ----
+
+-- a name that no command has (unknown(n))
+abbrev pub invalid_name : (name : List ℕ) → List ℕ
+invalid_name name = codes "invalid command name \"" ++ (name ++ codes "\"")
+
+abbrev pub unknown : (words : List (List ℕ)) → Ending
+unknown [] = fine []
+unknown (name ∷ words) = failed (invalid_name name)
+
+-- a send to oneself: without a variable its script's ending is the command's (thread(n), thread::send)
+abbrev pub sent : Option (List ℕ) → OnEnding
+sent None ending = passed ending
+sent (Some name) ending = stored (Some name) (text_of ending) (number_of (code_of ending))
+
+-- what the words of a command do by the tables
+abbrev pub called : Call → (words : List (List ℕ)) → Then
+called call.Other words = passed (unknown words)
+called (call.Bad message) words = passed (failed message)
+called (call.Here (here.Local value)) words = passed (fine value)
+called (call.Here (here.Direct script variable)) words = λ state.
+    Calls None (job.Global script) state (sent variable)
+called (call.Ask request after) words = asking request (following (awaits_of request after))

@@ -1,0 +1,93 @@
+-- What frames and askings mean: the rest of a plan.
+use Rattle.std.specs.Prelude.{ℕ, ◌+◌, List, [], codes, drop}
+use Rattle.std.specs.Arc.{arc_value}
+use Rattle.tt_code.specs.Running.{given, needs}
+use Rattle.tt_code.specs.declared.running.Running.{Running}
+use Rattle.tt_endings.specs.declared.ending.Ending.{Ending}
+use Rattle.tt_endings.specs.declared.ending.Ending.TheVariants.{Fine}
+use Rattle.tt_plans.specs.Frames.{After, OnGot}
+use Rattle.tt_plans.specs.Plans.{Goes}
+use Rattle.tt_wants.specs.declared.got.Got.{Got}
+use Rattle.tt_wants.specs.declared.want.Want.{Want}
+use Rattle.tt_frames.specs.Asking.{following, on_reply, sent}
+use Rattle.tt_frames.specs.Control.{caught, clauses}
+use Rattle.tt_frames.specs.Expressions.{computed}
+use Rattle.tt_frames.specs.Loops as loops
+use Rattle.tt_frames.specs.Nesting.{left}
+use Rattle.tt_frames.specs.Programs.{PlainStep, end_of, start_of, steps_of}
+use Rattle.tt_frames.specs.Scripts.{commands, ended, needing, ran, running}
+use Rattle.tt_frames.specs.Starts.{finished, reporting}
+use Rattle.tt_frames.specs.Vocabulary.{OnEnding, Then, ending_of, on_fine, on_truth, passed, stored}
+use Rattle.tt_frames.specs.declared.job.Asking.{Asking}
+use Rattle.tt_frames.specs.declared.job.Asking.TheVariants as asking
+use Rattle.tt_frames.specs.declared.job.CommandFrame.{CommandFrame}
+use Rattle.tt_frames.specs.declared.job.Frame.{Frame}
+use Rattle.tt_frames.specs.declared.job.Frame.TheVariants as frame
+use Rattle.tt_frames.specs.declared.job.Job.{Job}
+use Rattle.tt_frames.specs.declared.job.Job.TheVariants as job
+use Rattle.tt_frames.specs.declared.job.Loop.{Loop}
+use Rattle.tt_frames.specs.declared.job.Loop.TheVariants as loop
+use Rattle.tt_frames.specs.declared.job.Purpose.{Purpose}
+use Rattle.tt_frames.specs.declared.state.Counts.{Counts}
+
+-- ---- a command of a script ----
+
+-- the commands from that of the frame on
+abbrev pub steps_from : CommandFrame → List PlainStep
+steps_from command = drop command.at (steps_of (arc_value command.program))
+
+-- how the command of a frame ended
+abbrev pub command_ended : CommandFrame → OnEnding
+command_ended command =
+    ended (arc_value command.program) (start_of (steps_from command)) (end_of (steps_from command))
+    (commands (arc_value command.program) (drop (command.at + 1) (steps_of (arc_value command.program))))
+
+-- it goes on, or goes on with a value
+abbrev pub command_needs : CommandFrame → Then
+command_needs command =
+    needing (running (command_ended command)) (command_ended command) (needs command.running)
+
+abbrev pub command_given : CommandFrame → OnEnding
+command_given command =
+    on_fine
+    (λ value. needing (running (command_ended command)) (command_ended command) (given command.running value))
+    (command_ended command)
+
+-- an expression goes on with a value
+abbrev pub expression_given : Purpose → Running → OnEnding
+expression_given purpose inside = on_fine (λ value. computed purpose (given inside value)) passed
+
+-- ---- frames ----
+
+-- the values of a turn go on
+abbrev pub assigns : (left : List (List ℕ)) → Loop → Then
+assigns left (loop.Foreach names values body) = loops.assigning names left values body
+assigns left other = passed (Fine [])
+
+abbrev pub after : After Job Want Got Ending Counts Frame
+after (frame.Needs command) = command_given command
+after (frame.Does command) = command_ended command
+after (frame.Expression purpose inside) = expression_given purpose inside
+after (frame.Clause body rest) = on_truth (Goes (job.Script body)) (clauses rest)
+after (frame.Test loop) = on_truth (loops.bodily loop) loops.done
+after (frame.LoopBody loop) = loops.after_body (loops.following loop)
+after (frame.LoopNext loop) = loops.after_next (Goes (job.Loop loop))
+after (frame.LoopStart loop) = on_fine (λ value. Goes (job.Loop loop)) passed
+after (frame.Assigns left loop) = on_fine (λ old. assigns left loop) passed
+after (frame.Catches variable) = caught variable
+after (frame.Leaves body) = left body
+after (frame.Sends variable) = sent variable
+after (frame.Stores result) = on_fine (λ old. passed (Fine result)) passed
+after frame.Reports = finished
+
+-- ---- askings ----
+
+abbrev pub on_got : OnGot Job Want Got Ending Counts Asking
+on_got (asking.Wanted frame) got = after frame (ending_of got)
+on_got (asking.Runs command) got = ran (command_ended command) got
+on_got (asking.Paused command) got = command_needs command
+on_got (asking.Begins job) got = Goes job
+on_got (asking.Ends ending) got = passed ending
+on_got (asking.Caught variable message) got = stored variable message (codes "1")
+on_got (asking.Replied awaits) got = on_reply (following awaits) got
+on_got (asking.Reported trace ending) got = reporting trace ending

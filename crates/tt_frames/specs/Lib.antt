@@ -1,0 +1,13 @@
+pub mod Asking
+pub mod Control
+pub mod Expressions
+pub mod Frames
+pub mod Loops
+pub mod Nesting
+pub mod Programs
+pub mod Rests
+pub mod Scripts
+pub mod Starts
+pub mod Tcl
+pub mod Units
+pub mod Vocabulary

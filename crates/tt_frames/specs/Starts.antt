@@ -1,0 +1,34 @@
+-- What a thread does from its start to its end (thread(n), thread::create).
+use Rattle.std.specs.Prelude.{ℕ, false, ◌==◌, if◌then◌else◌, List, [], ◌∷◌, ◌++◌, None}
+use Rattle.tt_calls.specs.declared.request.Request.{Request}
+use Rattle.tt_calls.specs.declared.request.Request.TheVariants.{Report, WriteErr}
+use Rattle.tt_calls.specs.declared.start.Start.{Start}
+use Rattle.tt_calls.specs.declared.start.Start.TheVariants.{Script, Worker}
+use Rattle.tt_endings.specs.Endings.{fine}
+use Rattle.tt_endings.specs.Places.{of_script}
+use Rattle.tt_endings.specs.declared.ending.Ending.{Ending}
+use Rattle.tt_endings.specs.declared.ending.Ending.TheVariants.{Failed}
+use Rattle.tt_plans.specs.Plans.{Asks, Calls}
+use Rattle.tt_wants.specs.declared.want.Want.TheVariants.{Ask}
+use Rattle.tt_frames.specs.Vocabulary.{OnEnding, Then, passed, told}
+use Rattle.tt_frames.specs.declared.job.Job.TheVariants as job
+
+-- the main thread writes the trace of the error that it ends with, another one reports it
+abbrev pub report : (me : ℕ) → (trace : List ℕ) → Request
+report me trace = if me == 1 then WriteErr (trace ++ 10 ∷ []) else Report trace false
+
+abbrev pub reporting : (trace : List ℕ) → Ending → Then
+reporting trace ending state = Asks (Ask (report state.me trace)) state (λ got. passed ending)
+
+-- an error is told and reported
+abbrev pub reported : OnEnding
+reported (Failed fault) = told fault.trace.text (reporting fault.trace.text (Failed fault))
+reported ending = passed ending
+
+-- how the script of a start ended
+abbrev pub finished : OnEnding
+finished ending = reported (of_script ending)
+
+abbrev pub starting : Start → Then
+starting (Script text) state = Calls None (job.Script text) state finished
+starting (Worker pool init exit) state = passed (fine []) state

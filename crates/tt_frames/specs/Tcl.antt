@@ -1,0 +1,24 @@
+-- The language: the plan of each job.
+use Rattle.tt_plans.specs.Evaluation.{Meaning}
+use Rattle.tt_endings.specs.declared.ending.Ending.{Ending}
+use Rattle.tt_wants.specs.declared.got.Got.{Got}
+use Rattle.tt_wants.specs.declared.want.Want.{Want}
+use Rattle.tt_frames.specs.Control.{own}
+use Rattle.tt_frames.specs.Expressions.{expression}
+use Rattle.tt_frames.specs.Loops.{looping, turning}
+use Rattle.tt_frames.specs.Nesting.{global, nested}
+use Rattle.tt_frames.specs.Scripts.{script}
+use Rattle.tt_frames.specs.Starts.{starting}
+use Rattle.tt_frames.specs.declared.job.Job.{Job}
+use Rattle.tt_frames.specs.declared.job.Job.TheVariants as job
+use Rattle.tt_frames.specs.declared.state.Counts.{Counts}
+
+abbrev pub plan : Meaning Job Want Got Ending Counts
+plan (job.Start start) = starting start
+plan (job.Script text) = script text
+plan (job.Expression purpose text) = expression purpose text
+plan (job.Own words) = own words
+plan (job.Nested body text) = nested body text
+plan (job.Global text) = global text
+plan (job.Loop loop) = looping loop
+plan (job.Turn loop) = turning loop

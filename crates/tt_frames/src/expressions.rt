@@ -1,0 +1,139 @@
+//! Expressions (expr(n)).
+ghost use Rattle.tt_exprs.specs.Apply.{truth_of};
+ghost use Rattle.std.specs.Prelude.{◌≡◌, IfOk};
+ghost use Rattle.tt_code.specs.Running.{needs};
+ghost use Rattle.tt_frames.specs.Expressions.{computed, ending_for, expression, first_of, made_needs, truth_ending};
+ghost use Rattle.tt_frames.specs.Frames.{after, expression_given, on_got};
+ghost use Rattle.tt_frames.specs.declared.job.Asking.TheVariants as askings;
+ghost use Rattle.tt_frames.specs.declared.job.Frame.TheVariants as frames;
+ghost use Rattle.tt_frames.specs.declared.state.Counts.{Counts};
+ghost use Rattle.tt_plans.specs.Frames.{plan_of};
+ghost use Rattle.tt_plans.specs.declared.language.Move.TheVariants as moves;
+ghost use Rattle.tt_wants.specs.declared.want.Want.TheVariants as wants;
+
+use crate::job::{Asking, Frame, Job, Purpose};
+use crate::kept::Made;
+use crate::language::Next;
+use crate::state::State;
+use std::alloc::Global;
+use tt_code::{Halt, Running};
+use tt_endings::Ending;
+use tt_exprs::truth;
+use tt_text::{NoMemory, Text};
+use tt_wants::Want;
+
+/// An expression begins.
+pub(crate) fn begin_expression(
+    alloc: Global,
+    purpose: Purpose,
+    text: Text,
+    state: &mut State,
+) -> Result<Next, NoMemory>
+    ensures { IfOk result (λ move. expression purpose text state.old ≡ plan_of after on_got move state.new) }
+{
+    let made = state.kept.expression(text)?;
+    let next = begin_made(alloc, purpose, made)?;
+    Ok(next)
+}
+
+fn begin_made(alloc: Global, purpose: Purpose, made: Made) -> Result<Next, NoMemory>
+    ensures { IfOk result (λ move. (state : Counts)
+        → computed purpose (made_needs made) state ≡ plan_of after on_got move state) }
+{
+    match made {
+        Made::Bad(message) => Ok(Next::Done(Ending::failed(alloc, message)?)),
+        Made::Code(code) => {
+            let next = advance(alloc, purpose, Running::new(alloc, code))?;
+            Ok(next)
+        }
+    }
+}
+
+// The expression goes on to what it needs next.
+fn advance(alloc: Global, purpose: Purpose, running: Running) -> Result<Next, NoMemory>
+    ensures { IfOk result (λ move. (state : Counts)
+        → computed purpose (needs running) state ≡ plan_of after on_got move state) }
+{
+    let mut running = running;
+    match running.advance()? {
+        Halt::Variable(name) => Ok(reads(name, None, purpose, running)),
+        Halt::Element(name, index) => Ok(reads(name, Some(index), purpose, running)),
+        Halt::Script(text) => Ok(Next::Call(
+            None,
+            Job::Script(text),
+            Frame::Expression(purpose, running),
+        )),
+        Halt::Refused(message) => Ok(Next::Done(Ending::failed(alloc, message)?)),
+        Halt::Value(value) => Ok(Next::Done(ending_for(alloc, purpose, value)?)),
+        Halt::Values(values) => Ok(Next::Done(ending_for(
+            alloc,
+            purpose,
+            first_of(alloc, values),
+        )?)),
+    }
+}
+
+fn first_of(alloc: Global, values: Vec<Text>) -> Text
+    ensures { result ≡ first_of values.items }
+{
+    match values.into_iter().next() {
+        Some(value) => value,
+        None => Text::new(alloc),
+    }
+}
+
+// What an expression with this value comes to.
+fn ending_for(alloc: Global, purpose: Purpose, value: Text) -> Result<Ending, NoMemory>
+    ensures { IfOk result (λ ending. ending ≡ ending_for purpose value) }
+{
+    match purpose {
+        Purpose::Value => Ok(Ending::Fine(value)),
+        Purpose::Condition => {
+            let ending = truth_of(alloc, &value)?;
+            Ok(ending)
+        }
+    }
+}
+
+fn truth_of(alloc: Global, value: &Text) -> Result<Ending, NoMemory>
+    ensures { IfOk result (λ ending. ending ≡ truth_ending (truth_of value.now)) }
+{
+    match truth(alloc, value.as_bytes())? {
+        Ok(true) => Ok(Ending::Fine(Text::from_bytes(alloc, b"1")?)),
+        Ok(false) => Ok(Ending::Fine(Text::from_bytes(alloc, b"0")?)),
+        Err(message) => {
+            let ending = Ending::failed(alloc, message)?;
+            Ok(ending)
+        }
+    }
+}
+
+fn reads(name: Text, index: Option<Text>, purpose: Purpose, running: Running) -> Next
+    ensures { result ≡ moves.Ask (wants.ReadVar name index) (askings.Wanted (frames.Expression purpose running)) }
+{
+    Next::Ask(
+        Want::ReadVar { name, index },
+        Asking::Wanted(Frame::Expression(purpose, running)),
+    )
+}
+
+/// The expression has what it needed.
+pub(crate) fn give_expression(
+    alloc: Global,
+    purpose: Purpose,
+    running: Running,
+    ending: Ending,
+) -> Result<Next, NoMemory>
+    ensures { IfOk result (λ move. (state : Counts)
+        → expression_given purpose running ending state ≡ plan_of after on_got move state) }
+{
+    match ending {
+        Ending::Fine(value) => {
+            let mut running = running;
+            running.give(value)?;
+            let next = advance(alloc, purpose, running)?;
+            Ok(next)
+        }
+        ending => Ok(Next::Done(ending)),
+    }
+}

@@ -1,0 +1,147 @@
+//! What is evaluated, and what is kept of it while something else is.
+
+use crate::program::Program;
+use crate::rest::Rest;
+use std::sync::Arc;
+use tt_calls::Start;
+use tt_code::Running;
+use tt_endings::Ending;
+use tt_text::{Text, Texts};
+use tt_wants::Body;
+
+/// A loop, from its next turn on.
+#[derive(Debug, Drop)]
+pub enum Loop {
+    /// While the test is true (while(n)).
+    While {
+        test: Text,
+        body: Text,
+    },
+    /// While the test is true, with a script after each body (for(n)).
+    For {
+        test: Text,
+        next: Text,
+        body: Text,
+    },
+    /// For so many of the values as there are names, turn after turn (foreach(n)).
+    Foreach {
+        names: Rest,
+        values: Rest,
+        body: Text,
+    },
+}
+
+/// What an expression is evaluated for.
+#[derive(Clone, Copy, Debug, PartialEq, Eq)]
+pub enum Purpose {
+    /// Its value (expr(n)).
+    Value,
+    /// Whether it is true: 1 or 0 (if(n), while(n), for(n)).
+    Condition,
+}
+
+/// What is evaluated.
+#[derive(Debug, Drop)]
+pub enum Job {
+    /// All that a thread does.
+    Start(Start),
+    /// A script, to the result of its last command.
+    Script(Text),
+    /// An expression.
+    Expression(Purpose, Text),
+    /// A command whose name is no procedure's and no command's of the host.
+    Own(Texts),
+    /// A body in a nested evaluation.
+    Nested(Body, Text),
+    /// A script at global level.
+    Global(Text),
+    /// A loop.
+    Loop(Loop),
+    /// A turn of a loop, for which a unit is spent.
+    Turn(Loop),
+}
+
+/// A command of a script, with its words on the way or with them all.
+#[derive(Debug, Drop)]
+pub struct CommandFrame {
+    pub program: Arc<Program>,
+    pub at: usize,
+    pub running: Running,
+}
+
+/// What waits for the ending of a job.
+#[derive(Debug, Drop)]
+pub enum Frame {
+    /// A command that needs a value for its words.
+    Needs(CommandFrame),
+    /// A command that is done elsewhere.
+    Does(CommandFrame),
+    /// An expression that needs a value.
+    Expression(Purpose, Running),
+    /// The body of a test, and what comes where it is false (if(n)).
+    Clause(Text, Rest),
+    /// The test of a loop.
+    Test(Loop),
+    /// The body of a loop.
+    LoopBody(Loop),
+    /// The script after a body (for(n)).
+    LoopNext(Loop),
+    /// The script before a loop (for(n)).
+    LoopStart(Loop),
+    /// The assignments of a turn: the names and values that are left, and the loop from its next turn on (foreach(n)).
+    Assigns(Rest, Loop),
+    /// A script that is caught, and the variable for its result (catch(n)).
+    Catches(Option<Text>),
+    /// A body that is left after it.
+    Leaves(Body),
+    /// A send to oneself, and the variable for its result (thread(n), thread::send).
+    Sends(Option<Text>),
+    /// A variable that was set, after which this is the result.
+    Stores(Text),
+    /// The script that a thread begins with.
+    Reports,
+}
+
+/// What follows the reply to a request.
+#[derive(Debug, Drop)]
+pub enum Awaits {
+    /// The command has its answer.
+    Value,
+    /// This variable gets it.
+    Store(Text),
+    /// The result of the post is waited for, and this variable gets it.
+    Result(Option<Text>),
+    /// The outcome of a post: this variable gets it.
+    Outcome(Option<Text>),
+    /// The end of this thread is waited for.
+    End(u32),
+    /// The end of the thread that the reply names is waited for.
+    NamedEnd,
+    /// The command has this answer, if it isn't refused.
+    Answers(Text),
+    /// The move of this channel is waited for.
+    Move(Text),
+    /// The wait for this condition is ended, and this mutex taken again.
+    Retake(Text, Text),
+}
+
+/// What waits for an answer.
+#[derive(Debug, Drop)]
+pub enum Asking {
+    /// A frame that waits for what was wanted, as an ending.
+    Wanted(Frame),
+    /// A command whose words are run.
+    Runs(CommandFrame),
+    /// A command before which there is a pause.
+    Paused(CommandFrame),
+    /// A job that begins.
+    Begins(Job),
+    /// An ending that comes.
+    Ends(Ending),
+    /// The result of a script that was caught.
+    Caught(Option<Text>, Text),
+    /// The reply to a request.
+    Replied(Awaits),
+    /// The report of the error that a thread ends with.
+    Reported(Text, Ending),
+}

@@ -1,0 +1,30 @@
+//! How a thread evaluates its scripts: what each command does, up to what it wants from the interpreter that hosts it,
+//! as plans; and a stack that stops at each want and goes on with what it gets (Tcl(n), expr(n), thread(n)).
+#![tactic(auto)]
+
+mod calls;
+mod commands;
+mod control;
+mod expression;
+mod expressions;
+mod job;
+mod kept;
+mod language;
+mod loops;
+mod nesting;
+mod program;
+mod rest;
+mod stack;
+mod starts;
+mod state;
+mod storing;
+
+pub use job::{Asking, Awaits, CommandFrame, Frame, Job, Loop, Purpose};
+pub use language::Tcl;
+pub use rest::Rest;
+pub use stack::{Stack, begin, turn};
+pub use state::{Counts, State};
+pub use tt_wants::{Body, Got, Want};
+
+#[cfg(test)]
+mod tests;

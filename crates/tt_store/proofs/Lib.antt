@@ -1,0 +1,3 @@
+mod Assigning
+mod Marking
+mod Unsetting

@@ -1,0 +1,141 @@
+-- What an interpreter keeps: variables, procedures, levels and watches; and what is done to one variable (set(n), vwait(n)).
+use Rattle.std.specs.Prelude.{◌≡◌, ◌<◌, ◌-◌, ◌++◌, ℕ, Bool, false, length, take, slice_get, slice_index_or, ◌||◌, List, [], ◌∷◌, Result, Ok, Err, Option, Some, None}
+use Rattle.tt_calls.specs.declared.outcome.Outcome.{Outcome}
+use Rattle.tt_calls.specs.Outcomes.{failed, fine}
+use Rattle.tt_vars.specs.declared.answers.VarFault.{VarFault}
+use Rattle.tt_vars.specs.declared.answers.Written.{Written}
+use Rattle.tt_vars.specs.declared.answers.Written.TheVariants.{Yes, No}
+use Rattle.tt_vars.specs.declared.variable.Place.{Place}
+use Rattle.tt_vars.specs.Links as variables
+use Rattle.tt_vars.specs.Variables.{Frame, Name}
+use Rattle.tt_store.specs.declared.procedure.Procedure.{Procedure}
+use Rattle.tt_store.specs.declared.spot.Spot.{Spot}
+use Rattle.tt_store.specs.declared.watch.Watch.{Watch}
+use Rattle.tt_store.specs.Levels.{Levels, begun_in, global_level, left, with_frames}
+use Rattle.tt_store.specs.Messages.{cannot_read, cannot_set, wrong_number}
+use Rattle.tt_store.specs.Spots.{place_in, spot, spot_of, told}
+
+pub record Held : Type 0 where
+  pub levels : Levels
+  -- in order of first definition
+  pub procedures : List (Name × Procedure)
+  -- the innermost last
+  pub watches : List Watch
+
+abbrev pub nothing_held : Held
+nothing_held = record { levels = global_level; procedures = []; watches = [] }
+
+abbrev pub with_levels : Held → Levels → Held
+with_levels held levels = record held { levels = levels }
+
+-- a script at global level begins
+abbrev pub entered : Held → Held
+entered held = with_levels held (begun_in 0 held.levels)
+
+-- what was begun last has ended
+abbrev pub ended : Held → Held
+ended held = with_levels held (left held.levels)
+
+abbrev pub place : Held → Spot → Place
+place held spot = place_in held.levels.current spot
+
+-- ---- reading ----
+
+abbrev pub Finds : Held → Spot → Result (List ℕ) VarFault → Type 0
+Finds held spot found = variables.Reads held.levels.frames (place held spot) found
+
+-- ---- writing ----
+
+-- a watch after what a place stands for was written: was it its variable?
+abbrev pub IsMarked : List Frame → Place → Watch → Watch → Type 0
+IsMarked frames place old new =
+    (same : Bool)
+    × variables.AreSame frames place (variables.place_of 0 old.name old.index) same
+    × (new ≡ record old { seen = old.seen || same })
+
+pub record AreMarked (frames : List Frame) (place : Place) (old new : List Watch) : Type 0 where
+  pub counted : length new ≡ length old
+  pub each : (k : ℕ) (watch : Watch) →
+      k < length old →
+      IsMarked frames place (slice_index_or old k watch) (slice_index_or new k watch)
+
+-- what was written is seen by the watches
+abbrev pub Marks : Written → List Frame → Place → List Watch → List Watch → Type 0
+Marks Yes frames place old new = AreMarked frames place old new
+Marks (No fault) frames place old new = new ≡ old
+
+-- a text is written to what a spot stands for, or the fault is told
+pub record Sets (old : Held) (spot : Spot) (text : List ℕ) (new : Held) (written : Written) : Type 0 where
+  pub writes : variables.Writes old.levels.frames (place old spot) text new.levels.frames written
+  pub marks : Marks written new.levels.frames (place old spot) old.watches new.watches
+  pub rest : new ≡ record old { levels = with_frames old.levels new.levels.frames; watches = new.watches }
+
+-- ---- what commands answer ----
+
+abbrev pub value_of : (told : List ℕ) → Result (List ℕ) VarFault → Outcome
+value_of told (Ok text) = fine text
+value_of told (Err fault) = failed (cannot_read told fault)
+
+abbrev pub stored : (told text : List ℕ) → Written → Outcome
+stored told text Yes = fine text
+stored told text (No fault) = failed (cannot_set told fault)
+
+-- what `$name` and `$name(index)` give
+abbrev pub IsRead : Held → Name → Option Name → Outcome → Type 0
+IsRead held name index outcome =
+    (found : Result (List ℕ) VarFault)
+    × Finds held (spot name index) found
+    × (outcome ≡ value_of (told name index) found)
+
+-- a text is given to the same
+abbrev pub IsWritten : (old : Held) → Name → Option Name → (text : List ℕ) → Outcome → (new : Held) → Type 0
+IsWritten old name index text outcome new =
+    (written : Written)
+    × Sets old (spot name index) text new written
+    × (outcome ≡ stored (told name index) text written)
+
+-- what a command's word names is read
+abbrev pub Reads : (word : Name) → Held → Outcome → Type 0
+Reads word held outcome =
+    (found : Result (List ℕ) VarFault)
+    × Finds held (spot_of word) found
+    × (outcome ≡ value_of word found)
+
+-- a text is given to it
+abbrev pub Gives : (word : Name) → (text : List ℕ) → (old : Held) → Outcome → (new : Held) → Type 0
+Gives word text old outcome new =
+    (written : Written)
+    × Sets old (spot_of word) text new written
+    × (outcome ≡ stored word text written)
+
+-- a command fails, and changes nothing
+abbrev pub Fails : (message : List ℕ) → (old : Held) → Outcome → (new : Held) → Type 0
+Fails message old outcome new = (outcome ≡ failed message) × (new ≡ old)
+
+-- what words mean after a command's name: how it ends, and what is held then
+abbrev pub Meaning : Type 1
+Meaning = (usage : List ℕ) → (words : List (List ℕ)) → (old : Held) → Outcome → (new : Held) → Type 0
+
+abbrev pub Refuses : (usage : List ℕ) → (old : Held) → Outcome → (new : Held) → Type 0
+Refuses usage old outcome new = Fails (wrong_number usage) old outcome new
+
+-- ---- watches ----
+
+-- a wait for a global variable begins (vwait(n))
+abbrev pub watch_by : Spot → Watch
+watch_by spot = record { name = spot.name; index = spot.index; seen = false }
+
+abbrev pub watched : (word : Name) → Held → Held
+watched word held = record held { watches = held.watches ++ watch_by (spot_of word) ∷ [] }
+
+-- the innermost has ended
+abbrev pub unwatched : Held → Held
+unwatched held = record held { watches = take (length held.watches - 1) held.watches }
+
+-- whether the variable of the innermost was written
+abbrev pub seen_by : Option Watch → Bool
+seen_by None = false
+seen_by (Some watch) = watch.seen
+
+abbrev pub is_seen : Held → Bool
+is_seen held = seen_by (slice_get held.watches (length held.watches - 1))

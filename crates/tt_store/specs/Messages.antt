@@ -1,0 +1,28 @@
+-- How errors are told (set(n), unset(n)).
+use Rattle.std.specs.Prelude.{ℕ, List, ◌++◌, codes}
+use Rattle.tt_vars.specs.declared.answers.VarFault.{VarFault}
+use Rattle.tt_vars.specs.declared.answers.VarFault.TheVariants.{NoSuchVariable, NoSuchElement, IsArray, NotArray}
+
+-- that words are too few or too many
+abbrev pub wrong_number : (usage : List ℕ) → List ℕ
+wrong_number usage = codes "wrong # args: should be \"" ++ (usage ++ codes "\"")
+
+-- that a word is no option, or no subcommand
+abbrev pub bad_option : (word : List ℕ) → List ℕ
+bad_option word = codes "bad option \"" ++ (word ++ codes "\"")
+
+-- why a variable is not read, written or removed
+abbrev pub reason : VarFault → List ℕ
+reason NoSuchVariable = codes "\": no such variable"
+reason NoSuchElement = codes "\": no such element in array"
+reason IsArray = codes "\": variable is array"
+reason NotArray = codes "\": variable isn't array"
+
+abbrev pub cannot_read : (told : List ℕ) → VarFault → List ℕ
+cannot_read told fault = codes "can't read \"" ++ (told ++ reason fault)
+
+abbrev pub cannot_set : (told : List ℕ) → VarFault → List ℕ
+cannot_set told fault = codes "can't set \"" ++ (told ++ reason fault)
+
+abbrev pub cannot_unset : (told : List ℕ) → VarFault → List ℕ
+cannot_unset told fault = codes "can't unset \"" ++ (told ++ reason fault)

@@ -1,0 +1,138 @@
+//! Commands on variables and lists (lappend(n), lassign(n)).
+ghost use Rattle.std.specs.Prelude.{◌≡◌, [], IfOk, codes, drop};
+ghost use Rattle.tt_lists.specs.Answers.{insert_answer};
+ghost use Rattle.tt_lists.specs.Reading.{split_of};
+ghost use Rattle.tt_lists.specs.declared.items.Split.TheVariants.{Items};
+ghost use Rattle.tt_store.specs.Listed as listed;
+ghost use Rattle.tt_store.specs.Scalars.{Changes, made_of};
+
+use crate::Store;
+use crate::messages::cannot_set;
+use crate::scalars::unread;
+use crate::spot::spot_of;
+use std::alloc::Global;
+use tt_calls::Outcome;
+use tt_lists::{ListAnswer, Split, insert, join_list, split};
+use tt_text::{NoMemory, Text};
+use tt_vars::{VarFault, Written};
+
+impl Store {
+    pub(crate) fn lappend(&mut self, usage: &[u8], words: &[Text]) -> Result<Outcome, NoMemory>
+        ensures { IfOk result (λ outcome. listed.lappend usage.now words.now self.old outcome self.new) }
+    {
+        match words {
+            [name, values @ ..] => self.append_items(name, values),
+            [] => self.refuse(usage),
+        }
+    }
+
+    fn append_items(&mut self, word: &Text, values: &[Text]) -> Result<Outcome, NoMemory>
+        ensures { IfOk result (λ outcome. Changes word.now [] (λ value. insert_answer value (codes "end") values.now) self.old outcome self.new) }
+    {
+        let found = self.counted(word, b"")?;
+        let made = longer(self.alloc, word, values, found)?;
+        let outcome = self.give_made(word, made)?;
+        Ok(outcome)
+    }
+
+    pub(crate) fn lassign(&mut self, usage: &[u8], words: &[Text]) -> Result<Outcome, NoMemory>
+        ensures { IfOk result (λ outcome. listed.lassign usage.now words.now self.old outcome self.new) }
+    {
+        match words {
+            [list, names @ ..] => self.assign_list(list, names),
+            [] => self.refuse(usage),
+        }
+    }
+
+    fn assign_list(&mut self, list: &Text, names: &[Text]) -> Result<Outcome, NoMemory>
+        ensures { IfOk result (λ outcome. listed.AssignsItems (split_of list.now) names.now self.old outcome self.new) }
+    {
+        match split(self.alloc, list.as_bytes())? {
+            Split::Items(items) => self.assign_items(items.as_slice(), names),
+            Split::Bad(fault) => Outcome::failed(fault.message(self.alloc)?),
+        }
+    }
+
+    fn assign_items(&mut self, items: &[Text], names: &[Text]) -> Result<Outcome, NoMemory>
+        ensures { IfOk result (λ outcome. listed.AssignsItems (Items items.now) names.now self.old outcome self.new) }
+    {
+        let message = self.assign(items, names)?;
+        let outcome = told_rest(self.alloc, after(items, names.len()), message)?;
+        Ok(outcome)
+    }
+
+    // The message, where a variable can't be set.
+    fn assign(&mut self, items: &[Text], names: &[Text]) -> Result<Option<Text>, NoMemory>
+        ensures { IfOk result (λ message. listed.Assigns (listed.paired names.now items.now) self.old message self.new) }
+    {
+        let mut left = items;
+        for name in names {
+            let (item, rest) = first_item(self.alloc, left)?;
+            left = rest;
+            if let Some(message) = self.assign_one(name, item)? {
+                return Ok(Some(message));
+            }
+        }
+        Ok(None)
+    }
+
+    pub(crate) fn assign_one(&mut self, name: &Text, text: Text) -> Result<Option<Text>, NoMemory>
+        ensures { IfOk result (λ message. listed.AssignsOne name.now text self.old message self.new) }
+    {
+        let spot = spot_of(self.alloc, name.as_bytes())?;
+        let written = self.set_spot(&spot, text)?;
+        let message = message_of(self.alloc, name, written)?;
+        Ok(message)
+    }
+}
+
+fn message_of(alloc: Global, name: &Text, written: Written) -> Result<Option<Text>, NoMemory>
+    ensures { IfOk result (λ message. message ≡ listed.message_of name.now written) }
+{
+    match written {
+        Written::Yes => Ok(None),
+        Written::No(fault) => Ok(Some(cannot_set(alloc, name.as_bytes(), fault)?)),
+    }
+}
+
+fn first_item(alloc: Global, items: &[Text]) -> Result<(Text, &[Text]), NoMemory>
+    ensures { IfOk result (λ parts. (parts.0 ≡ listed.first_of items.now) × (parts.1.now ≡ drop 1 items.now)) }
+{
+    match items {
+        [item, rest @ ..] => Ok((item.copy()?, rest)),
+        [] => Ok((Text::new(alloc), items)),
+    }
+}
+
+fn after(items: &[Text], count: usize) -> &[Text]
+    ensures { result.now ≡ drop count items.now }
+{
+    if count < items.len() {
+        &items[count..]
+    } else {
+        &items[items.len()..]
+    }
+}
+
+fn told_rest(alloc: Global, rest: &[Text], message: Option<Text>) -> Result<Outcome, NoMemory>
+    ensures { IfOk result (λ outcome. outcome ≡ listed.told_rest rest.now message) }
+{
+    match message {
+        None => Ok(Outcome::fine(alloc, join_list(alloc, rest)?)),
+        Some(message) => Outcome::failed(message),
+    }
+}
+
+fn longer(
+    alloc: Global,
+    word: &Text,
+    values: &[Text],
+    found: Result<Text, VarFault>,
+) -> Result<ListAnswer, NoMemory>
+    ensures { IfOk result (λ made. made ≡ made_of word.now (λ value. insert_answer value (codes "end") values.now) found) }
+{
+    match found {
+        Ok(value) => insert(alloc, value.as_bytes(), b"end", values),
+        Err(fault) => unread(alloc, word, fault),
+    }
+}

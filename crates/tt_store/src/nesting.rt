@@ -1,0 +1,164 @@
+ghost use Rattle.std.specs.Prelude.{◌≡◌, ◌<◌, length, IfOk, OnOk, OnErr};
+ghost use Rattle.std.specs.Option.{option_copied};
+ghost use Rattle.tt_vars.specs.Links.{AreSame, Reads, Removes, Writes, lent, place_of};
+ghost use Rattle.tt_store.specs.Levels.{begun_in, called, global_level, left, with_frames};
+ghost use Rattle.tt_store.specs.Spots.{place_in};
+
+use crate::spot::Spot;
+use std::alloc::Global;
+use std::marker::Model;
+use tt_text::{NoMemory, Text};
+use tt_value::Value;
+use tt_vars::{VarFault, Vars, Written};
+
+/// What was begun (proc(n), uplevel(n)).
+#[derive(Clone, Copy, Debug, PartialEq, Eq)]
+pub(crate) enum Begun {
+    /// The body of a procedure, in a frame of its own.
+    Procedure,
+    /// A script in a frame that is there; `back` is the one that was current.
+    Script { back: u64 },
+}
+
+/// The frames of variables, which of them is current, who called which, and what was begun.
+#[derive(Debug, Drop)]
+pub(crate) struct Nesting {
+    vars: Vars,
+    callers: Vec<u64>,
+    current: u64,
+    begun: Vec<Begun>,
+}
+
+impl Model for Nesting {
+    ghost use Rattle.std.specs.Prelude.{reverse};
+    ghost use Rattle.tt_store.specs.Levels.{IsNested, Levels};
+
+    ghost Value = { Levels };
+
+    ghost view = { λ nesting. record { frames = nesting.vars; callers = nesting.callers.items; current = nesting.current; begun = reverse nesting.begun.items } };
+
+    ghost invariant = { λ nesting. IsNested (record { frames = nesting.vars; callers = nesting.callers.items; current = nesting.current; begun = reverse nesting.begun.items }) };
+}
+
+impl Nesting {
+    pub(crate) fn new(alloc: Global) -> Result<Self, NoMemory>
+        ensures { IfOk result (λ nesting. nesting ≡ global_level) }
+    {
+        let vars = Vars::new(alloc)?;
+        let mut callers = Vec::new(alloc);
+        callers.push(0)?;
+        Ok(Nesting {
+            vars,
+            callers,
+            current: 0,
+            begun: Vec::new(alloc),
+        })
+    }
+
+    /// A procedure is called.
+    pub(crate) fn call(&mut self) -> Result<(), NoMemory>
+        ensures called { OnOk result (self.new ≡ called self.old) }
+        ensures unchanged { OnErr result (self.new ≡ self.old) }
+    {
+        self.callers.reserve(1)?;
+        self.begun.reserve(1)?;
+        self.vars.push_frame()?;
+        self.callers.push_reserved(self.current);
+        self.begun.push_reserved(Begun::Procedure);
+        self.current = self.vars.depth();
+        Ok(())
+    }
+
+    /// A script begins in a frame that is there.
+    pub(crate) fn begin(&mut self, frame: u64) -> Result<(), NoMemory>
+        requires { frame < length self.old.frames }
+        ensures begun { OnOk result (self.new ≡ begun_in frame self.old) }
+        ensures unchanged { OnErr result (self.new ≡ self.old) }
+    {
+        self.begun.push(Begun::Script { back: self.current })?;
+        self.current = frame;
+        Ok(())
+    }
+
+    /// A script begins in the global frame.
+    pub(crate) fn begin_global(&mut self) -> Result<(), NoMemory>
+        ensures begun { OnOk result (self.new ≡ begun_in 0 self.old) }
+        ensures unchanged { OnErr result (self.new ≡ self.old) }
+    {
+        self.begun.push(Begun::Script { back: self.current })?;
+        self.current = 0;
+        Ok(())
+    }
+
+    /// A script begins in the current frame.
+    pub(crate) fn begin_here(&mut self) -> Result<(), NoMemory>
+        ensures begun { OnOk result (self.new ≡ begun_in self.old.current self.old) }
+        ensures unchanged { OnErr result (self.new ≡ self.old) }
+    {
+        self.begin(self.current)
+    }
+
+    /// What was begun last has ended.
+    pub(crate) fn leave(&mut self)
+        ensures { self.new ≡ left self.old }
+    {
+        match self.begun.pop() {
+            Some(Begun::Script { back }) => self.current = back,
+            Some(Begun::Procedure) => {
+                self.vars.pop_frame();
+                if let Some(caller) = self.callers.pop() {
+                    self.current = caller;
+                }
+            }
+            None => {}
+        }
+    }
+
+    fn frame_of(&self, spot: &Spot) -> u64
+        ensures frame { result ≡ (place_in self.now.current spot.now).frame }
+        ensures there { result < length self.now.frames }
+    {
+        if spot.global { 0 } else { self.current }
+    }
+
+    /// The value of a name.
+    pub(crate) fn read(&self, spot: &Spot) -> Result<&Value, VarFault>
+        ensures { Reads self.now.frames (place_in self.now.current spot.now) (lent result) }
+    {
+        self.vars
+            .read(self.frame_of(spot), &spot.name, spot.index.as_ref())
+    }
+
+    /// Writes a value to a name.
+    pub(crate) fn write(&mut self, spot: &Spot, value: Value) -> Result<Written, NoMemory>
+        ensures written { IfOk result (λ answer. Writes self.old.frames (place_in self.old.current spot.now) value self.new.frames answer) }
+        ensures rest { self.new ≡ with_frames self.old self.new.frames }
+        ensures unchanged { OnErr result (self.new ≡ self.old) }
+    {
+        let frame = self.frame_of(spot);
+        self.vars
+            .write(frame, &spot.name, spot.index.as_ref(), value)
+    }
+
+    /// Removes a name.
+    pub(crate) fn unset(&mut self, spot: &Spot) -> Result<(), VarFault>
+        ensures removed { Removes self.old.frames (place_in self.old.current spot.now) self.new.frames result }
+        ensures rest { self.new ≡ with_frames self.old self.new.frames }
+    {
+        let frame = self.frame_of(spot);
+        self.vars.unset(frame, &spot.name, spot.index.as_ref())
+    }
+
+    /// Whether a name and a global one stand for the same.
+    pub(crate) fn is_same(&self, spot: &Spot, name: &Text, index: Option<&Text>) -> bool
+        ensures { AreSame self.now.frames (place_in self.now.current spot.now) (place_of 0 name.now (option_copied index.entry)) result }
+    {
+        self.vars.same(
+            self.frame_of(spot),
+            &spot.name,
+            spot.index.as_ref(),
+            name,
+            index,
+        )
+    }
+}

@@ -1,0 +1,212 @@
+ghost use Rattle.std.specs.Prelude.{◌≡◌, IfOk, OnOk, OnErr};
+ghost use Rattle.std.specs.Option.{option_copied};
+ghost use Rattle.tt_store.specs.Held as held;
+
+use crate::messages::{cannot_read, cannot_set, wrong_number};
+use crate::nesting::Nesting;
+use crate::procedure::Procedure;
+use crate::spot::{Spot, spot_named, spot_of, told};
+use crate::watch::{Watch, mark};
+use indexmap::IndexMap;
+use std::alloc::Global;
+use std::marker::Model;
+use tt_calls::Outcome;
+use tt_text::{NoMemory, Text};
+use tt_value::Value;
+use tt_vars::{VarFault, Written};
+
+/// What one interpreter keeps: its variables, procedures, levels and watches. Contracts see them as one record.
+#[derive(Debug, Drop)]
+pub struct Store {
+    pub(crate) nesting: Nesting,
+    pub(crate) procedures: IndexMap<Text, Procedure>,
+    pub(crate) watches: Vec<Watch>,
+    pub(crate) alloc: Global,
+}
+
+impl Model for Store {
+    ghost use Rattle.tt_store.specs.Held.{Held};
+
+    ghost Value = { Held };
+
+    ghost view = { λ store. record { levels = store.nesting; procedures = store.procedures.entries; watches = store.watches.items } };
+}
+
+impl Store {
+    /// The global frame alone, with no variables, and no procedures.
+    ///
+    /// `NoMemory` where memory for it is refused.
+    pub fn new(alloc: Global) -> Result<Self, NoMemory>
+        ensures nothing { IfOk result (λ store. store ≡ held.nothing_held) }
+    {
+        let nesting = Nesting::new(alloc)?;
+        Ok(Store {
+            nesting,
+            procedures: IndexMap::new(alloc),
+            watches: Vec::new(alloc),
+            alloc,
+        })
+    }
+
+    /// What `$name` and `$name(index)` give (Tcl(n)): the value, or the error of reading. A name with a leading `::` is
+    /// that of the global variable of the rest.
+    ///
+    /// `NoMemory` where memory is refused.
+    pub fn read(&self, name: &[u8], index: Option<&[u8]>) -> Result<Outcome, NoMemory>
+        ensures read { IfOk result (held.IsRead self.now name.now (option_copied index.entry)) }
+    {
+        let spot = spot_named(self.alloc, name, index)?;
+        let found = self.find(&spot)?;
+        let told = told(self.alloc, name, index)?;
+        let outcome = value_of(self.alloc, &told, found)?;
+        Ok(outcome)
+    }
+
+    /// Gives a value to the same (set(n)): the value, or the error of setting; then nothing has changed.
+    ///
+    /// `NoMemory` where memory is refused.
+    pub fn write(
+        &mut self,
+        name: &[u8],
+        index: Option<&[u8]>,
+        value: Text,
+    ) -> Result<Outcome, NoMemory>
+        ensures written { IfOk result (λ outcome. held.IsWritten self.old name.now (option_copied index.entry) value outcome self.new) }
+    {
+        let spot = spot_named(self.alloc, name, index)?;
+        let told = told(self.alloc, name, index)?;
+        let text = value.copy()?;
+        let written = self.set_spot(&spot, value)?;
+        let outcome = stored(self.alloc, &told, text, written)?;
+        Ok(outcome)
+    }
+
+    /// A script at global level begins (uplevel(n), vwait(n)); `leave` ends it.
+    ///
+    /// `NoMemory` where memory is refused; then nothing has changed.
+    pub fn enter(&mut self) -> Result<(), NoMemory>
+        ensures entered { OnOk result (self.new ≡ held.entered self.old) }
+        ensures unchanged { OnErr result (self.new ≡ self.old) }
+    {
+        self.nesting.begin_global()
+    }
+
+    /// What was begun last has ended (proc(n), uplevel(n), eval(n)): a procedure's body, whose frame is gone then, a
+    /// body of eval(n) or uplevel(n), or a script at global level. The frame is current that was so before. Where
+    /// nothing was begun nothing changes.
+    pub fn leave(&mut self)
+        ensures ended { self.new ≡ held.ended self.old }
+    {
+        self.nesting.leave();
+    }
+
+    /// A wait for a global variable begins (vwait(n)); a leading `::` of its name is dropped once.
+    ///
+    /// `NoMemory` where memory is refused; then nothing has changed.
+    pub fn watch(&mut self, name: &[u8]) -> Result<(), NoMemory>
+        ensures watched { OnOk result (self.new ≡ held.watched name.now self.old) }
+        ensures unchanged { OnErr result (self.new ≡ self.old) }
+    {
+        let Spot { name, index, .. } = spot_of(self.alloc, name)?;
+        self.watches.push(Watch {
+            name,
+            index,
+            seen: false,
+        })?;
+        Ok(())
+    }
+
+    /// Whether the variable of the innermost wait was written since it began: the scalar or the element that its name
+    /// stands for after its links, by whatever name. False where there is none.
+    pub fn seen(&self) -> bool
+        ensures seen { result ≡ held.is_seen self.now }
+    {
+        match self.watches.get(self.watches.len().saturating_sub(1)) {
+            Some(watch) => watch.seen,
+            None => false,
+        }
+    }
+
+    /// The innermost wait has ended. Where there is none nothing changes.
+    pub fn unwatch(&mut self)
+        ensures unwatched { self.new ≡ held.unwatched self.old }
+    {
+        drop(self.watches.pop());
+    }
+
+    /// The value of what a spot stands for.
+    pub(crate) fn find(&self, spot: &Spot) -> Result<Result<Text, VarFault>, NoMemory>
+        ensures { IfOk result (held.Finds self.now spot.now) }
+    {
+        match self.nesting.read(spot) {
+            Ok(value) => Ok(Ok(value.text().copy()?)),
+            Err(fault) => Ok(Err(fault)),
+        }
+    }
+
+    /// Writes a text to what a spot stands for.
+    pub(crate) fn set_spot(&mut self, spot: &Spot, text: Text) -> Result<Written, NoMemory>
+        ensures { IfOk result (held.Sets self.old spot.now text self.new) }
+    {
+        let written = self.nesting.write(spot, Value::from_text(text))?;
+        if let Written::Yes = written {
+            mark(&self.nesting, spot, self.watches.as_mut_slice());
+        }
+        Ok(written)
+    }
+
+    /// What a command's word names is read.
+    pub(crate) fn read_word(&self, word: &Text) -> Result<Outcome, NoMemory>
+        ensures { IfOk result (held.Reads word.now self.now) }
+    {
+        let spot = spot_of(self.alloc, word.as_bytes())?;
+        let found = self.find(&spot)?;
+        let outcome = value_of(self.alloc, word, found)?;
+        Ok(outcome)
+    }
+
+    /// A text is given to it.
+    pub(crate) fn give(&mut self, word: &Text, text: Text) -> Result<Outcome, NoMemory>
+        ensures { IfOk result (λ outcome. held.Gives word.now text self.old outcome self.new) }
+    {
+        let spot = spot_of(self.alloc, word.as_bytes())?;
+        let value = text.copy()?;
+        let written = self.set_spot(&spot, value)?;
+        let outcome = stored(self.alloc, word, text, written)?;
+        Ok(outcome)
+    }
+
+    /// The words are too few or too many.
+    pub(crate) fn refuse(&self, usage: &[u8]) -> Result<Outcome, NoMemory>
+        ensures { IfOk result (λ outcome. held.Refuses usage.now self.now outcome self.now) }
+    {
+        let outcome = wrong_number(self.alloc, usage)?;
+        Ok(outcome)
+    }
+}
+
+fn value_of(alloc: Global, told: &Text, found: Result<Text, VarFault>) -> Result<Outcome, NoMemory>
+    ensures { IfOk result (λ outcome. outcome ≡ held.value_of told.now found) }
+{
+    match found {
+        Ok(text) => Ok(Outcome::fine(alloc, text)),
+        Err(fault) => {
+            let message = cannot_read(alloc, told.as_bytes(), fault)?;
+            let outcome = Outcome::failed(message)?;
+            Ok(outcome)
+        }
+    }
+}
+
+fn stored(alloc: Global, told: &Text, text: Text, written: Written) -> Result<Outcome, NoMemory>
+    ensures { IfOk result (λ outcome. outcome ≡ held.stored told.now text written) }
+{
+    match written {
+        Written::Yes => Ok(Outcome::fine(alloc, text)),
+        Written::No(fault) => {
+            let message = cannot_set(alloc, told.as_bytes(), fault)?;
+            let outcome = Outcome::failed(message)?;
+            Ok(outcome)
+        }
+    }
+}
