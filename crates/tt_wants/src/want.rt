@@ -18,7 +18,10 @@ pub enum Body {
 #[derive(Debug, Drop)]
 pub enum Want {
     /// The value of a variable, or of an element of an array (Tcl(n), rule 8).
-    ReadVar { name: Text, index: Option<Text> },
+    ReadVar {
+        name: Text,
+        index: Option<Text>,
+    },
     /// That a variable or an element gets this value.
     WriteVar {
         name: Text,
@@ -26,17 +29,25 @@ pub enum Want {
         value: Text,
     },
     /// That the command of these words is run, its name first.
-    RunWords { words: Texts },
+    RunWords {
+        words: Texts,
+    },
     /// That the global level becomes the current one.
     Enter,
     /// The level before a body, which has ended.
-    Leave { body: Body },
+    Leave {
+        body: Body,
+    },
     /// That a global variable is watched (vwait(n)).
-    Watch { name: Text },
+    Watch {
+        name: Text,
+    },
     /// Whether the variable that was watched last was written since.
     Seen,
     /// That the variable that was watched last is watched no more.
     Unwatch,
     /// An action on what the threads share.
-    Ask { request: Boxed<Request> },
+    Ask {
+        request: Boxed<Request>,
+    },
 }
