@@ -3,10 +3,10 @@
 use crate::row::Came;
 use std::alloc::Global;
 use tt_calls::{Code, Outcome, Reply, Request, Start};
-use tt_frames::{Body, Got, Want, begin, turn};
+use tt_frames::{Got, Want, begin, turn};
 use tt_number::whole_text;
 use tt_plans::Halt;
-use tt_store::{Answer, Body as Begun, Store};
+use tt_store::{Answer, Store};
 use tt_text::{NoMemory, Text, Texts};
 
 /// What a main script comes to that may spend so many units.
@@ -68,19 +68,8 @@ fn nothing(alloc: Global) -> Result<Got, NoMemory> {
 fn run_words(store: &mut Store, words: Texts) -> Result<Got, NoMemory> {
     match store.run(words.as_slice())? {
         Answer::Outcome(outcome) => Ok(Got::Value(outcome)),
-        Answer::Body { body, text } => Ok(Got::RunBody {
-            body: body_of(body),
-            text,
-        }),
+        Answer::Body { body, text } => Ok(Got::RunBody { body, text }),
         Answer::Other => Ok(Got::Own { words }),
-    }
-}
-
-fn body_of(body: Begun) -> Body {
-    match body {
-        Begun::Procedure { name } => Body::Procedure { name },
-        Begun::Plain => Body::Plain,
-        Begun::Level => Body::Level,
     }
 }
 

@@ -1,3 +1,5 @@
 mod Assigning
+mod Climbing
 mod Marking
+mod Setting
 mod Unsetting

@@ -1,5 +1,5 @@
 -- Variables are removed one after the other.
-use Rattle.std.proofs.Common.{◌≡◌, ℕ, suc, ◌+◌, ◌<◌, ◌≤◌, Bool, List, [], ◌∷◌, Option, Some, None, length, get_or, drop, sym, subst, ap, ◌∙◌, arith, add-one, drop-cons}
+use Rattle.std.proofs.Common.{◌≡◌, ℕ, suc, ◌+◌, ◌<◌, ◌≤◌, Bool, List, ◌∷◌, Option, Some, None, length, get_or, drop, sym, subst, ap, add-one, drop-cons}
 use Rattle.std.proofs.lemmas.List.{drop_all}
 use Rattle.tt_store.specs.Held.{Held}
 use Rattle.tt_store.specs.Scalars.{DropsOne, Unsets, none, more, fails}

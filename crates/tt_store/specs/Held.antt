@@ -1,29 +1,28 @@
--- What an interpreter keeps: variables, procedures, levels and watches; and what is done to one variable (set(n), vwait(n)).
-use Rattle.std.specs.Prelude.{◌≡◌, ◌<◌, ◌-◌, ◌++◌, ℕ, Bool, false, length, take, slice_get, slice_index_or, ◌||◌, List, [], ◌∷◌, Result, Ok, Err, Option, Some, None}
+-- What an interpreter keeps of variables: levels and watches; and what is done to one variable (set(n), vwait(n)).
+use Rattle.std.specs.Prelude.{◌≡◌, ◌<◌, ◌-◌, ◌++◌, ℕ, Bool, true, false, length, take, slice_get, slice_index_or, ◌||◌, List, [], ◌∷◌, Result, Ok, Err, Option, Some, None}
 use Rattle.tt_calls.specs.declared.outcome.Outcome.{Outcome}
 use Rattle.tt_calls.specs.Outcomes.{failed, fine}
+use Rattle.tt_vars.specs.declared.answers.Linked.{Linked}
 use Rattle.tt_vars.specs.declared.answers.VarFault.{VarFault}
+use Rattle.tt_vars.specs.declared.answers.VarFault.TheVariants.{IsArray}
 use Rattle.tt_vars.specs.declared.answers.Written.{Written}
 use Rattle.tt_vars.specs.declared.answers.Written.TheVariants.{Yes, No}
 use Rattle.tt_vars.specs.declared.variable.Place.{Place}
 use Rattle.tt_vars.specs.Links as variables
 use Rattle.tt_vars.specs.Variables.{Frame, Name}
-use Rattle.tt_store.specs.declared.procedure.Procedure.{Procedure}
 use Rattle.tt_store.specs.declared.spot.Spot.{Spot}
 use Rattle.tt_store.specs.declared.watch.Watch.{Watch}
-use Rattle.tt_store.specs.Levels.{Levels, begun_in, global_level, left, with_frames}
+use Rattle.tt_store.specs.Levels.{Levels, begun_in, called, global_level, left, with_frames}
 use Rattle.tt_store.specs.Messages.{cannot_read, cannot_set, wrong_number}
 use Rattle.tt_store.specs.Spots.{place_in, spot, spot_of, told}
 
 pub record Held : Type 0 where
   pub levels : Levels
-  -- in order of first definition
-  pub procedures : List (Name × Procedure)
   -- the innermost last
   pub watches : List Watch
 
 abbrev pub nothing_held : Held
-nothing_held = record { levels = global_level; procedures = []; watches = [] }
+nothing_held = record { levels = global_level; watches = [] }
 
 abbrev pub with_levels : Held → Levels → Held
 with_levels held levels = record held { levels = levels }
@@ -31,6 +30,10 @@ with_levels held levels = record held { levels = levels }
 -- a script at global level begins
 abbrev pub entered : Held → Held
 entered held = with_levels held (begun_in 0 held.levels)
+
+-- a script in a frame begins
+abbrev pub begun_at : (frame : ℕ) → Held → Held
+begun_at frame held = with_levels held (begun_in frame held.levels)
 
 -- what was begun last has ended
 abbrev pub ended : Held → Held
@@ -69,6 +72,54 @@ pub record Sets (old : Held) (spot : Spot) (text : List ℕ) (new : Held) (writt
   pub writes : variables.Writes old.levels.frames (place old spot) text new.levels.frames written
   pub marks : Marks written new.levels.frames (place old spot) old.watches new.watches
   pub rest : new ≡ record old { levels = with_frames old.levels new.levels.frames; watches = new.watches }
+
+-- ---- links, and what is there ----
+
+-- a local name becomes a link to what a word names in a frame (upvar(n))
+pub record LinksTo (old : Held) (local : Name) (frame : ℕ) (word : Name) (new : Held) (answer : Linked) : Type 0 where
+  pub links : variables.Links old.levels.frames old.levels.current local (place_in frame (spot_of word)) new.levels.frames answer
+  pub rest : new ≡ with_levels old (with_frames old.levels new.levels.frames)
+
+-- a scalar, an array or an element was found
+abbrev pub is_there : Result (List ℕ) VarFault → Bool
+is_there (Ok text) = true
+is_there (Err IsArray) = true
+is_there (Err fault) = false
+
+-- whether what a word names is there (info(n))
+abbrev pub IsThere : (word : Name) → Held → Bool → Type 0
+IsThere word held answer =
+    (found : Result (List ℕ) VarFault)
+    × Finds held (spot_of word) found
+    × (answer ≡ is_there found)
+
+-- the indices of the array that a name stands for, in order; None where it stands for none (array(n))
+abbrev pub HasIndices : Held → Name → Option (List Name) → Type 0
+HasIndices held name indices = variables.HasNames held.levels.frames (place held (spot name None)) indices
+
+-- how many elements it has
+abbrev pub HasSize : Held → Name → Option ℕ → Type 0
+HasSize held name size = variables.HasSize held.levels.frames (place held (spot name None)) size
+
+-- what a spot stands for is removed, or the fault is told (unset(n))
+abbrev pub Drops : (old : Held) → Spot → (new : Held) → Result Unit VarFault → Type 0
+Drops old spot new removed =
+    variables.Removes old.levels.frames (place old spot) new.levels.frames removed
+    × (new ≡ with_levels old (with_frames old.levels new.levels.frames))
+
+-- ---- a procedure's frame ----
+
+-- its variables are set, one after the other
+pub data AreSet : (values : List (Name × List ℕ)) → (old new : Held) → Type 0 where
+  none : {held : Held} → AreSet [] held held
+  more : {name text : List ℕ} {values : List (Name × List ℕ)} {old next new : Held} {written : Written} →
+      Sets old (spot name None) text next written →
+      AreSet values next new →
+      AreSet ((name, text) ∷ values) old new
+
+-- a procedure is called: its parameters have these values in a frame of its own (proc(n))
+abbrev pub Calls : (values : List (Name × List ℕ)) → (old new : Held) → Type 0
+Calls values old new = AreSet values (with_levels old (called old.levels)) new
 
 -- ---- what commands answer ----
 

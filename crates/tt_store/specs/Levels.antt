@@ -1,5 +1,5 @@
 -- Frames of variables, which of them is current, who called which, and what was begun (proc(n), upvar(n), uplevel(n)).
-use Rattle.std.specs.Prelude.{◌≡◌, ℕ, zero, suc, ◌<◌, ◌-◌, Bool, true, false, ◌&&◌, ◌==◌, nat_lt, IsTrue, List, [], ◌∷◌, ◌++◌, length, take, slice_index_or}
+use Rattle.std.specs.Prelude.{◌≡◌, ℕ, zero, suc, ◌<◌, ◌-◌, Bool, false, ◌&&◌, ◌==◌, nat_lt, IsTrue, List, [], ◌∷◌, ◌++◌, Option, Some, None, length, take, slice_index_or}
 use Rattle.tt_vars.specs.Variables.{Frame}
 use Rattle.tt_store.specs.declared.nesting.Begun.{Begun}
 use Rattle.tt_store.specs.declared.nesting.Begun.TheVariants.{Procedure, Script}
@@ -23,6 +23,16 @@ with_frames levels frames = record levels { frames = frames }
 -- the frame that was current when a frame's procedure was called
 abbrev pub caller_of : Levels → (frame : ℕ) → ℕ
 caller_of levels frame = slice_index_or levels.callers frame 0
+
+-- the frame that is so many callers up; None where there are fewer (uplevel(n))
+abbrev pub above : Levels → (count frame : ℕ) → Option ℕ
+above levels zero frame = Some frame
+above levels (suc count) zero = None
+above levels (suc count) (suc frame) = above levels count (caller_of levels (suc frame))
+
+-- the global frame is so many callers up from the current one (info(n))
+abbrev pub HasDepth : Levels → (depth : ℕ) → Type 0
+HasDepth levels depth = above levels depth levels.current ≡ Some 0
 
 -- a procedure is called: it has a frame of its own
 abbrev pub called : Levels → Levels

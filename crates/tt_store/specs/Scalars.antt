@@ -1,5 +1,5 @@
 -- Commands on one variable (set(n), unset(n), incr(n), append(n)).
-use Rattle.std.specs.Prelude.{◌≡◌, ℕ, ℤ, Bool, true, false, ◌&&◌, not, ◌==◌, nat_lt, bytes_eq, List, [], ◌∷◌, ◌++◌, length, drop, take_while, codes, Option, Some, None, Result, Ok, Err, if◌then◌else◌}
+use Rattle.std.specs.Prelude.{◌≡◌, ℕ, ℤ, Bool, false, ◌&&◌, not, ◌==◌, nat_lt, bytes_eq, List, [], ◌∷◌, ◌++◌, length, drop, take_while, codes, Option, Some, None, Result, Ok, Err, if◌then◌else◌}
 use Rattle.std.specs.Fmt.{signed_decimal}
 use Rattle.std.specs.List.{find, flat_map}
 use Rattle.std.specs.Option.{option_map}
@@ -15,10 +15,7 @@ use Rattle.tt_number.specs.Numerals.{whole_of}
 use Rattle.tt_number.specs.Operators.{binary_of}
 use Rattle.tt_vars.specs.declared.answers.VarFault.{VarFault}
 use Rattle.tt_vars.specs.declared.answers.VarFault.TheVariants.{NoSuchVariable, NoSuchElement, IsArray, NotArray}
-use Rattle.tt_vars.specs.Links.{Removes}
-use Rattle.tt_store.specs.declared.spot.Spot.{Spot}
-use Rattle.tt_store.specs.Held.{Fails, Finds, Gives, Held, Meaning, Reads, Refuses, place, with_levels}
-use Rattle.tt_store.specs.Levels.{with_frames}
+use Rattle.tt_store.specs.Held.{Drops, Fails, Finds, Gives, Held, Meaning, Reads, Refuses}
 use Rattle.tt_store.specs.Messages.{bad_option, cannot_read, cannot_unset}
 use Rattle.tt_store.specs.Spots.{spot_of}
 
@@ -92,12 +89,6 @@ append usage (name ∷ []) old outcome new = Reads name old outcome × (new ≡ 
 append usage (name ∷ value ∷ values) old outcome new = Changes name [] (appended (value ∷ values)) old outcome new
 
 -- ---- unset(n) ----
-
--- what a spot stands for is removed, or the fault is told
-abbrev pub Drops : (old : Held) → Spot → (new : Held) → Result Unit VarFault → Type 0
-Drops old spot new removed =
-    Removes old.levels.frames (place old spot) new.levels.frames removed
-    × (new ≡ with_levels old (with_frames old.levels new.levels.frames))
 
 -- a fault that -nocomplain skips
 abbrev pub is_skipped : (nocomplain : Bool) → VarFault → Bool

@@ -1,16 +1,6 @@
 use tt_calls::Outcome;
 use tt_text::Text;
-
-/// Whose body is to be evaluated.
-#[derive(Debug, Drop)]
-pub enum Body {
-    /// A procedure's (proc(n)); it has this name where it was called.
-    Procedure { name: Text },
-    /// That of eval(n).
-    Plain,
-    /// That of uplevel(n).
-    Level,
-}
+use tt_wants::Body;
 
 /// What a command comes to.
 #[derive(Debug, Drop)]

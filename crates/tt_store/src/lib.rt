@@ -1,13 +1,14 @@
-//! What one interpreter keeps (set(n), proc(n), upvar(n), uplevel(n)): its variables, procedures, levels and watches, and
-//! the commands that need nothing else.
+//! What one interpreter keeps of variables (set(n), proc(n), upvar(n), uplevel(n)): frames, levels and watches, and the
+//! commands on single variables.
 #![tactic(auto)]
 
 mod answers;
+mod arrays;
+mod calling;
 mod command;
 mod listed;
 mod messages;
 mod nesting;
-mod procedure;
 mod row;
 mod run;
 mod scalars;
@@ -15,5 +16,5 @@ mod spot;
 mod store;
 mod watch;
 
-pub use answers::{Answer, Body};
+pub use answers::Answer;
 pub use store::Store;

@@ -1,15 +1,15 @@
-ghost use Rattle.std.specs.Prelude.{◌≡◌, ◌<◌, length, IfOk, OnOk, OnErr};
+ghost use Rattle.std.specs.Prelude.{◌≡◌, ◌<◌, ◌≤◌, length, IfOk, IfSome, OnOk, OnErr, None};
 ghost use Rattle.std.specs.Option.{option_copied};
-ghost use Rattle.tt_vars.specs.Links.{AreSame, Reads, Removes, Writes, lent, place_of};
-ghost use Rattle.tt_store.specs.Levels.{begun_in, called, global_level, left, with_frames};
+ghost use Rattle.tt_vars.specs.Links.{AreSame, HasNames, HasSize, Links, Reads, Removes, Writes, lent, place_of};
+ghost use Rattle.tt_store.specs.Levels.{HasDepth, above, begun_in, called, caller_of, global_level, left, with_frames};
 ghost use Rattle.tt_store.specs.Spots.{place_in};
 
 use crate::spot::Spot;
 use std::alloc::Global;
 use std::marker::Model;
-use tt_text::{NoMemory, Text};
+use tt_text::{NoMemory, Text, Texts};
 use tt_value::Value;
-use tt_vars::{VarFault, Vars, Written};
+use tt_vars::{Linked, VarFault, Vars, Written};
 
 /// What was begun (proc(n), uplevel(n)).
 #[derive(Clone, Copy, Debug, PartialEq, Eq)]
@@ -71,7 +71,7 @@ impl Nesting {
 
     /// A script begins in a frame that is there.
     pub(crate) fn begin(&mut self, frame: u64) -> Result<(), NoMemory>
-        requires { frame < length self.old.frames }
+        requires { frame ≤ self.old.current }
         ensures begun { OnOk result (self.new ≡ begun_in frame self.old) }
         ensures unchanged { OnErr result (self.new ≡ self.old) }
     {
@@ -112,6 +112,70 @@ impl Nesting {
             }
             None => {}
         }
+    }
+
+    /// How many callers up the global frame is from the current one.
+    pub(crate) fn depth(&self) -> u64
+        ensures { HasDepth self.now result }
+    {
+        let mut frame = self.current;
+        let mut depth = 0;
+        'callers: while frame > 0 {
+            frame = self.caller(frame);
+            depth += 1;
+        }
+        depth
+    }
+
+    /// The frame that is so many callers up from the current one.
+    pub(crate) fn above(&self, count: u64) -> Option<u64>
+        ensures above { result ≡ above self.now count self.now.current }
+        ensures lower { IfSome result (λ frame. frame ≤ self.now.current) }
+    {
+        let mut frame = self.current;
+        'callers: for _ in 0..count {
+            if frame == 0 {
+                return None;
+            }
+            frame = self.caller(frame);
+        }
+        Some(frame)
+    }
+
+    fn caller(&self, frame: u64) -> u64
+        requires called { 0 < frame }
+        requires there { frame < length self.now.callers }
+        ensures caller { result ≡ caller_of self.now frame }
+        ensures lower { result < frame }
+    {
+        self.callers[frame as usize]
+    }
+
+    /// Makes a name of the current frame a link.
+    pub(crate) fn link(&mut self, local: &Text, frame: u64, spot: &Spot) -> Result<Linked, NoMemory>
+        requires lower { frame ≤ self.old.current }
+        ensures linked { IfOk result (λ answer. Links self.old.frames self.old.current local.now (place_in frame spot.now) self.new.frames answer) }
+        ensures rest { self.new ≡ with_frames self.old self.new.frames }
+        ensures unchanged { OnErr result (self.new ≡ self.old) }
+    {
+        let other = if spot.global { 0 } else { frame };
+        self.vars.link(self.current, local, other, &spot.name, spot.index.as_ref())
+    }
+
+    /// The indices of the array that a name stands for.
+    pub(crate) fn indices(&self, spot: &Spot) -> Result<Option<Texts>, NoMemory>
+        requires { spot.now.index ≡ None }
+        ensures { IfOk result (λ names. HasNames self.now.frames (place_in self.now.current spot.now) names) }
+    {
+        self.vars.names(self.frame_of(spot), &spot.name)
+    }
+
+    /// How many elements it has.
+    pub(crate) fn size(&self, spot: &Spot) -> Option<usize>
+        requires { spot.now.index ≡ None }
+        ensures { HasSize self.now.frames (place_in self.now.current spot.now) result }
+    {
+        self.vars.size(self.frame_of(spot), &spot.name)
     }
 
     fn frame_of(&self, spot: &Spot) -> u64

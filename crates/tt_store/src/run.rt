@@ -7,12 +7,13 @@ ghost use Rattle.tt_store.specs.Commands as table;
 use crate::command::{Command, command_of, row_of};
 use crate::messages::{bad_option, quoting, wrong_number};
 use crate::spot::plain_name;
-use crate::{Answer, Body, Store};
+use crate::{Answer, Store};
 use std::alloc::Global;
 use tt_calls::Outcome;
 use tt_list_commands::concat;
 use tt_pure::{is_pure, pure};
 use tt_text::{NoMemory, Text};
+use tt_wants::Body;
 
 impl Store {
     /// Runs a whole command, its name first: a command of the table, else one that

@@ -4,10 +4,8 @@ ghost use Rattle.tt_store.specs.Held as held;
 
 use crate::messages::{cannot_read, cannot_set, wrong_number};
 use crate::nesting::Nesting;
-use crate::procedure::Procedure;
 use crate::spot::{Spot, spot_named, spot_of, told};
 use crate::watch::{Watch, mark};
-use indexmap::IndexMap;
 use std::alloc::Global;
 use std::marker::Model;
 use tt_calls::Outcome;
@@ -15,11 +13,10 @@ use tt_text::{NoMemory, Text};
 use tt_value::Value;
 use tt_vars::{VarFault, Written};
 
-/// What one interpreter keeps: its variables, procedures, levels and watches. Contracts see them as one record.
+/// What one interpreter keeps of variables: the frames, levels and watches. Contracts see them as one record.
 #[derive(Debug, Drop)]
 pub struct Store {
     pub(crate) nesting: Nesting,
-    pub(crate) procedures: IndexMap<Text, Procedure>,
     pub(crate) watches: Vec<Watch>,
     pub(crate) alloc: Global,
 }
@@ -29,11 +26,11 @@ impl Model for Store {
 
     ghost Value = { Held };
 
-    ghost view = { λ store. record { levels = store.nesting; procedures = store.procedures.entries; watches = store.watches.items } };
+    ghost view = { λ store. record { levels = store.nesting; watches = store.watches.items } };
 }
 
 impl Store {
-    /// The global frame alone, with no variables, and no procedures.
+    /// The global frame alone, with no variables.
     ///
     /// `NoMemory` where memory for it is refused.
     pub fn new(alloc: Global) -> Result<Self, NoMemory>
@@ -42,7 +39,6 @@ impl Store {
         let nesting = Nesting::new(alloc)?;
         Ok(Store {
             nesting,
-            procedures: IndexMap::new(alloc),
             watches: Vec::new(alloc),
             alloc,
         })
