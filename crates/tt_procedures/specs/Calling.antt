@@ -1,5 +1,5 @@
 -- The call of a procedure: the values of its parameters, and how its usage is told (proc(n)).
-use Rattle.std.specs.Prelude.{ℕ, Bool, true, false, bytes_eq, List, [], ◌∷◌, ◌++◌, codes, drop, Option, Some, None, if◌then◌else◌}
+use Rattle.std.specs.Prelude.{ℕ, Bool, true, false, bytes_eq, List, [], ◌∷◌, ◌++◌, codes, drop, Option, Some, None}
 use Rattle.std.specs.Option.{option_map}
 use Rattle.tt_calls.specs.Outcomes.{failed}
 use Rattle.tt_lists.specs.Spelling.{list_of}
@@ -66,5 +66,5 @@ abbrev pub called_with : Option (List Argument) → (word : List ℕ) → Proced
 called_with (Some arguments) word procedure = Body arguments procedure.body
 called_with None word procedure = Wrong (failed (wrong_number (usage word procedure.parameters)))
 
-abbrev pub called : (word : List ℕ) → (words : List (List ℕ)) → Procedure → Called
-called word words procedure = called_with (arguments_of procedure.parameters words) word procedure
+abbrev pub call_of : (word : List ℕ) → (words : List (List ℕ)) → Procedure → Called
+call_of word words procedure = called_with (arguments_of procedure.parameters words) word procedure

@@ -1,5 +1,5 @@
 -- Procedures by name: how they are defined and called, and which there are (proc(n), info(n)).
-use Rattle.std.specs.Prelude.{◌≡◌, ℕ, Bool, bytes_eq, List, [], ◌∷◌, codes, Option, Some, None, Result, Ok, Err, unwrap_or}
+use Rattle.std.specs.Prelude.{◌≡◌, ℕ, Bool, bytes_eq, List, [], ◌∷◌, codes, Option, None, Result, Ok, Err, unwrap_or}
 use Rattle.std.specs.List.{filter}
 use Rattle.std.specs.Map.{keys_of, lookup}
 use Rattle.std.specs.Option.{option_map}
@@ -13,7 +13,7 @@ use Rattle.tt_script.specs.Names.{global_of}
 use Rattle.tt_procedures.specs.declared.calling.Called.{Called}
 use Rattle.tt_procedures.specs.declared.procedure.Parameter.{Parameter}
 use Rattle.tt_procedures.specs.declared.procedure.Procedure.{Procedure}
-use Rattle.tt_procedures.specs.Calling.{called}
+use Rattle.tt_procedures.specs.Calling.{call_of}
 use Rattle.tt_procedures.specs.Messages.{wrong_number}
 use Rattle.tt_procedures.specs.Parameters.{parameters_of}
 
@@ -37,7 +37,14 @@ with_procedure table name procedure = insert_entry bytes_eq table name procedure
 abbrev pub Fails : (message : List ℕ) → (old : Table) → Outcome → (new : Table) → Type 0
 Fails message old outcome new = (outcome ≡ failed message) × (new ≡ old)
 
-abbrev pub DefinesBy : Result (List Parameter) (List ℕ) → (word body : List ℕ) → (old : Table) → Outcome → (new : Table) → Type 0
+-- a procedure is defined, where its parameters could be read
+abbrev pub DefinesBy :
+    Result (List Parameter) (List ℕ) →
+    (word body : List ℕ) →
+    (old : Table) →
+    Outcome →
+    (new : Table) →
+    Type 0
 DefinesBy (Ok parameters) word body old outcome new =
     (outcome ≡ fine [])
     × (new ≡ with_procedure old (plain_name word) (record { parameters = parameters; body = body }))
@@ -52,7 +59,7 @@ Defines words old outcome new = Fails (wrong_number (codes "proc name args body"
 -- a command, its name first, as the call of a procedure
 abbrev pub call : Table → (words : List (List ℕ)) → Option Called
 call table [] = None
-call table (word ∷ words) = option_map (called word words) (named_by word table)
+call table (word ∷ words) = option_map (call_of word words) (named_by word table)
 
 -- a name is like the pattern
 abbrev pub is_like : (pattern name : List ℕ) → Bool

@@ -79,13 +79,13 @@ pub enum Called {
 }
 
 /// What the call of a procedure by this word with these words after it comes to.
-pub(crate) fn called(
+pub(crate) fn call_of(
     alloc: Global,
     word: &Text,
     words: &[Text],
     procedure: &Procedure,
 ) -> Result<Called, NoMemory>
-    ensures { IfOk result (λ called. called ≡ calling.called word.now words.now procedure.now) }
+    ensures { IfOk result (λ called. called ≡ calling.call_of word.now words.now procedure.now) }
 {
     match arguments_of(alloc, procedure.parameters.as_slice(), words)? {
         Some(arguments) => {

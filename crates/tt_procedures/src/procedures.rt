@@ -2,10 +2,12 @@ ghost use Rattle.std.specs.Prelude.{◌≡◌, [], IfOk, OnErr};
 ghost use Rattle.std.specs.List.{filter};
 ghost use Rattle.std.specs.Map.{keys_of};
 ghost use Rattle.std.specs.Option.{option_copied};
+ghost use Rattle.tt_calls.specs.Outcomes.{fine};
 ghost use Rattle.tt_lists.specs.Spelling.{list_of};
+ghost use Rattle.tt_procedures.specs.Parameters.{parameters_of};
 ghost use Rattle.tt_procedures.specs.Procedures as procedures;
 
-use crate::calling::{Called, called};
+use crate::calling::{Called, call_of};
 use crate::messages::wrong_number;
 use crate::procedure::{Parameters, Procedure};
 use crate::reading::parameters_of;
@@ -55,7 +57,10 @@ impl Procedures {
     {
         match words {
             [word, parameters, body] => self.define_by(word, parameters, body),
-            _ => wrong_number(*self.map.allocator(), b"proc name args body"),
+            _ => {
+                let outcome = wrong_number(*self.map.allocator(), b"proc name args body")?;
+                Ok(outcome)
+            }
         }
     }
 
@@ -65,7 +70,7 @@ impl Procedures {
         parameters: &Text,
         body: &Text,
     ) -> Result<Outcome, NoMemory>
-        ensures defines { IfOk result (λ outcome. procedures.DefinesBy (procedures.parameters_of parameters.now) word.now body.now self.old outcome self.new) }
+        ensures defines { IfOk result (λ outcome. procedures.DefinesBy (parameters_of parameters.now) word.now body.now self.old outcome self.new) }
         ensures unchanged { OnErr result (self.new ≡ self.old) }
     {
         let alloc = *self.map.allocator();
@@ -98,7 +103,7 @@ impl Procedures {
         };
         match self.named_by(word)? {
             Some(procedure) => {
-                let called = called(*self.map.allocator(), word, words, procedure)?;
+                let called = call_of(*self.map.allocator(), word, words, procedure)?;
                 Ok(Some(called))
             }
             None => Ok(None),
@@ -119,25 +124,37 @@ impl Procedures {
     pub fn names(&self, words: &[Text]) -> Result<Outcome, NoMemory>
         ensures names { IfOk result (λ outcome. outcome ≡ procedures.names self.now words.now) }
     {
-        let alloc = *self.map.allocator();
         match words {
-            [] => {
-                let names = self.all_names(alloc)?;
-                listed(alloc, names.as_slice())
+            [] => self.list_all(),
+            [pattern] => self.list_like(pattern.as_bytes()),
+            [_, _, ..] => {
+                let outcome = wrong_number(*self.map.allocator(), b"info procs ?pattern?")?;
+                Ok(outcome)
             }
-            [pattern] => {
-                let names = self.all_names(alloc)?;
-                let like = names_like(alloc, pattern.as_bytes(), names.as_slice())?;
-                listed(alloc, like.as_slice())
-            }
-            _ => wrong_number(alloc, b"info procs ?pattern?"),
         }
     }
 
-    fn all_names(&self, alloc: Global) -> Result<Texts, NoMemory>
+    fn list_all(&self) -> Result<Outcome, NoMemory>
+        ensures { IfOk result (λ outcome. outcome ≡ fine (list_of (keys_of self.now))) }
+    {
+        let names = self.all_names()?;
+        let outcome = listed(*self.map.allocator(), names.as_slice())?;
+        Ok(outcome)
+    }
+
+    fn list_like(&self, pattern: &[u8]) -> Result<Outcome, NoMemory>
+        ensures { IfOk result (λ outcome. outcome ≡ fine (list_of (filter (procedures.is_like pattern.now) (keys_of self.now)))) }
+    {
+        let names = self.all_names()?;
+        let like = names_like(*self.map.allocator(), pattern, names.as_slice())?;
+        let outcome = listed(*self.map.allocator(), like.as_slice())?;
+        Ok(outcome)
+    }
+
+    fn all_names(&self) -> Result<Texts, NoMemory>
         ensures { IfOk result (λ names. names ≡ keys_of self.now) }
     {
-        let mut names = Texts::new(alloc);
+        let mut names = Texts::new(*self.map.allocator());
         for name in self.map.keys() {
             names.push(name.copy()?)?;
         }
@@ -168,7 +185,7 @@ fn names_like(alloc: Global, pattern: &[u8], names: &[Text]) -> Result<Texts, No
 }
 
 fn listed(alloc: Global, names: &[Text]) -> Result<Outcome, NoMemory>
-    ensures { IfOk result (λ outcome. outcome ≡ procedures.fine (list_of names.now)) }
+    ensures { IfOk result (λ outcome. outcome ≡ fine (list_of names.now)) }
 {
     let list = join_list(alloc, names)?;
     Ok(Outcome::fine(alloc, list))
