@@ -1,0 +1,4 @@
+pub mod Calling
+pub mod Messages
+pub mod Parameters
+pub mod Procedures

@@ -1,0 +1,192 @@
+ghost use Rattle.std.specs.Prelude.{◌≡◌, [], IfOk, OnErr};
+ghost use Rattle.std.specs.List.{filter};
+ghost use Rattle.std.specs.Map.{keys_of};
+ghost use Rattle.std.specs.Option.{option_copied};
+ghost use Rattle.tt_calls.specs.Outcomes.{fine};
+ghost use Rattle.tt_lists.specs.Spelling.{list_of};
+ghost use Rattle.tt_procedures.specs.Parameters.{parameters_of};
+ghost use Rattle.tt_procedures.specs.Procedures as procedures;
+
+use crate::calling::{Called, call_of};
+use crate::messages::wrong_number;
+use crate::procedure::{Parameters, Procedure};
+use crate::reading::parameters_of;
+use indexmap::IndexMap;
+use std::alloc::Global;
+use std::marker::Model;
+use tt_calls::Outcome;
+use tt_lists::join_list;
+use tt_script::global_name;
+use tt_text::{NoMemory, Text, Texts, glob};
+
+/// Procedures by name, in the order of their first definition. Contracts see the list of pairs of a name and a procedure.
+#[derive(Debug, Drop)]
+pub struct Procedures {
+    map: IndexMap<Text, Procedure>,
+}
+
+impl Model for Procedures {
+    ghost use Rattle.tt_procedures.specs.Procedures.{Table};
+
+    ghost Value = { Table };
+
+    ghost view = { λ procedures. procedures.map.entries };
+}
+
+impl Procedures {
+    /// No procedures. It takes no memory.
+    pub fn new(alloc: Global) -> Self
+        ensures empty { result ≡ [] }
+    {
+        Procedures {
+            map: IndexMap::new(alloc),
+        }
+    }
+
+    /// `proc name args body` of proc(n), by the words after `proc`: a procedure is defined, anew where its name is taken,
+    /// and the result is empty. One leading `::` of the name is dropped.
+    ///
+    /// The outcome is an error, and no procedure has changed, where there are not three words, where the parameters are
+    /// no list, and where one of them is no list of a name or of a name and a default. Its name must not be empty, be
+    /// an element's or begin with `::`.
+    ///
+    /// `NoMemory` where memory is refused; then no procedure has changed.
+    pub fn define(&mut self, words: &[Text]) -> Result<Outcome, NoMemory>
+        ensures defines { IfOk result (λ outcome. procedures.Defines words.now self.old outcome self.new) }
+        ensures unchanged { OnErr result (self.new ≡ self.old) }
+    {
+        match words {
+            [word, parameters, body] => self.define_by(word, parameters, body),
+            _ => {
+                let outcome = wrong_number(*self.map.allocator(), b"proc name args body")?;
+                Ok(outcome)
+            }
+        }
+    }
+
+    fn define_by(
+        &mut self,
+        word: &Text,
+        parameters: &Text,
+        body: &Text,
+    ) -> Result<Outcome, NoMemory>
+        ensures defines { IfOk result (λ outcome. procedures.DefinesBy (parameters_of parameters.now) word.now body.now self.old outcome self.new) }
+        ensures unchanged { OnErr result (self.new ≡ self.old) }
+    {
+        let alloc = *self.map.allocator();
+        match parameters_of(alloc, parameters.as_bytes())? {
+            Ok(parameters) => self.put(word, parameters, body),
+            Err(message) => Outcome::failed(message),
+        }
+    }
+
+    fn put(&mut self, word: &Text, parameters: Parameters, body: &Text) -> Result<Outcome, NoMemory>
+        ensures defines { IfOk result (λ outcome. procedures.DefinesBy (Ok parameters) word.now body.now self.old outcome self.new) }
+        ensures unchanged { OnErr result (self.new ≡ self.old) }
+    {
+        let alloc = *self.map.allocator();
+        let name = plain_name(alloc, word)?;
+        let body = body.copy()?;
+        self.map.insert(name, Procedure { parameters, body })?;
+        Ok(Outcome::fine(alloc, Text::new(alloc)))
+    }
+
+    /// What a command, its name first, comes to as the call of a procedure (proc(n)). None where no procedure has that
+    /// name, without one leading `::`, and where there are no words.
+    ///
+    /// `NoMemory` where memory is refused.
+    pub fn call(&self, words: &[Text]) -> Result<Option<Called>, NoMemory>
+        ensures called { IfOk result (λ called. called ≡ procedures.call self.now words.now) }
+    {
+        let [word, words @ ..] = words else {
+            return Ok(None);
+        };
+        match self.named_by(word)? {
+            Some(procedure) => {
+                let called = call_of(*self.map.allocator(), word, words, procedure)?;
+                Ok(Some(called))
+            }
+            None => Ok(None),
+        }
+    }
+
+    fn named_by(&self, word: &Text) -> Result<Option<&Procedure>, NoMemory>
+        ensures { IfOk result (λ found. option_copied found ≡ procedures.named_by word.now self.now) }
+    {
+        let name = plain_name(*self.map.allocator(), word)?;
+        Ok(self.map.get(&name))
+    }
+
+    /// `info procs ?pattern?` of info(n), by the words after `procs`: the list of the names, in the order of their first
+    /// definition, or of those that the pattern matches as string(n), `string match`, says.
+    ///
+    /// The outcome is an error where there are more words. `NoMemory` where memory is refused.
+    pub fn names(&self, words: &[Text]) -> Result<Outcome, NoMemory>
+        ensures names { IfOk result (λ outcome. outcome ≡ procedures.names self.now words.now) }
+    {
+        match words {
+            [] => self.list_all(),
+            [pattern] => self.list_like(pattern.as_bytes()),
+            [_, _, ..] => {
+                let outcome = wrong_number(*self.map.allocator(), b"info procs ?pattern?")?;
+                Ok(outcome)
+            }
+        }
+    }
+
+    fn list_all(&self) -> Result<Outcome, NoMemory>
+        ensures { IfOk result (λ outcome. outcome ≡ fine (list_of (keys_of self.now))) }
+    {
+        let names = self.all_names()?;
+        let outcome = listed(*self.map.allocator(), names.as_slice())?;
+        Ok(outcome)
+    }
+
+    fn list_like(&self, pattern: &[u8]) -> Result<Outcome, NoMemory>
+        ensures { IfOk result (λ outcome. outcome ≡ fine (list_of (filter (procedures.is_like pattern.now) (keys_of self.now)))) }
+    {
+        let names = self.all_names()?;
+        let like = names_like(*self.map.allocator(), pattern, names.as_slice())?;
+        let outcome = listed(*self.map.allocator(), like.as_slice())?;
+        Ok(outcome)
+    }
+
+    fn all_names(&self) -> Result<Texts, NoMemory>
+        ensures { IfOk result (λ names. names ≡ keys_of self.now) }
+    {
+        let mut names = Texts::new(*self.map.allocator());
+        for name in self.map.keys() {
+            names.push(name.copy()?)?;
+        }
+        Ok(names)
+    }
+}
+
+/// The name that a word names a procedure by: without one leading `::`.
+fn plain_name(alloc: Global, word: &Text) -> Result<Text, NoMemory>
+    ensures { IfOk result (λ name. name ≡ procedures.plain_name word.now) }
+{
+    match global_name(word.as_bytes()) {
+        Some(rest) => Text::from_bytes(alloc, rest),
+        None => word.copy(),
+    }
+}
+
+fn names_like(alloc: Global, pattern: &[u8], names: &[Text]) -> Result<Texts, NoMemory>
+    ensures { IfOk result (λ like. like ≡ filter (procedures.is_like pattern.now) names.now) }
+{
+    let mut like = Texts::new(alloc);
+    for name in names {
+        if glob(pattern, name.as_bytes()) {
+            like.push(name.copy()?)?;
+        }
+    }
+    Ok(like)
+}
+
+fn listed(alloc: Global, names: &[Text]) -> Result<Outcome, NoMemory>
+    ensures { IfOk result (λ outcome. outcome ≡ fine (list_of names.now)) }
+{
+    let list = join_list(alloc, names)?;
+    Ok(Outcome::fine(alloc, list))
+}
