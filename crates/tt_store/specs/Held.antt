@@ -2,6 +2,7 @@
 use Rattle.std.specs.Prelude.{◌≡◌, ◌<◌, ◌-◌, ◌++◌, ℕ, Bool, true, false, length, take, slice_get, slice_index_or, ◌||◌, List, [], ◌∷◌, Result, Ok, Err, Option, Some, None}
 use Rattle.tt_calls.specs.declared.outcome.Outcome.{Outcome}
 use Rattle.tt_calls.specs.Outcomes.{failed, fine}
+use Rattle.tt_procedures.specs.declared.calling.Argument.{Argument}
 use Rattle.tt_vars.specs.declared.answers.Linked.{Linked}
 use Rattle.tt_vars.specs.declared.answers.VarFault.{VarFault}
 use Rattle.tt_vars.specs.declared.answers.VarFault.TheVariants.{IsArray}
@@ -110,16 +111,16 @@ Drops old spot new removed =
 -- ---- a procedure's frame ----
 
 -- its variables are set, one after the other
-pub data AreSet : (values : List (Name × List ℕ)) → (old new : Held) → Type 0 where
+pub data AreSet : List Argument → (old new : Held) → Type 0 where
   none : {held : Held} → AreSet [] held held
-  more : {name text : List ℕ} {values : List (Name × List ℕ)} {old next new : Held} {written : Written} →
-      Sets old (spot name None) text next written →
-      AreSet values next new →
-      AreSet ((name, text) ∷ values) old new
+  more : {argument : Argument} {arguments : List Argument} {old next new : Held} {written : Written} →
+      Sets old (spot argument.name None) argument.value next written →
+      AreSet arguments next new →
+      AreSet (argument ∷ arguments) old new
 
 -- a procedure is called: its parameters have these values in a frame of its own (proc(n))
-abbrev pub Calls : (values : List (Name × List ℕ)) → (old new : Held) → Type 0
-Calls values old new = AreSet values (with_levels old (called old.levels)) new
+abbrev pub Calls : List Argument → (old new : Held) → Type 0
+Calls arguments old new = AreSet arguments (with_levels old (called old.levels)) new
 
 -- ---- what commands answer ----
 

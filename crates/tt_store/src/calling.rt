@@ -6,34 +6,36 @@ ghost use Rattle.tt_store.specs.Spots.{spot};
 
 use crate::Store;
 use crate::spot::{spot_named, spot_of};
+use tt_procedures::Argument;
 use tt_text::{NoMemory, Text};
 use tt_vars::{Linked, VarFault, Written};
 
 impl Store {
-    /// A procedure is called (proc(n)): it gets a frame of its own, in which each name has its value; `leave` ends it.
+    /// A procedure is called (proc(n)): it gets a frame of its own, in which each parameter has its value; `leave`
+    /// ends it.
     ///
     /// `NoMemory` where memory is refused.
-    pub fn call(&mut self, values: &[(Text, Text)]) -> Result<(), NoMemory>
-        ensures called { OnOk result (held.Calls values.now self.old self.new) }
+    pub fn call(&mut self, arguments: &[Argument]) -> Result<(), NoMemory>
+        ensures called { OnOk result (held.Calls arguments.now self.old self.new) }
     {
         self.nesting.call()?;
-        self.set_all(values)
+        self.set_all(arguments)
     }
 
-    fn set_all(&mut self, values: &[(Text, Text)]) -> Result<(), NoMemory>
-        ensures { OnOk result (held.AreSet values.now self.old self.new) }
+    fn set_all(&mut self, arguments: &[Argument]) -> Result<(), NoMemory>
+        ensures { OnOk result (held.AreSet arguments.now self.old self.new) }
     {
-        'values: for (name, text) in values {
-            self.set_one(name, text)?;
+        for argument in arguments {
+            self.set_one(argument)?;
         }
         Ok(())
     }
 
-    fn set_one(&mut self, name: &Text, text: &Text) -> Result<Written, NoMemory>
-        ensures { IfOk result (held.Sets self.old (spot name.now None) text.now self.new) }
+    fn set_one(&mut self, argument: &Argument) -> Result<Written, NoMemory>
+        ensures { IfOk result (held.Sets self.old (spot argument.now.name None) argument.now.value self.new) }
     {
-        let spot = spot_named(self.alloc, name.as_bytes(), None)?;
-        let written = self.set_spot(&spot, text.copy()?)?;
+        let spot = spot_named(self.alloc, argument.name.as_bytes(), None)?;
+        let written = self.set_spot(&spot, argument.value.copy()?)?;
         Ok(written)
     }
 

@@ -2,5 +2,5 @@ use Rattle.std.proofs.Common.{drop}
 use Rattle.tt_store.proofs.Setting.{GoesOn}
 use Rattle.tt_store.proofs.store.Store.set_all.Given as goal
 
-abbrev pub invariant-values : goal.invariant-values
-invariant-values l = GoesOn (drop l.name-index l.values) l.self l.values l.fn.self
+abbrev pub invariant-loop-argument : goal.invariant-loop-argument
+invariant-loop-argument l = GoesOn (drop l.argument-index l.arguments) l.self l.arguments l.fn.self
