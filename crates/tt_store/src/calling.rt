@@ -19,11 +19,14 @@ impl Store {
         ensures called { OnOk result (held.Calls arguments.now self.old self.new) }
     {
         self.nesting.call()?;
-        self.set_all(arguments)
+        self.set_variables(arguments)
     }
 
-    fn set_all(&mut self, arguments: &[Argument]) -> Result<(), NoMemory>
-        ensures { OnOk result (held.AreSet arguments.now self.old self.new) }
+    /// Variables of the current frame are set, one after the other. One that can't be set is left as it was.
+    ///
+    /// `NoMemory` where memory is refused.
+    pub fn set_variables(&mut self, arguments: &[Argument]) -> Result<(), NoMemory>
+        ensures set { OnOk result (held.AreSet arguments.now self.old self.new) }
     {
         for argument in arguments {
             self.set_one(argument)?;

@@ -1,6 +1,6 @@
 use Rattle.std.proofs.Common.{arith, rules}
 use Rattle.tt_store.proofs.Setting.{all_done, one_more}
-use Rattle.tt_store.proofs.store.Store.set_all.Goals as goal
+use Rattle.tt_store.proofs.store.Store.set_variables.Goals as goal
 
 pub loop-argument-preserved : goal.loop-argument-preserved
 loop-argument-preserved c =
@@ -8,6 +8,7 @@ loop-argument-preserved c =
     (omega arith) c.argument-item.is c.loop-argument.invariant (search rules)
 
 pub returns : goal.returns
-returns c =
-    all_done c.args.arguments.now c.loop-argument.argument-index c.args.self.now c.loop-argument.self
+returns c = record {
+  set = all_done c.args.arguments.now c.loop-argument.argument-index c.args.self.now c.loop-argument.self
     (omega arith) c.loop-argument.invariant
+}

@@ -1,0 +1,117 @@
+-- What an interpreter stands for: what its thread asks after further replies (thread(n)).
+use Rattle.std.specs.Prelude.{ℕ, ◌≡◌, Bool, true, false, IsTrue, ⊤, List, [], ◌∷◌, Option, Some, None}
+use Rattle.tt_calls.specs.declared.reply.Reply.{Reply}
+use Rattle.tt_calls.specs.declared.request.Request.{Request}
+use Rattle.tt_calls.specs.declared.request.Request.TheVariants as ask
+use Rattle.tt_calls.specs.declared.start.Start.{Start}
+use Rattle.tt_endings.specs.declared.ending.Ending.{Ending}
+use Rattle.tt_frames.specs.Frames.{after, on_got}
+use Rattle.tt_frames.specs.Tcl.{plan}
+use Rattle.tt_frames.specs.Units.{fresh}
+use Rattle.tt_frames.specs.declared.job.Asking.{Asking}
+use Rattle.tt_frames.specs.declared.job.Frame.{Frame}
+use Rattle.tt_frames.specs.declared.job.Job.TheVariants as job
+use Rattle.tt_frames.specs.declared.state.Counts.{Counts}
+use Rattle.tt_plans.specs.Evaluation.{eval}
+use Rattle.tt_plans.specs.Frames as frames
+use Rattle.tt_plans.specs.Frames.{from_halt, is_waiting}
+use Rattle.tt_plans.specs.declared.stack.Halt.{Halt}
+use Rattle.tt_plans.specs.declared.stack.Halt.TheVariants.{Wants, Ended}
+use Rattle.tt_plans.specs.declared.stack.Stack.{Stack}
+use Rattle.tt_plans.specs.declared.stack.TheConstants.{STEPS}
+use Rattle.tt_wants.specs.declared.want.Want.{Want}
+use Rattle.tt_wants.specs.declared.want.Want.TheVariants.{Ask}
+use Rattle.tt_interp.specs.Asking.{AsksNext, Coming, end_of, goes_on}
+use Rattle.tt_interp.specs.Beginning.{IsNext}
+use Rattle.tt_interp.specs.declared.interp.Standing.{Standing}
+use Rattle.tt_interp.specs.declared.interp.Standing.TheVariants as standing
+use Rattle.tt_interp.specs.declared.kept.Kept.{Kept}
+use Rattle.tt_interp.specs.declared.setup.Setup.{Setup}
+
+-- an interpreter: what it keeps, and where its evaluation stands
+pub record Interpreter : Type 0 where
+  pub kept : Kept
+  pub standing : Standing
+
+-- what a stack comes to from where it halted
+abbrev pub halted : Halt Want Ending → Stack Counts Frame Asking → Coming
+halted halt stack gots = from_halt plan after on_got halt stack gots
+
+-- what an evaluation comes to from where it stands
+abbrev pub coming : Standing → Coming
+coming (standing.Fresh start me limit) gots = eval plan (job.Start start) (fresh me limit) STEPS gots
+coming (standing.Asks stack request) gots = halted (Wants (Ask request)) stack gots
+coming (standing.Over stack ending) gots = halted (Ended ending) stack gots
+
+-- what is asked from one place on, is asked from the other one on
+abbrev pub LeadsTo : Coming → Kept → Coming → Kept → Type 0
+LeadsTo later kept before held =
+    (replies : List Reply) (request : Request) (serving : List ℕ) →
+    AsksNext later kept replies request serving →
+    AsksNext before held replies request serving
+
+-- an interpreter asks this after further replies, while it serves these posts
+abbrev pub Asks : Interpreter → List Reply → Request → (serving : List ℕ) → Type 0
+Asks interpreter replies request serving =
+    AsksNext (coming interpreter.standing) interpreter.kept replies request serving
+
+-- it stands for a thread that has got no reply
+abbrev pub StandsFor : Interpreter → Setup → (me : ℕ) → Start → Type 0
+StandsFor interpreter setup me start =
+    (replies : List Reply) (request : Request) (serving : List ℕ) →
+    Asks interpreter replies request serving →
+    IsNext setup me start replies request serving
+
+-- nothing is evaluated
+abbrev pub is_fresh : Standing → Bool
+is_fresh (standing.Fresh start me limit) = true
+is_fresh other = false
+
+-- it stands at a request, with what waits for the reply, or at its end
+abbrev pub is_halted : Standing → Bool
+is_halted (standing.Fresh start me limit) = false
+is_halted (standing.Asks stack request) = is_waiting stack
+is_halted (standing.Over stack ending) = true
+
+-- what is given when it is resumed: nothing at first, and then the reply to a request, where one can come
+abbrev pub fits : Standing → Option Reply → Bool
+fits (standing.Fresh start me limit) None = true
+fits (standing.Asks stack request) (Some reply) = goes_on request
+fits standing reply = false
+
+-- the replies with the one that is given
+abbrev pub with_given : Option Reply → List Reply → List Reply
+with_given None replies = replies
+with_given (Some reply) replies = reply ∷ replies
+
+-- what is asked from one place on, is asked from the other one on after what is given
+abbrev pub GoesOnFrom : Coming → Kept → Coming → Kept → Option Reply → Type 0
+GoesOnFrom later kept before held given =
+    (replies : List Reply) (request : Request) (serving : List ℕ) →
+    AsksNext later kept replies request serving →
+    AsksNext before held (with_given given replies) request serving
+
+-- an interpreter stands where the other one stands after what is given
+abbrev pub GoesOn : (new old : Interpreter) → Option Reply → Type 0
+GoesOn new old given = GoesOnFrom (coming new.standing) new.kept (coming old.standing) old.kept given
+
+-- the posts that are being served
+abbrev pub serving_of : Standing → List ℕ
+serving_of (standing.Asks stack request) = frames.serving stack
+serving_of other = []
+
+-- ---- inside ----
+
+-- it waits where it asks
+abbrev pub Waits : Standing → Type 0
+Waits (standing.Asks stack request) = IsTrue (is_waiting stack)
+Waits other = ⊤
+
+-- the last request is that of its ending
+abbrev pub IsLast : Standing → Request → Type 0
+IsLast (standing.Over stack ending) last = last ≡ end_of ending
+IsLast other last = ⊤
+
+pub record IsStanding (standing : Standing) (last : Request) : Type 0 where
+  pub waits : Waits standing
+  pub last : IsLast standing last

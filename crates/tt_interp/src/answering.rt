@@ -1,0 +1,110 @@
+//! What an evaluation gets for what it wants (Tcl(n), vwait(n)).
+ghost use Rattle.std.specs.Prelude.{◌≡◌, IfOk};
+ghost use Rattle.std.specs.Option.{option_copied};
+ghost use Rattle.tt_interp.specs.Answering as answering;
+ghost use Rattle.tt_interp.specs.Commands as commands;
+ghost use Rattle.tt_store.specs.Held.{ended};
+ghost use Rattle.tt_wants.specs.declared.want.Want.TheVariants as wants;
+
+use crate::Kept;
+use std::alloc::Global;
+use tt_calls::Outcome;
+use tt_store::Answer;
+use tt_text::{NoMemory, Text, Texts};
+use tt_wants::{Got, Want};
+
+impl Kept {
+    /// What is got for this; to a request there is no answer here.
+    pub(crate) fn answer(&mut self, alloc: Global, want: Want) -> Result<Got, NoMemory>
+        ensures { IfOk result (λ got. answering.Answers want self.old got self.new) }
+    {
+        match want {
+            Want::ReadVar { name, index } => self.read(&name, index.as_ref()),
+            Want::WriteVar { name, index, value } => self.write(&name, index.as_ref(), value),
+            Want::RunWords { words } => self.run_words(alloc, words),
+            Want::Enter => self.enter(alloc),
+            Want::Leave { .. } => self.leave(alloc),
+            Want::Watch { name } => self.watch(alloc, &name),
+            Want::Seen => self.seen(alloc),
+            Want::Unwatch => self.unwatch(alloc),
+            Want::Ask { .. } => Err(NoMemory),
+        }
+    }
+
+    fn read(&self, name: &Text, index: Option<&Text>) -> Result<Got, NoMemory>
+        ensures { IfOk result (λ got. answering.Answers (wants.ReadVar name.now (option_copied index.entry)) self.now got self.now) }
+    {
+        let index = index.map(|index| index.as_bytes());
+        let outcome = self.store.read(name.as_bytes(), index)?;
+        Ok(Got::Value(outcome))
+    }
+
+    fn write(&mut self, name: &Text, index: Option<&Text>, value: Text) -> Result<Got, NoMemory>
+        ensures { IfOk result (λ got. answering.Answers (wants.WriteVar name.now (option_copied index.entry) value) self.old got self.new) }
+    {
+        let index = index.map(|index| index.as_bytes());
+        let outcome = self.store.write(name.as_bytes(), index, value)?;
+        Ok(Got::Value(outcome))
+    }
+
+    fn run_words(&mut self, alloc: Global, words: Texts) -> Result<Got, NoMemory>
+        ensures { IfOk result (λ got. answering.Answers (wants.RunWords words) self.old got self.new) }
+    {
+        match self.run(alloc, words.as_slice())? {
+            Answer::Outcome(outcome) => Ok(Got::Value(outcome)),
+            Answer::Body { body, text } => Ok(Got::RunBody { body, text }),
+            Answer::Other => Ok(Got::Own { words }),
+        }
+    }
+
+    fn enter(&mut self, alloc: Global) -> Result<Got, NoMemory>
+        ensures { IfOk result (λ got. answering.Answers wants.Enter self.old got self.new) }
+    {
+        self.store.enter()?;
+        Ok(nothing(alloc))
+    }
+
+    fn leave(&mut self, alloc: Global) -> Result<Got, NoMemory>
+        ensures { IfOk result (λ got. (got ≡ answering.nothing) × (self.new ≡ commands.with_store self.old (ended self.old.store))) }
+    {
+        self.store.leave();
+        Ok(nothing(alloc))
+    }
+
+    fn watch(&mut self, alloc: Global, name: &Text) -> Result<Got, NoMemory>
+        ensures { IfOk result (λ got. answering.Answers (wants.Watch name.now) self.old got self.new) }
+    {
+        self.store.watch(name.as_bytes())?;
+        Ok(nothing(alloc))
+    }
+
+    fn seen(&self, alloc: Global) -> Result<Got, NoMemory>
+        ensures { IfOk result (λ got. answering.Answers wants.Seen self.now got self.now) }
+    {
+        truth(alloc, self.store.seen())
+    }
+
+    fn unwatch(&mut self, alloc: Global) -> Result<Got, NoMemory>
+        ensures { IfOk result (λ got. answering.Answers wants.Unwatch self.old got self.new) }
+    {
+        self.store.unwatch();
+        Ok(nothing(alloc))
+    }
+}
+
+fn nothing(alloc: Global) -> Got
+    ensures { result ≡ answering.nothing }
+{
+    Got::Value(Outcome::fine(alloc, Text::new(alloc)))
+}
+
+fn truth(alloc: Global, holds: bool) -> Result<Got, NoMemory>
+    ensures { IfOk result (λ got. got ≡ answering.truth holds) }
+{
+    let text = if holds {
+        Text::from_bytes(alloc, b"1")?
+    } else {
+        Text::from_bytes(alloc, b"0")?
+    };
+    Ok(Got::Value(Outcome::fine(alloc, text)))
+}

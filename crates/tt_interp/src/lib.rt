@@ -1,0 +1,13 @@
+//! The interpreter of a thread (Tcl(n), thread(n)): it evaluates its start up to each request, and goes on with the reply.
+#![tactic(auto)]
+
+mod answering;
+mod commands;
+mod interp;
+mod kept;
+mod settling;
+mod setup;
+
+pub use interp::{Interp, Standing};
+pub use kept::Kept;
+pub use setup::Setup;
