@@ -1,5 +1,5 @@
 -- Levels: which frame a word means (upvar(n), uplevel(n)).
-use Rattle.std.specs.Prelude.{◌≡◌, ℕ, ◌-◌, ◌^◌, ◌==◌, nat_le, min, List, [], ◌∷◌, Option, Some, None, if◌then◌else◌}
+use Rattle.std.specs.Prelude.{◌≡◌, ℕ, ◌-◌, ◌^◌, ◌==◌, nat_le, min, drop, Bool, true, false, List, [], ◌∷◌, Option, Some, None, if◌then◌else◌}
 use Rattle.std.specs.Option.{option_map}
 use Rattle.tt_number.specs.Numerals.{number_of}
 use Rattle.tt_store.specs.Levels.{HasDepth, Levels, above}
@@ -23,8 +23,15 @@ abbrev pub IsAlong : Levels → (number : Option ℕ) → (frame : Option ℕ) �
 IsAlong levels None frame = frame ≡ None
 IsAlong levels (Some number) frame = (depth : ℕ) × HasDepth levels depth × (frame ≡ frame_below levels depth number)
 
+-- a level with a `#` at its front
+abbrev pub is_numbered : (word : List ℕ) → Bool
+is_numbered [] = false
+is_numbered (b ∷ bytes) = b == 35
+
+abbrev pub IsFrameBy : (numbered : Bool) → (word : List ℕ) → Levels → (frame : Option ℕ) → Type 0
+IsFrameBy true word levels frame = IsAlong levels (count_of (drop 1 word)) frame
+IsFrameBy false word levels frame = frame ≡ frame_up levels (count_of word)
+
 -- the frame of a level; None where the word is no level, or there is no such frame
 abbrev pub IsFrame : (word : List ℕ) → Levels → (frame : Option ℕ) → Type 0
-IsFrame [] levels frame = frame ≡ None
-IsFrame (b ∷ bytes) levels frame =
-    if b == 35 then IsAlong levels (count_of bytes) frame else frame ≡ frame_up levels (count_of (b ∷ bytes))
+IsFrame word levels frame = IsFrameBy (is_numbered word) word levels frame

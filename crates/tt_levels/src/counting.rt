@@ -1,7 +1,6 @@
 //! Levels: which frame a word means (upvar(n), uplevel(n)).
-ghost use Rattle.std.specs.Prelude.{◌≡◌, ◌≤◌, ◌==◌, IfSome};
+ghost use Rattle.std.specs.Prelude.{◌≡◌, ◌≤◌, ◌==◌, IfSome, IsTrue, length};
 ghost use Rattle.tt_levels.specs.Counting as counting;
-ghost use Rattle.tt_store.specs.Levels.{HasDepth};
 
 use tt_number::digits_of;
 use tt_store::Store;
@@ -12,10 +11,18 @@ pub(crate) fn frame_of(store: &Store, level: &[u8]) -> Option<u64>
     ensures frame { counting.IsFrame level.now store.now.levels result }
     ensures lower { IfSome result (λ frame. frame ≤ store.now.levels.current) }
 {
-    match level {
-        [b'#', digits @ ..] => frame_along(store, digits_of(10, digits)),
-        _ => frame_up(store, digits_of(10, level)),
+    if is_numbered(level) {
+        frame_along(store, digits_of(10, &level[1..]))
+    } else {
+        frame_up(store, digits_of(10, level))
     }
+}
+
+fn is_numbered(level: &[u8]) -> bool
+    ensures numbered { result ≡ counting.is_numbered level.now }
+    ensures within { IsTrue result → 1 ≤ length level.now }
+{
+    matches!(level, [b'#', ..])
 }
 
 fn frame_up(store: &Store, count: Option<u64>) -> Option<u64>

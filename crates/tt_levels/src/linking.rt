@@ -1,5 +1,5 @@
 //! Links to variables (global(n), upvar(n)).
-ghost use Rattle.std.specs.Prelude.{◌≡◌, ◌≤◌, ◌||◌, IfOk, OnOk, is_some};
+ghost use Rattle.std.specs.Prelude.{◌≡◌, ◌≤◌, ◌==◌, ◌||◌, IfOk, OnOk, is_some};
 ghost use Rattle.tt_levels.specs.Linking as linking;
 ghost use Rattle.tt_script.specs.Names.{element_of, global_of};
 ghost use Rattle.tt_store.specs.Spots.{plain_name};

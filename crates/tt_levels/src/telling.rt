@@ -18,7 +18,12 @@ pub(crate) enum Topic {
 }
 
 /// Tells of a topic; `Other` where it is that of procedures.
-pub(crate) fn info(alloc: Global, store: &Store, usage: &[u8], words: &[Text]) -> Result<Answer, NoMemory>
+pub(crate) fn info(
+    alloc: Global,
+    store: &Store,
+    usage: &[u8],
+    words: &[Text],
+) -> Result<Answer, NoMemory>
     ensures { IfOk result (λ answer. telling.info usage.now words.now store.now answer store.now) }
 {
     match words {
