@@ -13,16 +13,22 @@ use Rattle.tt_levels.specs.Messages.{bad_level}
 use Rattle.tt_levels.specs.Words.{is_levelled, parted}
 
 -- a script of these words begins in a frame
-abbrev pub BeginsIn : (frame : ℕ) → (script : List (List ℕ)) → (old : Held) → Answer → (new : Held) → Type 0
+abbrev pub BeginsIn :
+    (frame : ℕ) → (script : List (List ℕ)) →
+    (old : Held) → Answer → (new : Held) → Type 0
 BeginsIn frame script old answer new =
     (answer ≡ answers.Body body.Level (concatenation script))
     × (new ≡ begun_at frame old)
 
-abbrev pub Begins : (level : List ℕ) → (frame : Option ℕ) → (script : List (List ℕ)) → (old : Held) → Answer → (new : Held) → Type 0
+abbrev pub Begins :
+    (level : List ℕ) → (frame : Option ℕ) → (script : List (List ℕ)) →
+    (old : Held) → Answer → (new : Held) → Type 0
 Begins level None script old answer new = (answer ≡ answers.Outcome (failed (bad_level level))) × (new ≡ old)
 Begins level (Some frame) script old answer new = BeginsIn frame script old answer new
 
-abbrev pub BeginsAt : (level_and_script : List ℕ × List (List ℕ)) → (old : Held) → Answer → (new : Held) → Type 0
+abbrev pub BeginsAt :
+    (level_and_script : List ℕ × List (List ℕ)) →
+    (old : Held) → Answer → (new : Held) → Type 0
 BeginsAt (level, script) old answer new =
     (frame : Option ℕ)
     × IsFrame level old.levels frame

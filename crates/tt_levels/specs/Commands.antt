@@ -28,7 +28,9 @@ abbrev pub first_named : List Command → (name : List ℕ) → Option Command
 first_named commands name = find (λ command. bytes_eq name (row_of command).name) commands
 
 -- a command of the table, or none
-abbrev pub IsCommand : Option Command → (words : List (List ℕ)) → (old : Held) → Answer → (new : Held) → Type 0
+abbrev pub IsCommand :
+    Option Command → (words : List (List ℕ)) →
+    (old : Held) → Answer → (new : Held) → Type 0
 IsCommand (Some command) words old answer new = by_row (row_of command) words old answer new
 IsCommand None words old answer new = (answer ≡ answers.Other) × (new ≡ old)
 

@@ -21,7 +21,10 @@ frame_below levels depth number =
 -- `#N` is frame N on that way
 abbrev pub IsAlong : Levels → (number : Option ℕ) → (frame : Option ℕ) → Type 0
 IsAlong levels None frame = frame ≡ None
-IsAlong levels (Some number) frame = (depth : ℕ) × HasDepth levels depth × (frame ≡ frame_below levels depth number)
+IsAlong levels (Some number) frame =
+    (depth : ℕ)
+    × HasDepth levels depth
+    × (frame ≡ frame_below levels depth number)
 
 -- a level with a `#` at its front
 abbrev pub is_numbered : (word : List ℕ) → Bool

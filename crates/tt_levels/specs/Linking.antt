@@ -21,7 +21,9 @@ message_of word Exists = Some (in_use word)
 message_of word Itself = Some to_itself
 
 -- a local name, which a word gives, becomes a link to what another word names in a frame; `bad`: it can't be a link's
-abbrev pub LinksOne : (bad : Bool) → (word local : Name) → (frame : ℕ) → (other : Name) → (old : Held) → Option (List ℕ) → (new : Held) → Type 0
+abbrev pub LinksOne :
+    (bad : Bool) → (word local : Name) → (frame : ℕ) → (other : Name) →
+    (old : Held) → (message : Option (List ℕ)) → (new : Held) → Type 0
 LinksOne true word local frame other old message new = (message ≡ Some (bad_name word)) × (new ≡ old)
 LinksOne false word local frame other old message new =
     (answer : Linked)
@@ -31,15 +33,17 @@ LinksOne false word local frame other old message new =
 -- ---- one after the other ----
 
 -- each is linked in turn, up to the first that can't be; then the message is told
-pub data Each {X : Type 0} (Links : X → Held → Option (List ℕ) → Held → Type 0) : List X → (old : Held) → Option (List ℕ) → (new : Held) → Type 0 where
-  none : {held : Held} → Each Links [] held None held
-  more : {x : X} {xs : List X} {old next new : Held} {message : Option (List ℕ)} →
-      Links x old None next →
-      Each Links xs next message new →
-      Each Links (x ∷ xs) old message new
-  fails : {x : X} {xs : List X} {told : List ℕ} {old new : Held} →
-      Links x old (Some told) new →
-      Each Links (x ∷ xs) old (Some told) new
+pub data Each {X : Type 0} (Links : X → Held → Option (List ℕ) → Held → Type 0) :
+    List X → (old : Held) → (message : Option (List ℕ)) → (new : Held) → Type 0
+  where
+    none : {held : Held} → Each Links [] held None held
+    more : {x : X} {xs : List X} {old next new : Held} {message : Option (List ℕ)} →
+        Links x old None next →
+        Each Links xs next message new →
+        Each Links (x ∷ xs) old message new
+    fails : {x : X} {xs : List X} {told : List ℕ} {old new : Held} →
+        Links x old (Some told) new →
+        Each Links (x ∷ xs) old (Some told) new
 
 abbrev pub told : (message : Option (List ℕ)) → Outcome
 told None = fine []
@@ -48,12 +52,16 @@ told (Some message) = failed message
 -- ---- global(n) ----
 
 -- a name, without a leading `::`, becomes a link to the global variable
-abbrev pub LinksName : (word : Name) → (old : Held) → Option (List ℕ) → (new : Held) → Type 0
+abbrev pub LinksName :
+    (word : Name) →
+    (old : Held) → (message : Option (List ℕ)) → (new : Held) → Type 0
 LinksName word old message new =
     LinksOne (is_some (element_of (plain_name word))) word (plain_name word) 0 word old message new
 
 -- at global level nothing is done
-abbrev pub GlobalBy : (is_global : Bool) → (names : List Name) → (old : Held) → Outcome → (new : Held) → Type 0
+abbrev pub GlobalBy :
+    (is_global : Bool) → (names : List Name) →
+    (old : Held) → Outcome → (new : Held) → Type 0
 GlobalBy true names old outcome new = (outcome ≡ fine []) × (new ≡ old)
 GlobalBy false names old outcome new =
     (message : Option (List ℕ))
@@ -66,7 +74,9 @@ global usage names old outcome new = GlobalBy (old.levels.current == 0) names ol
 -- ---- upvar(n) ----
 
 -- a local name becomes a link to what another name names in a frame
-abbrev pub LinksPair : (frame : ℕ) → (names : Name × Name) → (old : Held) → Option (List ℕ) → (new : Held) → Type 0
+abbrev pub LinksPair :
+    (frame : ℕ) → (names : Name × Name) →
+    (old : Held) → (message : Option (List ℕ)) → (new : Held) → Type 0
 LinksPair frame (other, local) old message new =
     LinksOne (is_some (element_of local) || is_some (global_of local)) local local frame other old message new
 
@@ -76,7 +86,9 @@ pairs_of [] = []
 pairs_of (other ∷ []) = []
 pairs_of (other ∷ local ∷ names) = (other, local) ∷ pairs_of names
 
-abbrev pub LinksIn : (level : Name) → (frame : Option ℕ) → (names : List Name) → (old : Held) → Outcome → (new : Held) → Type 0
+abbrev pub LinksIn :
+    (level : Name) → (frame : Option ℕ) → (names : List Name) →
+    (old : Held) → Outcome → (new : Held) → Type 0
 LinksIn level None names old outcome new = Fails (bad_level level) old outcome new
 LinksIn level (Some frame) names old outcome new =
     (message : Option (List ℕ))
@@ -84,7 +96,9 @@ LinksIn level (Some frame) names old outcome new =
     × (outcome ≡ told message)
 
 -- the level is looked at before the names
-abbrev pub LinksFrom : (level_and_names : Name × List Name) → (old : Held) → Outcome → (new : Held) → Type 0
+abbrev pub LinksFrom :
+    (level_and_names : Name × List Name) →
+    (old : Held) → Outcome → (new : Held) → Type 0
 LinksFrom (level, names) old outcome new =
     (frame : Option ℕ)
     × IsFrame level old.levels frame

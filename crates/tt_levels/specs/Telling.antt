@@ -1,5 +1,5 @@
 -- What info(n) tells of variables and levels.
-use Rattle.std.specs.Prelude.{◌≡◌, ℕ, Bool, true, false, List, [], ◌∷◌, bytes_eq, codes, decimal, Option, Some, None, if◌then◌else◌}
+use Rattle.std.specs.Prelude.{◌≡◌, ℕ, Bool, List, [], ◌∷◌, bytes_eq, codes, decimal, Option, Some, None, if◌then◌else◌}
 use Rattle.tt_calls.specs.declared.outcome.Outcome.{Outcome}
 use Rattle.tt_calls.specs.Outcomes.{failed, fine}
 use Rattle.tt_store.specs.declared.answers.Answer.{Answer}
@@ -22,7 +22,11 @@ bit there = fine (if there then codes "1" else codes "0")
 
 -- info exists: whether a variable or an element is there
 abbrev pub exists : (words : List (List ℕ)) → (old : Held) → Outcome → (new : Held) → Type 0
-exists (name ∷ []) old outcome new = (there : Bool) × IsThere name old there × (outcome ≡ bit there) × (new ≡ old)
+exists (name ∷ []) old outcome new =
+    (there : Bool)
+    × IsThere name old there
+    × (outcome ≡ bit there)
+    × (new ≡ old)
 exists words old outcome new = Refuses (codes "info exists varName") old outcome new
 
 -- info level: how many callers up the global frame is
@@ -35,11 +39,17 @@ level [] old outcome new =
 level (word ∷ words) old outcome new = Refuses (codes "info level") old outcome new
 
 -- what is told of procedures is told elsewhere
-abbrev pub Tells : Option Topic → (word : List ℕ) → (words : List (List ℕ)) → (old : Held) → Answer → (new : Held) → Type 0
+abbrev pub Tells :
+    Option Topic → (word : List ℕ) → (words : List (List ℕ)) →
+    (old : Held) → Answer → (new : Held) → Type 0
 Tells (Some topic.Exists) word words old answer new =
-    (outcome : Outcome) × exists words old outcome new × (answer ≡ answers.Outcome outcome)
+    (outcome : Outcome)
+    × exists words old outcome new
+    × (answer ≡ answers.Outcome outcome)
 Tells (Some topic.Level) word words old answer new =
-    (outcome : Outcome) × level words old outcome new × (answer ≡ answers.Outcome outcome)
+    (outcome : Outcome)
+    × level words old outcome new
+    × (answer ≡ answers.Outcome outcome)
 Tells (Some topic.Procs) word words old answer new = (answer ≡ answers.Other) × (new ≡ old)
 Tells None word words old answer new = (answer ≡ answers.Outcome (failed (bad_option word))) × (new ≡ old)
 

@@ -1,4 +1,4 @@
-use Rattle.std.proofs.Common.{◌-◌, length, take, drop, arith, rules}
+use Rattle.std.proofs.Common.{rules}
 use Rattle.tt_levels.specs.Linking.{LinksPair, pairs_of}
 use Rattle.tt_levels.proofs.Turning.{all_done, next_pair, no_pair, one_fails, one_more}
 use Rattle.tt_levels.proofs.linking.link_pairs.Goals as goal
