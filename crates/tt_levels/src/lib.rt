@@ -1,0 +1,13 @@
+//! The commands on levels and links (global(n), upvar(n), uplevel(n)), and what info(n) tells of them.
+#![tactic(auto)]
+
+mod command;
+mod counting;
+mod linking;
+mod messages;
+mod row;
+mod running;
+mod telling;
+mod words;
+
+pub use running::run;
