@@ -1,0 +1,120 @@
+-- Arrays as they are read: whether they are there, their size, their indices and their values (array(n)).
+use Rattle.std.specs.Prelude.{◌≡◌, ℕ, Bool, true, false, List, [], ◌∷◌, ◌++◌, Option, Some, None, Result, Ok, Err, codes, decimal, filter, if◌then◌else◌, is_some, unwrap_or}
+use Rattle.tt_calls.specs.declared.outcome.Outcome.{Outcome}
+use Rattle.tt_calls.specs.Outcomes.{fine}
+use Rattle.tt_lists.specs.Spelling.{list_of}
+use Rattle.tt_script.specs.Names.{element_of}
+use Rattle.tt_store.specs.Held.{Finds, HasIndices, HasSize, Held, Meaning, Refuses}
+use Rattle.tt_store.specs.Spots.{spot}
+use Rattle.tt_text.specs.Characters.{characters}
+use Rattle.tt_text.specs.GlobFunction.{is_match}
+use Rattle.tt_vars.specs.declared.answers.VarFault.{VarFault}
+use Rattle.tt_vars.specs.Variables.{Name}
+
+-- a(b) is an element's name (Tcl(n), rule 8)
+abbrev pub is_element : Name → Bool
+is_element name = is_some (element_of name)
+
+-- the indices of the array that a name stands for; an element's name stands for none
+abbrev pub HasIndicesIf : (element : Bool) → Held → Name → Option (List Name) → Type 0
+HasIndicesIf true held name indices = indices ≡ None
+HasIndicesIf false held name indices = HasIndices held name indices
+
+-- an array that is missing has no indices
+abbrev pub Lists : Held → Name → (indices : List Name) → Type 0
+Lists held name indices =
+    (found : Option (List Name))
+    × HasIndicesIf (is_element name) held name found
+    × (indices ≡ unwrap_or found [])
+
+-- how many elements the array has that a name stands for; None where it stands for none
+abbrev pub HasSizeIf : (element : Bool) → Held → Name → Option ℕ → Type 0
+HasSizeIf true held name size = size ≡ None
+HasSizeIf false held name size = HasSize held name size
+
+abbrev pub Counts : Held → Name → Option ℕ → Type 0
+Counts held name size = HasSizeIf (is_element name) held name size
+
+-- ---- array exists, array size ----
+
+abbrev pub truth : Bool → List ℕ
+truth is = if is then codes "1" else codes "0"
+
+-- a command tells something of an array's size, and changes nothing
+abbrev pub TellsSize : (Option ℕ → List ℕ) → Name → (old : Held) → Outcome → (new : Held) → Type 0
+TellsSize tell name old outcome new =
+    (size : Option ℕ)
+    × Counts old name size
+    × (outcome ≡ fine (tell size))
+    × (new ≡ old)
+
+abbrev pub exists_told : Option ℕ → List ℕ
+exists_told size = truth (is_some size)
+
+abbrev pub size_told : Option ℕ → List ℕ
+size_told size = decimal (unwrap_or size 0)
+
+abbrev pub exists : Meaning
+exists usage (name ∷ []) old outcome new = TellsSize exists_told name old outcome new
+exists usage words old outcome new = Refuses usage old outcome new
+
+abbrev pub size : Meaning
+size usage (name ∷ []) old outcome new = TellsSize size_told name old outcome new
+size usage words old outcome new = Refuses usage old outcome new
+
+-- ---- array names ----
+
+abbrev pub is_like : (pattern text : List ℕ) → Bool
+is_like pattern text = is_match (characters pattern) (characters text)
+
+-- those that match the pattern, if there is one (string(n), string match)
+abbrev pub names_like : (pattern : Option (List ℕ)) → List Name → List Name
+names_like None names = names
+names_like (Some pattern) names = filter (is_like pattern) names
+
+abbrev pub Names : (pattern : Option (List ℕ)) → Name → (old : Held) → Outcome → (new : Held) → Type 0
+Names pattern name old outcome new =
+    (indices : List Name)
+    × Lists old name indices
+    × (outcome ≡ fine (list_of (names_like pattern indices)))
+    × (new ≡ old)
+
+abbrev pub names : Meaning
+names usage (name ∷ []) old outcome new = Names None name old outcome new
+names usage (name ∷ pattern ∷ []) old outcome new = Names (Some pattern) name old outcome new
+names usage words old outcome new = Refuses usage old outcome new
+
+-- ---- array get ----
+
+-- an index and its value; an index without a value is left out
+abbrev pub pair_of : (index : Name) → Result (List ℕ) VarFault → List (List ℕ)
+pair_of index (Ok text) = index ∷ text ∷ []
+pair_of index (Err fault) = []
+
+-- the pair of one index goes after some items
+abbrev pub AddsPair : Held → (name index : Name) → (old new : List (List ℕ)) → Type 0
+AddsPair held name index old new =
+    (found : Result (List ℕ) VarFault)
+    × Finds held (spot name (Some index)) found
+    × (new ≡ old ++ pair_of index found)
+
+-- indices, each with its value after it
+pub data PairsOf (held : Held) (name : Name) : (indices : List Name) → (items : List (List ℕ)) → Type 0 where
+  none : PairsOf held name [] []
+  more : {index : Name} {indices : List Name} {found : Result (List ℕ) VarFault} {items : List (List ℕ)} →
+      Finds held (spot name (Some index)) found →
+      PairsOf held name indices items →
+      PairsOf held name (index ∷ indices) (pair_of index found ++ items)
+
+abbrev pub Gets : (pattern : Option (List ℕ)) → Name → (old : Held) → Outcome → (new : Held) → Type 0
+Gets pattern name old outcome new =
+    (indices : List Name) × (items : List (List ℕ))
+    × Lists old name indices
+    × PairsOf old name (names_like pattern indices) items
+    × (outcome ≡ fine (list_of items))
+    × (new ≡ old)
+
+abbrev pub get : Meaning
+get usage (name ∷ []) old outcome new = Gets None name old outcome new
+get usage (name ∷ pattern ∷ []) old outcome new = Gets (Some pattern) name old outcome new
+get usage words old outcome new = Refuses usage old outcome new
