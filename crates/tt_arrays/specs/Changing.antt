@@ -15,9 +15,9 @@ use Rattle.tt_store.specs.Spots.{spot, told}
 use Rattle.tt_vars.specs.declared.answers.VarFault.{VarFault}
 use Rattle.tt_vars.specs.declared.answers.VarFault.TheVariants.{NotArray}
 use Rattle.tt_vars.specs.Variables.{Name}
-use Rattle.tt_arrays.specs.Reading.{Counts, Lists, is_element, names_like}
+use Rattle.tt_arrays.specs.Reading.{Counts, Ending, Lists, is_element, names_like}
 
--- ---- array set ----
+-- ---- elements are set ----
 
 -- the message of an error
 abbrev pub message_by : Code → (value : List ℕ) → Option (List ℕ)
@@ -44,9 +44,11 @@ first_pair (index ∷ []) = None
 first_pair (index ∷ text ∷ items) = Some (index, text, items)
 
 -- texts are given to elements one after the other, up to the first that can't be; then the message is told
-pub data SetsEach (name : Name) : (pairs : List (Name × List ℕ)) → (old : Held) → Option (List ℕ) → (new : Held) → Type 0 where
+pub data SetsEach (name : Name) :
+    (pairs : List (Name × List ℕ)) → (old : Held) → Option (List ℕ) → (new : Held) → Type 0 where
   none : {held : Held} → SetsEach name [] held None held
-  more : {index : Name} {text : List ℕ} {pairs : List (Name × List ℕ)} {old next new : Held} {message : Option (List ℕ)} →
+  more : {index : Name} {text : List ℕ} {pairs : List (Name × List ℕ)} {old next new : Held}
+      {message : Option (List ℕ)} →
       SetsOne name index text old None next →
       SetsEach name pairs next message new →
       SetsEach name ((index, text) ∷ pairs) old message new
@@ -59,29 +61,34 @@ abbrev pub none_set : Name → (items : List (List ℕ)) → Outcome
 none_set name [] = fine []
 none_set name (index ∷ items) = failed (cannot_set (told name (Some index)) NotArray)
 
-abbrev pub SetsPairs : (element : Bool) → Name → (items : List (List ℕ)) → (old : Held) → Outcome → (new : Held) → Type 0
+-- the elements of a list are set
+abbrev pub SetsPairs : (element : Bool) → Name → (items : List (List ℕ)) → Ending
 SetsPairs true name items old outcome new = (outcome ≡ none_set name items) × (new ≡ old)
 SetsPairs false name items old outcome new =
     (message : Option (List ℕ))
     × SetsEach name (pairs_in items) old message new
     × (outcome ≡ ended_by message)
 
+-- each index has a text
 abbrev pub is_paired : (items : List (List ℕ)) → Bool
 is_paired items = length items % 2 == 0
 
-abbrev pub SetsIf : (paired : Bool) → Name → (items : List (List ℕ)) → (old : Held) → Outcome → (new : Held) → Type 0
+-- nothing is set by a list that is not of pairs
+abbrev pub SetsIf : (paired : Bool) → Name → (items : List (List ℕ)) → Ending
 SetsIf true name items old outcome new = SetsPairs (is_element name) name items old outcome new
 SetsIf false name items old outcome new = Fails (codes "list must have an even number of elements") old outcome new
 
-abbrev pub SetsItems : Split → Name → (old : Held) → Outcome → (new : Held) → Type 0
+-- nor by a text that is no list
+abbrev pub SetsItems : Split → Name → Ending
 SetsItems (split.Items items) name old outcome new = SetsIf (is_paired items) name items old outcome new
 SetsItems (split.Bad fault) name old outcome new = Fails (list_message fault) old outcome new
 
+-- array set
 abbrev pub set : Meaning
 set usage (name ∷ list ∷ []) old outcome new = SetsItems (split_of list) name old outcome new
 set usage words old outcome new = Refuses usage old outcome new
 
--- ---- array unset ----
+-- ---- elements are removed ----
 
 -- one element is removed
 abbrev pub DropsOne : (name index : Name) → (old new : Held) → Type 0
@@ -100,7 +107,8 @@ abbrev pub DropsIf : (there : Bool) → Name → (old new : Held) → Type 0
 DropsIf true name old new = (removed : Result Unit VarFault) × Drops old (spot name None) new removed
 DropsIf false name old new = new ≡ old
 
-abbrev pub DropsWhole : Name → (old : Held) → Outcome → (new : Held) → Type 0
+-- then nothing is told
+abbrev pub DropsWhole : Name → Ending
 DropsWhole name old outcome new =
     (size : Option ℕ)
     × Counts old name size
@@ -108,13 +116,14 @@ DropsWhole name old outcome new =
     × (outcome ≡ fine [])
 
 -- the elements are removed that match
-abbrev pub DropsLike : (pattern : List ℕ) → Name → (old : Held) → Outcome → (new : Held) → Type 0
+abbrev pub DropsLike : (pattern : List ℕ) → Name → Ending
 DropsLike pattern name old outcome new =
     (indices : List Name)
     × Lists old name indices
     × DropsEach name (names_like (Some pattern) indices) old new
     × (outcome ≡ fine [])
 
+-- array unset
 abbrev pub unset : Meaning
 unset usage (name ∷ []) old outcome new = DropsWhole name old outcome new
 unset usage (name ∷ pattern ∷ []) old outcome new = DropsLike pattern name old outcome new

@@ -11,6 +11,7 @@ use Rattle.tt_arrays.specs.declared.subcommand.Subcommand.{Subcommand}
 use Rattle.tt_arrays.specs.declared.subcommand.Subcommand.TheVariants as subcommand
 use Rattle.tt_arrays.specs.Changing as changing
 use Rattle.tt_arrays.specs.Reading as reading
+use Rattle.tt_arrays.specs.Reading.{Ending}
 
 pub record Row : Type 1 where
   pub name : List ℕ
@@ -38,16 +39,16 @@ abbrev pub first_named : List Subcommand → (name : List ℕ) → Option Subcom
 first_named subcommands name = find (λ subcommand. bytes_eq name (row_of subcommand).name) subcommands
 
 -- what words after a subcommand come to
-abbrev pub by_row : Row → (words : List (List ℕ)) → (old : Held) → Outcome → (new : Held) → Type 0
+abbrev pub by_row : Row → (words : List (List ℕ)) → Ending
 by_row row words old outcome new = row.meaning row.usage words old outcome new
 
 -- a subcommand of the table, or another word
-abbrev pub IsSubcommand : Option Subcommand → (word : List ℕ) → (words : List (List ℕ)) → (old : Held) → Outcome → (new : Held) → Type 0
+abbrev pub IsSubcommand : Option Subcommand → (word : List ℕ) → (words : List (List ℕ)) → Ending
 IsSubcommand (Some subcommand) word words old outcome new = by_row (row_of subcommand) words old outcome new
 IsSubcommand None word words old outcome new = Fails (bad_option word) old outcome new
 
 -- array(n): without a subcommand the first usage is told
-abbrev pub array : (words : List (List ℕ)) → (old : Held) → Outcome → (new : Held) → Type 0
+abbrev pub array : (words : List (List ℕ)) → Ending
 array [] old outcome new = Refuses (row_of subcommand.Exists).usage old outcome new
 array (word ∷ words) old outcome new = IsSubcommand (first_named subcommands word) word words old outcome new
 

@@ -1,4 +1,4 @@
-use Rattle.std.proofs.Common.{arith, rules}
+use Rattle.std.proofs.Common.{rules}
 use Rattle.tt_arrays.proofs.Writing.{all_done, one_fails, one_more}
 use Rattle.tt_arrays.proofs.setting.set_each.Goals as goal
 
