@@ -1,0 +1,4 @@
+mod Getting
+mod Lists
+mod Removing
+mod Writing

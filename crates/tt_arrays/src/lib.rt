@@ -1,0 +1,13 @@
+//! The command array(n), over the variables of one interpreter.
+#![tactic(auto)]
+
+mod command;
+mod messages;
+mod patterns;
+mod reading;
+mod setting;
+mod spots;
+mod subcommand;
+mod unsetting;
+
+pub use command::run;
