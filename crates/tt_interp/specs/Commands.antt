@@ -2,7 +2,10 @@
 -- (proc(n), info(n), unknown(n)).
 use Rattle.std.specs.Prelude.{◌≡◌, ℕ, Bool, true, false, ◌&&◌, bytes_eq, if◌then◌else◌, List, [], ◌∷◌, codes, drop, Option, Some, None}
 use Rattle.tt_calls.specs.declared.outcome.Outcome.{Outcome}
-use Rattle.tt_procedures.specs.Procedures.{Defines, Table, call, names, plain_name}
+use Rattle.tt_arrays.specs.Commands as arrays
+use Rattle.tt_levels.specs.Commands as levels
+use Rattle.tt_procedures.specs.Procedures as procedures
+use Rattle.tt_procedures.specs.Procedures.{Defines, call, names, plain_name}
 use Rattle.tt_procedures.specs.declared.calling.Called.{Called}
 use Rattle.tt_procedures.specs.declared.calling.Called.TheVariants as called
 use Rattle.tt_store.specs.Commands as variables
@@ -17,7 +20,7 @@ use Rattle.tt_interp.specs.declared.kept.Kept.{Kept}
 abbrev pub with_store : Kept → Held → Kept
 with_store kept store = record kept { store = store }
 
-abbrev pub with_procedures : Kept → Table → Kept
+abbrev pub with_procedures : Kept → procedures.Table → Kept
 with_procedures kept procedures = record kept { procedures = procedures }
 
 -- ---- procedures ----
@@ -58,6 +61,25 @@ own_of words =
     own_by (names_command (codes "proc") words)
     (names_command (codes "info") words && has_next (codes "procs") words)
 
+-- ---- commands on variables ----
+
+-- what a table says of words: an answer, and the variables then
+abbrev pub Table : Type 1
+Table = (words : List (List ℕ)) → (old : Held) → Answer → (new : Held) → Type 0
+
+-- what one table answers stands; where it has no such command, another one says
+abbrev pub Continues : Answer → Table → Table
+Continues answer.Other other words old answer new = other words old answer new
+Continues first other words old answer new = (answer ≡ first) × (new ≡ old)
+
+abbrev pub Either : (one other : Table) → Table
+Either one other words old answer new =
+    (first : Answer) × (next : Held) × one words old first next × Continues first other words next answer new
+
+-- single variables, then levels and links, then arrays
+abbrev pub OnVariables : Table
+OnVariables = Either variables.Runs (Either levels.Runs arrays.Runs)
+
 -- ---- all commands ----
 
 abbrev pub RunsOwn : Own → (words : List (List ℕ)) → (old : Kept) → Answer → (new : Kept) → Type 0
@@ -69,7 +91,7 @@ RunsOwn own.Define words old answer new =
 RunsOwn own.Names words old answer new =
     (answer ≡ answer.Outcome (names old.procedures (drop 2 words))) × (new ≡ old)
 RunsOwn own.Other words old answer new =
-    variables.Runs words old.store answer new.store × (new ≡ with_store old new.store)
+    OnVariables words old.store answer new.store × (new ≡ with_store old new.store)
 
 abbrev pub RunsBy : Option Called → (words : List (List ℕ)) → (old : Kept) → Answer → (new : Kept) → Type 0
 RunsBy (Some called) words old answer new = CallsBody called words old answer new

@@ -1,13 +1,15 @@
 //! The commands that an interpreter does itself (proc(n), info(n)).
 ghost use Rattle.std.specs.Prelude.{◌≡◌, IfOk, codes, drop};
 ghost use Rattle.tt_interp.specs.Commands as commands;
+ghost use Rattle.tt_arrays.specs.Commands as arrays;
+ghost use Rattle.tt_levels.specs.Commands as levels;
 ghost use Rattle.tt_procedures.specs.Procedures.{plain_name};
 
 use crate::Kept;
 use std::alloc::Global;
 use tt_procedures::Called;
 use tt_script::global_name;
-use tt_store::Answer;
+use tt_store::{Answer, Store};
 use tt_text::{NoMemory, Text};
 use tt_wants::Body;
 
@@ -29,7 +31,7 @@ impl Kept {
     {
         match self.procedures.call(words)? {
             Some(called) => self.call(alloc, words, called),
-            None => self.run_own(words),
+            None => self.run_own(alloc, words),
         }
     }
 
@@ -49,14 +51,34 @@ impl Kept {
         }
     }
 
-    fn run_own(&mut self, words: &[Text]) -> Result<Answer, NoMemory>
+    fn run_own(&mut self, alloc: Global, words: &[Text]) -> Result<Answer, NoMemory>
         ensures { IfOk result (λ answer. commands.RunsOwn (commands.own_of words.now) words.now self.old answer self.new) }
     {
         match own_of(words) {
             Own::Define => Ok(Answer::Outcome(self.procedures.define(after(words, 1))?)),
             Own::Names => Ok(Answer::Outcome(self.procedures.names(after(words, 2))?)),
-            Own::Other => self.store.run(words),
+            Own::Other => on_variables(alloc, &mut self.store, words),
         }
+    }
+}
+
+fn on_variables(alloc: Global, store: &mut Store, words: &[Text]) -> Result<Answer, NoMemory>
+    ensures { IfOk result (λ answer. commands.OnVariables words.now store.old answer store.new) }
+{
+    match store.run(words)? {
+        Answer::Other => on_levels(alloc, store, words),
+        Answer::Outcome(outcome) => Ok(Answer::Outcome(outcome)),
+        Answer::Body { body, text } => Ok(Answer::Body { body, text }),
+    }
+}
+
+fn on_levels(alloc: Global, store: &mut Store, words: &[Text]) -> Result<Answer, NoMemory>
+    ensures { IfOk result (λ answer. commands.Either levels.Runs arrays.Runs words.now store.old answer store.new) }
+{
+    match tt_levels::run(alloc, store, words)? {
+        Answer::Other => tt_arrays::run(alloc, store, words),
+        Answer::Outcome(outcome) => Ok(Answer::Outcome(outcome)),
+        Answer::Body { body, text } => Ok(Answer::Body { body, text }),
     }
 }
 
