@@ -1,11 +1,33 @@
--- What is asked stays the same where an evaluation comes to the same.
-use Rattle.std.proofs.Common.{◌≡◌, List, [], ◌∷◌, sym, ◌∙◌}
+-- What is asked where an evaluation goes on.
+use Rattle.std.proofs.Common.{◌≡◌, ℕ, IsTrue, List, [], ◌∷◌, Some, sym, subst, refl, ◌∙◌}
 use Rattle.tt_calls.specs.declared.reply.Reply.{Reply}
 use Rattle.tt_calls.specs.declared.request.Request.{Request}
+use Rattle.tt_calls.specs.declared.start.Start.{Start}
+use Rattle.tt_endings.specs.declared.ending.Ending.{Ending}
+use Rattle.tt_frames.specs.Frames.{after, on_got}
+use Rattle.tt_frames.specs.Tcl.{plan}
+use Rattle.tt_frames.specs.Units.{fresh}
+use Rattle.tt_frames.specs.declared.job.Asking.{Asking}
+use Rattle.tt_frames.specs.declared.job.Frame.{Frame}
+use Rattle.tt_frames.specs.declared.job.Job.TheVariants as job
+use Rattle.tt_frames.specs.declared.state.Counts.{Counts}
+use Rattle.tt_plans.specs.Evaluation.{eval}
+use Rattle.tt_plans.specs.Frames.{after_answer}
+use Rattle.tt_plans.specs.declared.stack.Halt.{Halt}
+use Rattle.tt_plans.specs.declared.stack.Halt.TheVariants.{Wants}
+use Rattle.tt_plans.specs.declared.stack.Stack.{Stack}
+use Rattle.tt_plans.specs.declared.stack.TheConstants.{STEPS}
 use Rattle.tt_wants.specs.declared.got.Got.{Got}
-use Rattle.tt_wants.specs.declared.got.Got.TheVariants as got
-use Rattle.tt_interp.specs.Asking.{AsksNext, Coming, having, asks, replied, answered, ends}
+use Rattle.tt_wants.specs.declared.got.Got.TheVariants as gots
+use Rattle.tt_wants.specs.declared.want.Want.{Want}
+use Rattle.tt_interp.specs.Answering.{Answers}
+use Rattle.tt_interp.specs.Asking.{AsksNext, Coming, goes_on, having, asks, replied, answered, ends}
+use Rattle.tt_interp.specs.Beginning.{Begins}
+use Rattle.tt_interp.specs.Interps.{GoesOnFrom, Interpreter, IsLast, LeadsTo, StandsFor, coming, halted, serving_of}
+use Rattle.tt_interp.specs.declared.interp.Standing.{Standing}
+use Rattle.tt_interp.specs.declared.interp.Standing.TheVariants as standing
 use Rattle.tt_interp.specs.declared.kept.Kept.{Kept}
+use Rattle.tt_interp.specs.declared.setup.Setup.{Setup}
 
 abbrev pub AreSame : Coming → Coming → Type 0
 AreSame one other = (gots : List Got) → one gots ≡ other gots
@@ -13,11 +35,76 @@ AreSame one other = (gots : List Got) → one gots ≡ other gots
 same_after : {one other : Coming} (got : Got) → AreSame one other → AreSame (having got one) (having got other)
 same_after got same gots = same (got ∷ gots)
 
+-- the same is asked where the same comes
 pub same_asked : {one other : Coming} {kept : Kept} {replies : List Reply} {request : Request} {serving : List ℕ}
     → AreSame one other → AsksNext one kept replies request serving → AsksNext other kept replies request serving
 same_asked same (asks is) = asks (sym (same []) ∙ is)
 same_asked same (replied {reply = reply} is goes rest) =
-    replied (sym (same []) ∙ is) goes (same_asked (same_after (got.Reply reply) same) rest)
-same_asked same (answered {got = got} is gives rest) =
-    answered (sym (same []) ∙ is) gives (same_asked (same_after got same) rest)
+    replied (sym (same []) ∙ is) goes (same_asked (same_after (gots.Reply reply) same) rest)
+same_asked same (answered got is gives rest) =
+    answered got (sym (same []) ∙ is) gives (same_asked (same_after got same) rest)
 same_asked same (ends is) = ends (sym (same []) ∙ is)
+
+-- what a stack comes to after an answer
+abbrev pub IsAfter : Halt Want Ending → (stack before : Stack Counts Frame Asking) → Got → Type 0
+IsAfter halt stack before got = (gots : List Got) → halted halt stack gots ≡ after_answer plan after on_got before got gots
+
+pub answered_on : (halt : Halt Want Ending) (stack before : Stack Counts Frame Asking) (want : Want) (got : Got) (kept held : Kept)
+    → Answers want held got kept → IsAfter halt stack before got
+    → LeadsTo (halted halt stack) kept (halted (Wants want) before) held
+answered_on halt stack before want got kept held gives turned replies request serving asked =
+    answered got refl gives (same_asked turned asked)
+
+pub replied_on : (halt : Halt Want Ending) (stack before : Stack Counts Frame Asking) (asked : Request) (reply : Reply) (kept : Kept)
+    → IsTrue (goes_on asked) → IsAfter halt stack before (gots.Reply reply)
+    → GoesOnFrom (halted halt stack) kept (coming (standing.Asks before asked)) kept (Some reply)
+replied_on halt stack before asked reply kept goes turned replies request serving next =
+    replied refl goes (same_asked turned next)
+
+pub begun_on : (halt : Halt Want Ending) (stack : Stack Counts Frame Asking) (start : Start) (me limit : ℕ) (kept : Kept)
+    → AreSame (halted halt stack) (eval plan (job.Start start) (fresh me limit) STEPS)
+    → LeadsTo (halted halt stack) kept (coming (standing.Fresh start me limit)) kept
+begun_on halt stack start me limit kept same replies request serving asked = same_asked same asked
+
+-- an evaluation that settles leads on from where it halted
+pub settled : {before : Coming} {held : Kept} (halt other : Halt Want Ending) (stack : Stack Counts Frame Asking) (kept : Kept)
+    → halt ≡ other → LeadsTo (halted halt stack) kept before held → LeadsTo (halted other stack) kept before held
+settled {before = before} {held = held} halt other stack kept is leads =
+    subst (λ h. LeadsTo (halted h stack) kept before held) is leads
+
+pub begun_settled : (halt : Halt Want Ending) (stack : Stack Counts Frame Asking) (start : Start) (me limit : ℕ) (kept new : Kept) (next : Standing)
+    → LeadsTo (coming next) new (halted halt stack) kept
+    → AreSame (halted halt stack) (eval plan (job.Start start) (fresh me limit) STEPS)
+    → LeadsTo (coming next) new (coming (standing.Fresh start me limit)) kept
+begun_settled halt stack start me limit kept new next leads same replies request serving asked =
+    begun_on halt stack start me limit kept same replies request serving (leads replies request serving asked)
+
+pub replied_settled : (halt : Halt Want Ending) (stack before : Stack Counts Frame Asking) (asked : Request) (reply : Reply) (kept new : Kept) (next : Standing)
+    → LeadsTo (coming next) new (halted halt stack) kept
+    → IsTrue (goes_on asked) → IsAfter halt stack before (gots.Reply reply)
+    → GoesOnFrom (coming next) new (coming (standing.Asks before asked)) kept (Some reply)
+replied_settled halt stack before asked reply kept new next leads goes turned replies request serving then =
+    replied_on halt stack before asked reply kept goes turned replies request serving (leads replies request serving then)
+
+pub stands : (setup : Setup) (me : ℕ) (start copy : Start) (kept : Kept)
+    → copy ≡ start → Begins setup me kept
+    → StandsFor (record { kept = kept; standing = standing.Fresh copy me setup.limit }) setup me start
+stands setup me start copy kept same begins replies request serving asked = record {
+  kept = kept;
+  steps = STEPS;
+  begins = begins;
+  asks = subst (λ s. AsksNext (eval plan (job.Start s) (fresh me setup.limit) STEPS) kept replies request serving) same asked;
+}
+
+-- what is asked now
+pub asks_now : (kept : Kept) (at : Standing) (stack : Stack Counts Frame Asking) (request : Request)
+    → at ≡ standing.Asks stack request → AsksNext (coming at) kept [] request (serving_of at)
+asks_now kept at stack request is =
+    subst (λ s. AsksNext (coming s) kept [] request (serving_of s)) (sym is) (asks refl)
+
+pub ends_now : (kept : Kept) (at : Standing) (stack : Stack Counts Frame Asking) (ending : Ending) (last : Request)
+    → at ≡ standing.Over stack ending → IsLast at last → AsksNext (coming at) kept [] last (serving_of at)
+ends_now kept at stack ending last is over =
+    subst (λ s. AsksNext (coming s) kept [] last (serving_of s)) (sym is)
+    (subst (λ r. AsksNext (coming (standing.Over stack ending)) kept [] r [])
+    (sym (subst (λ s. IsLast s last) is over)) (ends refl))

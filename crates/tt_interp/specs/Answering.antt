@@ -1,12 +1,12 @@
 -- What an evaluation gets for what it wants, from what its interpreter keeps (Tcl(n), vwait(n)).
-use Rattle.std.specs.Prelude.{ℕ, ◌≡◌, ⊥, Bool, true, false, List, [], codes}
+use Rattle.std.specs.Prelude.{ℕ, ◌≡◌, Bool, true, false, List, [], codes}
 use Rattle.tt_calls.specs.declared.outcome.Outcome.{Outcome}
 use Rattle.tt_calls.specs.Outcomes.{fine}
 use Rattle.tt_store.specs.Held.{Held, IsRead, IsWritten, ended, entered, is_seen, unwatched, watched}
 use Rattle.tt_store.specs.declared.answers.Answer.{Answer}
-use Rattle.tt_store.specs.declared.answers.Answer.TheVariants as answer
+use Rattle.tt_store.specs.declared.answers.Answer.TheVariants as answers
 use Rattle.tt_wants.specs.declared.got.Got.{Got}
-use Rattle.tt_wants.specs.declared.got.Got.TheVariants as got
+use Rattle.tt_wants.specs.declared.got.Got.TheVariants as gots
 use Rattle.tt_wants.specs.declared.want.Want.{Want}
 use Rattle.tt_wants.specs.declared.want.Want.TheVariants as want
 use Rattle.tt_interp.specs.Commands.{Runs, with_store}
@@ -14,26 +14,26 @@ use Rattle.tt_interp.specs.declared.kept.Kept.{Kept}
 
 -- the empty value
 abbrev pub nothing : Got
-nothing = got.Value (fine [])
+nothing = gots.Value (fine [])
 
 -- 1 or 0
 abbrev pub truth : Bool → Got
-truth true = got.Value (fine (codes "1"))
-truth false = got.Value (fine (codes "0"))
+truth true = gots.Value (fine (codes "1"))
+truth false = gots.Value (fine (codes "0"))
 
 -- what running words comes to
 abbrev pub got_of : (words : List (List ℕ)) → Answer → Got
-got_of words (answer.Outcome outcome) = got.Value outcome
-got_of words (answer.Body body text) = got.RunBody body text
-got_of words answer.Other = got.Own words
+got_of words (answers.Outcome outcome) = gots.Value outcome
+got_of words (answers.Body body text) = gots.RunBody body text
+got_of words answers.Other = gots.Own words
 
 abbrev pub Answers : Want → (old : Kept) → Got → (new : Kept) → Type 0
 Answers (want.ReadVar name index) old got new =
-    (outcome : Outcome) × IsRead old.store name index outcome × (got ≡ got.Value outcome) × (new ≡ old)
+    (outcome : Outcome) × IsRead old.store name index outcome × (got ≡ gots.Value outcome) × (new ≡ old)
 Answers (want.WriteVar name index value) old got new =
     (outcome : Outcome)
     × IsWritten old.store name index value outcome new.store
-    × (got ≡ got.Value outcome)
+    × (got ≡ gots.Value outcome)
     × (new ≡ with_store old new.store)
 Answers (want.RunWords words) old got new =
     (answer : Answer) × Runs words old answer new × (got ≡ got_of words answer)

@@ -1,5 +1,5 @@
 -- What a thread asks next: its evaluation gets from what it keeps what it wants, and replies to what it asks (thread(n)).
-use Rattle.std.specs.Prelude.{ℕ, ℤ, ◌≡◌, Bool, true, false, IsTrue, List, [], ◌∷◌, int}
+use Rattle.std.specs.Prelude.{ℕ, pos, ◌≡◌, Bool, true, false, IsTrue, List, [], ◌∷◌}
 use Rattle.tt_calls.specs.declared.outcome.Code.{Code}
 use Rattle.tt_calls.specs.declared.outcome.Code.TheVariants as code
 use Rattle.tt_calls.specs.declared.reply.Reply.{Reply}
@@ -10,7 +10,7 @@ use Rattle.tt_endings.specs.declared.ending.Ending.{Ending}
 use Rattle.tt_frames.specs.declared.state.Counts.{Counts}
 use Rattle.tt_plans.specs.Plans.{Course, Stop, Fin}
 use Rattle.tt_wants.specs.declared.got.Got.{Got}
-use Rattle.tt_wants.specs.declared.got.Got.TheVariants as got
+use Rattle.tt_wants.specs.declared.got.Got.TheVariants as gots
 use Rattle.tt_wants.specs.declared.want.Want.{Want}
 use Rattle.tt_wants.specs.declared.want.Want.TheVariants.{Ask}
 use Rattle.tt_interp.specs.Answering.{Answers}
@@ -26,8 +26,8 @@ having got coming gots = coming (got ∷ gots)
 
 -- the last request of a thread, by how its evaluation ended: its exit code is 0 or 1
 abbrev pub end_by : Code → Request
-end_by code.Fine = ask.End 0
-end_by code = ask.End 1
+end_by code.Fine = ask.End (pos 0)
+end_by code = ask.End (pos 1)
 
 abbrev pub end_of : Ending → Request
 end_of ending = end_by (code_of ending)
@@ -47,9 +47,9 @@ pub data AsksNext : Coming → Kept → List Reply → Request → (serving : Li
   replied : {coming : Coming} {kept : Kept} {asked request : Request} {during serving : List ℕ} {reply : Reply} {replies : List Reply} →
       coming [] ≡ Stop (Ask asked) during →
       IsTrue (goes_on asked) →
-      AsksNext (having (got.Reply reply) coming) kept replies request serving →
+      AsksNext (having (gots.Reply reply) coming) kept replies request serving →
       AsksNext coming kept (reply ∷ replies) request serving
-  answered : {coming : Coming} {old new : Kept} {want : Want} {got : Got} {request : Request} {during serving : List ℕ} {replies : List Reply} →
+  answered : {coming : Coming} {old new : Kept} {want : Want} (got : Got) {request : Request} {during serving : List ℕ} {replies : List Reply} →
       coming [] ≡ Stop want during →
       Answers want old got new →
       AsksNext (having got coming) new replies request serving →

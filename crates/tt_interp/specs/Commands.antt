@@ -11,7 +11,7 @@ use Rattle.tt_procedures.specs.declared.calling.Called.TheVariants as called
 use Rattle.tt_store.specs.Commands as variables
 use Rattle.tt_store.specs.Held.{Calls, Held}
 use Rattle.tt_store.specs.declared.answers.Answer.{Answer}
-use Rattle.tt_store.specs.declared.answers.Answer.TheVariants as answer
+use Rattle.tt_store.specs.declared.answers.Answer.TheVariants as answers
 use Rattle.tt_wants.specs.declared.want.Body.TheVariants.{Procedure}
 use Rattle.tt_interp.specs.declared.commands.Own.{Own}
 use Rattle.tt_interp.specs.declared.commands.Own.TheVariants as own
@@ -34,9 +34,9 @@ first_word (word ∷ words) = word
 abbrev pub CallsBody : Called → (words : List (List ℕ)) → (old : Kept) → Answer → (new : Kept) → Type 0
 CallsBody (called.Body arguments body) words old answer new =
     Calls arguments old.store new.store
-    × (answer ≡ answer.Body (Procedure (first_word words)) body)
+    × (answer ≡ answers.Body (Procedure (first_word words)) body)
     × (new ≡ with_store old new.store)
-CallsBody (called.Wrong outcome) words old answer new = (answer ≡ answer.Outcome outcome) × (new ≡ old)
+CallsBody (called.Wrong outcome) words old answer new = (answer ≡ answers.Outcome outcome) × (new ≡ old)
 
 -- ---- commands on procedures ----
 
@@ -69,7 +69,7 @@ Table = (words : List (List ℕ)) → (old : Held) → Answer → (new : Held) �
 
 -- what one table answers stands; where it has no such command, another one says
 abbrev pub Continues : Answer → Table → Table
-Continues answer.Other other words old answer new = other words old answer new
+Continues answers.Other other words old answer new = other words old answer new
 Continues first other words old answer new = (answer ≡ first) × (new ≡ old)
 
 abbrev pub Either : (one other : Table) → Table
@@ -86,10 +86,10 @@ abbrev pub RunsOwn : Own → (words : List (List ℕ)) → (old : Kept) → Answ
 RunsOwn own.Define words old answer new =
     (outcome : Outcome)
     × Defines (drop 1 words) old.procedures outcome new.procedures
-    × (answer ≡ answer.Outcome outcome)
+    × (answer ≡ answers.Outcome outcome)
     × (new ≡ with_procedures old new.procedures)
 RunsOwn own.Names words old answer new =
-    (answer ≡ answer.Outcome (names old.procedures (drop 2 words))) × (new ≡ old)
+    (answer ≡ answers.Outcome (names old.procedures (drop 2 words))) × (new ≡ old)
 RunsOwn own.Other words old answer new =
     OnVariables words old.store answer new.store × (new ≡ with_store old new.store)
 

@@ -114,4 +114,4 @@ IsLast other last = ⊤
 
 pub record IsStanding (standing : Standing) (last : Request) : Type 0 where
   pub waits : Waits standing
-  pub last : IsLast standing last
+  pub ends : IsLast standing last

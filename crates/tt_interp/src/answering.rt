@@ -34,7 +34,15 @@ impl Kept {
     fn read(&self, name: &Text, index: Option<&Text>) -> Result<Got, NoMemory>
         ensures { IfOk result (λ got. answering.Answers (wants.ReadVar name.now (option_copied index.entry)) self.now got self.now) }
     {
-        let index = index.map(|index| index.as_bytes());
+        match index {
+            Some(index) => self.read_at(name, Some(index.as_bytes())),
+            None => self.read_at(name, None),
+        }
+    }
+
+    fn read_at(&self, name: &Text, index: Option<&[u8]>) -> Result<Got, NoMemory>
+        ensures { IfOk result (λ got. answering.Answers (wants.ReadVar name.now (option_copied index.entry)) self.now got self.now) }
+    {
         let outcome = self.store.read(name.as_bytes(), index)?;
         Ok(Got::Value(outcome))
     }
@@ -42,7 +50,15 @@ impl Kept {
     fn write(&mut self, name: &Text, index: Option<&Text>, value: Text) -> Result<Got, NoMemory>
         ensures { IfOk result (λ got. answering.Answers (wants.WriteVar name.now (option_copied index.entry) value) self.old got self.new) }
     {
-        let index = index.map(|index| index.as_bytes());
+        match index {
+            Some(index) => self.write_at(name, Some(index.as_bytes()), value),
+            None => self.write_at(name, None, value),
+        }
+    }
+
+    fn write_at(&mut self, name: &Text, index: Option<&[u8]>, value: Text) -> Result<Got, NoMemory>
+        ensures { IfOk result (λ got. answering.Answers (wants.WriteVar name.now (option_copied index.entry) value) self.old got self.new) }
+    {
         let outcome = self.store.write(name.as_bytes(), index, value)?;
         Ok(Got::Value(outcome))
     }

@@ -1,5 +1,5 @@
 ghost use Rattle.std.specs.Prelude.{◌≡◌, IfOk, OnOk, IsTrue, []};
-ghost use Rattle.tt_interp.specs.Asking.{end_by};
+ghost use Rattle.tt_interp.specs.Asking.{end_by, goes_on};
 ghost use Rattle.tt_interp.specs.Interps as interps;
 
 use crate::settling::resumed;
@@ -94,6 +94,17 @@ impl Interp {
         Ok(())
     }
 
+    /// Whether it can be resumed with this: at first without a reply, and then with one, but after its end with nothing.
+    pub fn can_resume(&self, reply: &Option<Reply>) -> bool
+        ensures fits { result ≡ interps.fits self.now.standing reply.now }
+    {
+        match (&self.standing, reply) {
+            (Standing::Fresh { .. }, None) => true,
+            (Standing::Asks { request, .. }, Some(_)) => goes_on(request.get()),
+            _ => false,
+        }
+    }
+
     /// What the thread asks next: a request, or after its evaluation its end.
     pub fn request(&self) -> &Request
         requires halted { IsTrue (interps.is_halted self.now.standing) }
@@ -101,7 +112,8 @@ impl Interp {
     {
         match &self.standing {
             Standing::Asks { request, .. } => request.get(),
-            Standing::Over { .. } | Standing::Fresh { .. } => &self.last,
+            Standing::Over { .. } => &self.last,
+            Standing::Fresh { .. } => &self.last,
         }
     }
 }
@@ -116,6 +128,15 @@ impl Standing {
             me: 0,
             limit: 0,
         }
+    }
+}
+
+fn goes_on(request: &Request) -> bool
+    ensures { result ≡ goes_on request.now }
+{
+    match request {
+        Request::End { .. } | Request::Exit { .. } => false,
+        _ => true,
     }
 }
 

@@ -1,0 +1,8 @@
+use Rattle.std.proofs.Common.{◌≡◌}
+use Rattle.tt_interp.specs.Interps.{LeadsTo, halted}
+use Rattle.tt_plans.specs.Frames.{is_waiting, wants}
+use Rattle.tt_interp.proofs.settling.settle.Given as goal
+
+abbrev pub invariant-wants : goal.invariant-wants
+invariant-wants l =
+    LeadsTo (halted l.halt l.stack) l.kept (halted l.fn.halt l.fn.stack) l.fn.kept × (wants l.halt ≡ is_waiting l.stack)
