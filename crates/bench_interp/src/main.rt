@@ -135,15 +135,16 @@ fn setup_of(alloc: Global, case: Case, turns: u64) -> anyhow::Result<Setup> {
 fn evaluate(alloc: Global, setup: &Setup) -> anyhow::Result<i64> {
     let start = Start::Script(setup.script.copy()?);
     let mut interp = Interp::new(alloc, &start, 1, setup)?;
-    interp.resume(None)?;
+    let mut reply = None;
     for _ in 0..u64::MAX {
-        match interp.request() {
-            Request::End { code } | Request::Exit { code } => return Ok(*code),
-            request => {
-                anyhow::ensure!(fits(request, &Reply::Go), "a request for more");
-            }
+        anyhow::ensure!(interp.can_resume(&reply), "a script that stops");
+        interp.resume(reply)?;
+        let request = interp.request();
+        if let Request::End { code } | Request::Exit { code } = request {
+            return Ok(*code);
         }
-        interp.resume(Some(Reply::Go))?;
+        anyhow::ensure!(fits(request, &Reply::Go), "a request for more");
+        reply = Some(Reply::Go);
     }
     anyhow::bail!("a script that doesn't end")
 }

@@ -12,7 +12,7 @@ mod table;
 
 use std::fs;
 
-const TABLES: [&str; 9] = [
+const TABLES: [&str; 15] = [
     "words.rows",
     "expressions.rows",
     "control.rows",
@@ -22,6 +22,12 @@ const TABLES: [&str; 9] = [
     "strings.rows",
     "switch.rows",
     "limits.rows",
+    "procedures.rows",
+    "levels.rows",
+    "links.rows",
+    "arrays.rows",
+    "info.rows",
+    "nesting.rows",
 ];
 
 fn main(rt: HostRuntime) -> anyhow::Result<()> {

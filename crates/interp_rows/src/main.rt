@@ -1,0 +1,29 @@
+//! Tables of starts of threads, and of what their interpreters ask and are replied (thread(n), Tcl(n)). They stand in the
+//! files of `data/`, and this says of each how many rows hold, and shows those that don't.
+//!
+//! A row begins with `== ` and its name. The lines after it are the script, after a line `%% thread N` that of the thread of
+//! this number, else that of thread 1. A line after `? ` is what is asked, and one after `! ` what that is replied: lists,
+//! where `\n` stands for a newline (see `requests` and `replies`). A row ends with what is asked last, after which no reply
+//! is taken, or with a line `...`.
+#![tactic(auto)]
+
+mod calls;
+mod replies;
+mod requests;
+mod row;
+mod run;
+mod table;
+mod telling;
+mod words;
+
+use std::fs;
+
+const TABLES: [&str; 1] = ["requests.rows"];
+
+fn main(rt: HostRuntime) -> anyhow::Result<()> {
+    for name in TABLES {
+        let text = fs::read_to_string(&rt, name)?;
+        table::tell(&rt, rt.alloc(), name, text.as_str())?;
+    }
+    Ok(())
+}
