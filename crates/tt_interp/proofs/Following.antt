@@ -23,7 +23,7 @@ use Rattle.tt_wants.specs.declared.want.Want.{Want}
 use Rattle.tt_interp.specs.Answering.{Answers}
 use Rattle.tt_interp.specs.Asking.{AsksNext, Coming, goes_on, having, asks, replied, answered, ends}
 use Rattle.tt_interp.specs.Beginning.{Begins}
-use Rattle.tt_interp.specs.Interps.{GoesOnFrom, Interpreter, IsLast, LeadsTo, StandsFor, coming, halted, serving_of}
+use Rattle.tt_interp.specs.Interps.{GoesOnFrom, IsLast, LeadsTo, StandsFor, coming, halted, serving_of}
 use Rattle.tt_interp.specs.declared.interp.Standing.{Standing}
 use Rattle.tt_interp.specs.declared.interp.Standing.TheVariants as standing
 use Rattle.tt_interp.specs.declared.kept.Kept.{Kept}

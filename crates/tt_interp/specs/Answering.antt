@@ -2,7 +2,7 @@
 use Rattle.std.specs.Prelude.{ℕ, ◌≡◌, Bool, true, false, List, [], codes}
 use Rattle.tt_calls.specs.declared.outcome.Outcome.{Outcome}
 use Rattle.tt_calls.specs.Outcomes.{fine}
-use Rattle.tt_store.specs.Held.{Held, IsRead, IsWritten, ended, entered, is_seen, unwatched, watched}
+use Rattle.tt_store.specs.Held.{IsRead, IsWritten, ended, entered, is_seen, unwatched, watched}
 use Rattle.tt_store.specs.declared.answers.Answer.{Answer}
 use Rattle.tt_store.specs.declared.answers.Answer.TheVariants as answers
 use Rattle.tt_wants.specs.declared.got.Got.{Got}

@@ -1,6 +1,6 @@
 -- The commands that an interpreter does itself: procedures first, then those that read and change what it keeps
 -- (proc(n), info(n), unknown(n)).
-use Rattle.std.specs.Prelude.{◌≡◌, ℕ, Bool, true, false, ◌&&◌, bytes_eq, if◌then◌else◌, List, [], ◌∷◌, codes, drop, Option, Some, None}
+use Rattle.std.specs.Prelude.{◌≡◌, ℕ, Bool, true, false, ◌&&◌, bytes_eq, List, [], ◌∷◌, codes, drop, Option, Some, None}
 use Rattle.tt_calls.specs.declared.outcome.Outcome.{Outcome}
 use Rattle.tt_arrays.specs.Commands as arrays
 use Rattle.tt_levels.specs.Commands as levels

@@ -2,7 +2,6 @@
 use Rattle.std.specs.Prelude.{ℕ, ◌≡◌, Bool, true, false, IsTrue, ⊤, List, [], ◌∷◌, Option, Some, None}
 use Rattle.tt_calls.specs.declared.reply.Reply.{Reply}
 use Rattle.tt_calls.specs.declared.request.Request.{Request}
-use Rattle.tt_calls.specs.declared.request.Request.TheVariants as ask
 use Rattle.tt_calls.specs.declared.start.Start.{Start}
 use Rattle.tt_endings.specs.declared.ending.Ending.{Ending}
 use Rattle.tt_frames.specs.Frames.{after, on_got}

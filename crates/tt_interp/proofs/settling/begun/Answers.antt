@@ -1,4 +1,3 @@
-use Rattle.std.proofs.Common.{rules}
 use Rattle.tt_interp.proofs.Following.{begun_settled}
 use Rattle.tt_interp.proofs.settling.begun.Goals as goal
 

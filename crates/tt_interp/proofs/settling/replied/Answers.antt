@@ -1,4 +1,3 @@
-use Rattle.std.proofs.Common.{rules}
 use Rattle.tt_interp.proofs.Following.{replied_settled}
 use Rattle.tt_interp.proofs.settling.replied.Goals as goal
 
