@@ -1,4 +1,4 @@
--- What a thread asks next: its evaluation gets from what it keeps what it wants, and replies to what it asks (thread(n)).
+-- What a thread asks next: its evaluation gets what it wants from what is kept, and replies to what it asks (thread(n)).
 use Rattle.std.specs.Prelude.{ℕ, pos, ◌≡◌, Bool, true, false, IsTrue, List, [], ◌∷◌}
 use Rattle.tt_calls.specs.declared.outcome.Code.{Code}
 use Rattle.tt_calls.specs.declared.outcome.Code.TheVariants as code
@@ -38,18 +38,22 @@ goes_on (ask.End code) = false
 goes_on (ask.Exit code) = false
 goes_on request = true
 
--- what it asks next, from what its evaluation comes to, what it keeps and the replies, and the posts that it serves then,
--- innermost first
+-- what it asks next, from what its evaluation comes to, what it keeps and the replies, and the posts that it serves
+-- then, innermost first
 pub data AsksNext : Coming → Kept → List Reply → Request → (serving : List ℕ) → Type 0 where
   asks : {coming : Coming} {kept : Kept} {request : Request} {serving : List ℕ} →
       coming [] ≡ Stop (Ask request) serving →
       AsksNext coming kept [] request serving
-  replied : {coming : Coming} {kept : Kept} {asked request : Request} {during serving : List ℕ} {reply : Reply} {replies : List Reply} →
+  replied :
+      {coming : Coming} {kept : Kept} {asked request : Request} {during serving : List ℕ}
+      {reply : Reply} {replies : List Reply} →
       coming [] ≡ Stop (Ask asked) during →
       IsTrue (goes_on asked) →
       AsksNext (having (gots.Reply reply) coming) kept replies request serving →
       AsksNext coming kept (reply ∷ replies) request serving
-  answered : {coming : Coming} {old new : Kept} {want : Want} (got : Got) {request : Request} {during serving : List ℕ} {replies : List Reply} →
+  answered :
+      {coming : Coming} {old new : Kept} {want : Want} (got : Got) {request : Request}
+      {during serving : List ℕ} {replies : List Reply} →
       coming [] ≡ Stop want during →
       Answers want old got new →
       AsksNext (having got coming) new replies request serving →

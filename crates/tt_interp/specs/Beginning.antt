@@ -36,7 +36,8 @@ pub record Begins (setup : Setup) (me : ℕ) (kept : Kept) : Type 0 where
 
 -- what the thread of this number that begins so asks next after these replies, and the posts that it serves then,
 -- innermost first: with some number of steps
-pub record IsNext (setup : Setup) (me : ℕ) (start : Start) (replies : List Reply) (request : Request) (serving : List ℕ) : Type 0 where
+pub record IsNext (setup : Setup) (me : ℕ) (start : Start)
+    (replies : List Reply) (request : Request) (serving : List ℕ) : Type 0 where
   pub kept : Kept
   pub steps : ℕ
   pub begins : Begins setup me kept

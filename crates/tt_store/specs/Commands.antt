@@ -49,7 +49,9 @@ required name (Some version) = fine version
 required name None = failed (codes "can't find package " ++ name)
 
 -- a version is not looked at
-abbrev pub PackageBy : (known : Bool) → (usage word : List ℕ) → (words : List (List ℕ)) → (old : Held) → Outcome → (new : Held) → Type 0
+abbrev pub PackageBy :
+    (known : Bool) → (usage word : List ℕ) → (words : List (List ℕ))
+    → (old : Held) → Outcome → (new : Held) → Type 0
 PackageBy false usage word words old outcome new = Fails (bad_option word) old outcome new
 PackageBy true usage word (name ∷ []) old outcome new = (outcome ≡ required name (version_of name)) × (new ≡ old)
 PackageBy true usage word (name ∷ version ∷ []) old outcome new =
@@ -96,7 +98,8 @@ abbrev pub by_row : Row → (words : List (List ℕ)) → (old : Held) → Answe
 by_row row words old answer new = row.meaning row.usage words old answer new
 
 -- a command that answers by its words alone, or none
-abbrev pub IsPure : (known : Bool) → (name : List ℕ) → (words : List (List ℕ)) → (old : Held) → Answer → (new : Held) → Type 0
+abbrev pub IsPure :
+    (known : Bool) → (name : List ℕ) → (words : List (List ℕ)) → (old : Held) → Answer → (new : Held) → Type 0
 IsPure false name words old answer new = (answer ≡ answers.Other) × (new ≡ old)
 IsPure true name words old answer new =
     (outcome : Outcome)
@@ -105,7 +108,8 @@ IsPure true name words old answer new =
     × (new ≡ old)
 
 -- a command of the table, or another
-abbrev pub IsCommand : Option Command → (name : List ℕ) → (words : List (List ℕ)) → (old : Held) → Answer → (new : Held) → Type 0
+abbrev pub IsCommand :
+    Option Command → (name : List ℕ) → (words : List (List ℕ)) → (old : Held) → Answer → (new : Held) → Type 0
 IsCommand (Some command) name words old answer new = by_row (row_of command) words old answer new
 IsCommand None name words old answer new = IsPure (pure.is_pure name) name words old answer new
 

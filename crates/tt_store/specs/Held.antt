@@ -78,7 +78,9 @@ pub record Sets (old : Held) (spot : Spot) (text : List ℕ) (new : Held) (writt
 
 -- a local name becomes a link to what a word names in a frame (upvar(n))
 pub record LinksTo (old : Held) (local : Name) (frame : ℕ) (word : Name) (new : Held) (answer : Linked) : Type 0 where
-  pub links : variables.Links old.levels.frames old.levels.current local (place_in frame (spot_of word)) new.levels.frames answer
+  pub links :
+      variables.Links old.levels.frames old.levels.current local
+      (place_in frame (spot_of word)) new.levels.frames answer
   pub rest : new ≡ with_levels old (with_frames old.levels new.levels.frames)
 
 -- a scalar, an array or an element was found

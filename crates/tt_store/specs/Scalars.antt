@@ -110,7 +110,8 @@ DropsOne nocomplain word old message new =
     × (message ≡ option_map (cannot_unset word) (told_of nocomplain removed))
 
 -- variables are removed one after the other, up to the first that can't be; then the message is told
-pub data Unsets (nocomplain : Bool) : (words : List (List ℕ)) → (old : Held) → Option (List ℕ) → (new : Held) → Type 0 where
+pub data Unsets (nocomplain : Bool) :
+    (words : List (List ℕ)) → (old : Held) → Option (List ℕ) → (new : Held) → Type 0 where
   none : {held : Held} → Unsets nocomplain [] held None held
   more : {word : List ℕ} {words : List (List ℕ)} {old next new : Held} {message : Option (List ℕ)} →
       DropsOne nocomplain word old None next →
@@ -146,7 +147,8 @@ first_unknown words = find (λ word. is_meant word && not (is_nocomplain word)) 
 abbrev pub front : (words : List (List ℕ)) → ℕ
 front words = length (take_while is_nocomplain words)
 
-abbrev pub UnsetsIf : (unknown : Option (List ℕ)) → (words : List (List ℕ)) → (old : Held) → Outcome → (new : Held) → Type 0
+abbrev pub UnsetsIf :
+    (unknown : Option (List ℕ)) → (words : List (List ℕ)) → (old : Held) → Outcome → (new : Held) → Type 0
 UnsetsIf (Some word) words old outcome new = Fails (bad_option word) old outcome new
 UnsetsIf None words old outcome new = UnsetsAll (nat_lt 0 (front words)) (drop (front words) words) old outcome new
 

@@ -10,5 +10,5 @@ loop-argument-preserved c =
 pub returns : goal.returns
 returns c = record {
   set = all_done c.args.arguments.now c.loop-argument.argument-index c.args.self.now c.loop-argument.self
-    (omega arith) c.loop-argument.invariant
+      (omega arith) c.loop-argument.invariant;
 }
