@@ -1,5 +1,6 @@
 -- What the words of a command mean: the families of commands, each with its table.
-use Rattle.std.specs.Prelude.{ℕ, List, [], ◌∷◌, Option, Some, None}
+use Rattle.std.specs.Prelude.{ℕ, List, [], ◌∷◌, Some, None}
+use Rattle.tt_script.specs.Names.{global_of}
 use Rattle.tt_commands.specs.Channels.{channel_among, channel_commands, channel_row}
 use Rattle.tt_commands.specs.declared.call.Call.{Call}
 use Rattle.tt_commands.specs.declared.call.Call.TheVariants.{Other}
@@ -31,7 +32,11 @@ thread_call me name words =
       | None ↦ channel_call me name words
     ]
 
+-- a command's name, without one leading `::`
+abbrev pub plain_name : (word : List ℕ) → List ℕ
+plain_name word = elim (global_of word) [ Some rest ↦ rest | None ↦ word ]
+
 -- a command's name and the words after it
 abbrev pub call_of : (words : List (List ℕ)) → (me : ℕ) → Call
 call_of [] me = Other
-call_of (name ∷ words) me = thread_call me name words
+call_of (name ∷ words) me = thread_call me (plain_name name) words

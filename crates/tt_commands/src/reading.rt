@@ -1,11 +1,12 @@
 ghost use Rattle.std.specs.Prelude.{◌≡◌, IfOk};
-ghost use Rattle.tt_commands.specs.Calls.{call_of, channel_call, shared_call, thread_call};
+ghost use Rattle.tt_commands.specs.Calls.{call_of, channel_call, plain_name, shared_call, thread_call};
 
 use crate::{Call, channels, shared, threads};
 use std::alloc::Global;
+use tt_script::global_name;
 use tt_text::{NoMemory, Text};
 
-/// What the words of a command mean in thread `me`, its name first.
+/// What the words of a command mean in thread `me`, its name first; one leading `::` of the name is dropped.
 ///
 /// `Other` comes exactly where the first word is no command of the tables. Errors come in this order: an option or a
 /// subcommand that isn't known, a wrong number of words, what the words say. `NoMemory` where memory is refused.
@@ -13,8 +14,17 @@ pub fn read_call(alloc: Global, words: &[Text], me: u32) -> Result<Call, NoMemor
     ensures call { IfOk result (λ call. call ≡ call_of words.now me) }
 {
     match words {
-        [name, words @ ..] => thread_call(alloc, name.as_bytes(), words, me),
+        [name, words @ ..] => thread_call(alloc, plain_name(name.as_bytes()), words, me),
         [] => Ok(Call::Other),
+    }
+}
+
+fn plain_name(word: &[u8]) -> &[u8]
+    ensures { result.now ≡ plain_name word.now }
+{
+    match global_name(word) {
+        Some(rest) => rest,
+        None => word,
     }
 }
 
