@@ -28,7 +28,11 @@ pub(crate) fn run(alloc: Global, row: &Row) -> anyhow::Result<Option<Text>> {
     Ok(None)
 }
 
+// Only a type that may go to another thread is taken.
+fn is_send<T: Send>() {}
+
 fn begin(alloc: Global, row: &Row) -> Result<Interp, NoMemory> {
+    is_send::<Interp>();
     let setup = Setup {
         script: Text::from_bytes(alloc, row.text())?,
         name: Text::from_bytes(alloc, b"rows")?,
