@@ -5,8 +5,8 @@ use Rattle.tt_calls.specs.declared.outcome.Outcome.{Outcome}
 use Rattle.tt_store.specs.declared.answers.Answer.{Answer}
 use Rattle.tt_store.specs.declared.answers.Answer.TheVariants as answers
 use Rattle.tt_store.specs.Held.{Fails, Held, Meaning, Refuses}
-use Rattle.tt_store.specs.Messages.{bad_option}
-use Rattle.tt_store.specs.Spots.{plain_name}
+use Rattle.tt_calls.specs.Usages.{bad_option}
+use Rattle.tt_script.specs.Names.{plain_name}
 use Rattle.tt_arrays.specs.declared.subcommand.Subcommand.{Subcommand}
 use Rattle.tt_arrays.specs.declared.subcommand.Subcommand.TheVariants as subcommand
 use Rattle.tt_arrays.specs.Changing as changing

@@ -1,16 +1,15 @@
 //! What a whole command comes to.
 ghost use Rattle.std.specs.Prelude.{◌≡◌, IfOk};
 ghost use Rattle.tt_arrays.specs.Commands as table;
-ghost use Rattle.tt_store.specs.Spots.{plain_name};
+ghost use Rattle.tt_script.specs.Names.{plain_name};
 
-use crate::messages::{bad_option, wrong_number};
 use crate::reading::{exists, get, names, size};
 use crate::setting::set;
 use crate::subcommand::{Subcommand, subcommand_of, usage_of};
 use crate::unsetting::unset;
 use std::alloc::Global;
 use tt_calls::Outcome;
-use tt_script::global_name;
+use tt_script::plain_name;
 use tt_store::{Answer, Store};
 use tt_text::{NoMemory, Text};
 
@@ -42,7 +41,7 @@ fn array(alloc: Global, store: &mut Store, words: &[Text]) -> Result<Outcome, No
 {
     match words {
         [word, words @ ..] => by_word(alloc, store, word, words),
-        [] => wrong_number(alloc, usage_of(Subcommand::Exists)),
+        [] => Outcome::wrong_number(alloc, usage_of(Subcommand::Exists)),
     }
 }
 
@@ -56,7 +55,7 @@ fn by_word(
 {
     match subcommand_of(word.as_bytes()) {
         Some(subcommand) => by_row(alloc, store, subcommand, words),
-        None => bad_option(alloc, word.as_bytes()),
+        None => Outcome::bad_option(alloc, word.as_bytes()),
     }
 }
 
@@ -83,13 +82,4 @@ fn is_array(word: &Text) -> bool
     ensures { result ≡ table.is_array word.now }
 {
     plain_name(word.as_bytes()) == b"array".as_slice()
-}
-
-fn plain_name(name: &[u8]) -> &[u8]
-    ensures { result.now ≡ plain_name name.now }
-{
-    match global_name(name) {
-        Some(rest) => rest,
-        None => name,
-    }
 }

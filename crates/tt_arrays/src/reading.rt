@@ -3,7 +3,6 @@ ghost use Rattle.std.specs.Prelude.{◌≡◌, IfOk, OnOk};
 ghost use Rattle.std.specs.Option.{option_copied};
 ghost use Rattle.tt_arrays.specs.Reading as reading;
 
-use crate::messages::wrong_number;
 use crate::patterns::names_like;
 use crate::spots::{indices_of, size_of};
 use std::alloc::Global;
@@ -23,7 +22,7 @@ pub(crate) fn exists(
 {
     match words {
         [name] => tell_exists(alloc, store, name),
-        _ => wrong_number(alloc, usage),
+        _ => Outcome::wrong_number(alloc, usage),
     }
 }
 
@@ -53,7 +52,7 @@ pub(crate) fn size(
 {
     match words {
         [name] => tell_size(alloc, store, name),
-        _ => wrong_number(alloc, usage),
+        _ => Outcome::wrong_number(alloc, usage),
     }
 }
 
@@ -86,7 +85,7 @@ pub(crate) fn names(
     match words {
         [name] => tell_names(alloc, store, name, None),
         [name, pattern] => tell_names(alloc, store, name, Some(pattern)),
-        _ => wrong_number(alloc, usage),
+        _ => Outcome::wrong_number(alloc, usage),
     }
 }
 
@@ -116,7 +115,7 @@ pub(crate) fn get(
     match words {
         [name] => tell_pairs(alloc, store, name, None),
         [name, pattern] => tell_pairs(alloc, store, name, Some(pattern)),
-        _ => wrong_number(alloc, usage),
+        _ => Outcome::wrong_number(alloc, usage),
     }
 }
 

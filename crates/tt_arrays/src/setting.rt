@@ -5,7 +5,7 @@ ghost use Rattle.tt_lists.specs.Reading.{split_of};
 ghost use Rattle.tt_store.specs.Scalars.{ended_by};
 ghost use Rattle.tt_arrays.specs.Changing as changing;
 
-use crate::messages::{failed, not_array, wrong_number};
+use crate::messages::{failed, not_array};
 use crate::spots::is_element;
 use std::alloc::Global;
 use tt_calls::{Code, Outcome};
@@ -24,7 +24,7 @@ pub(crate) fn set(
 {
     match words {
         [name, list] => set_list(alloc, store, name, list),
-        _ => wrong_number(alloc, usage),
+        _ => Outcome::wrong_number(alloc, usage),
     }
 }
 

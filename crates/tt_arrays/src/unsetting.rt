@@ -2,7 +2,6 @@
 ghost use Rattle.std.specs.Prelude.{IfOk, OnOk};
 ghost use Rattle.tt_arrays.specs.Changing as changing;
 
-use crate::messages::wrong_number;
 use crate::patterns::names_like;
 use crate::spots::{indices_of, size_of};
 use std::alloc::Global;
@@ -22,7 +21,7 @@ pub(crate) fn unset(
     match words {
         [name] => unset_whole(alloc, store, name),
         [name, pattern] => unset_like(alloc, store, name, pattern),
-        _ => wrong_number(alloc, usage),
+        _ => Outcome::wrong_number(alloc, usage),
     }
 }
 

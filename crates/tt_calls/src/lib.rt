@@ -13,6 +13,7 @@ mod reply;
 mod request;
 mod start;
 mod tsv_call;
+pub mod usages;
 
 pub use boxed::Boxed;
 pub use chan_call::ChanCall;

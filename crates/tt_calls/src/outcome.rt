@@ -1,6 +1,8 @@
 ghost use Rattle.std.specs.Prelude.{◌≡◌, IfOk};
 ghost use Rattle.tt_calls.specs.Outcomes.{failed, fine};
+ghost use Rattle.tt_calls.specs.Usages as usages;
 
+use crate::usages;
 use std::alloc::Global;
 use tt_text::{NoMemory, Text};
 
@@ -61,6 +63,26 @@ impl Outcome {
             trace,
             kept: Code::Fine,
         })
+    }
+
+    /// The error that words are too few or too many for a usage.
+    ///
+    /// `NoMemory` where the memory for it is refused.
+    pub fn wrong_number(alloc: Global, usage: &[u8]) -> Result<Self, NoMemory>
+        ensures failed { IfOk result (λ outcome. outcome ≡ failed (usages.wrong_number usage.now)) }
+    {
+        let message = usages::wrong_number(alloc, usage)?;
+        Outcome::failed(message)
+    }
+
+    /// The error that a word is no option, or no subcommand.
+    ///
+    /// `NoMemory` where the memory for it is refused.
+    pub fn bad_option(alloc: Global, word: &[u8]) -> Result<Self, NoMemory>
+        ensures failed { IfOk result (λ outcome. outcome ≡ failed (usages.bad_option word.now)) }
+    {
+        let message = usages::bad_option(alloc, word)?;
+        Outcome::failed(message)
     }
 
     /// A second outcome that is equal.

@@ -1,6 +1,6 @@
 -- What the words of a command mean: the families of commands, each with its table.
 use Rattle.std.specs.Prelude.{ℕ, List, [], ◌∷◌, Some, None}
-use Rattle.tt_script.specs.Names.{global_of}
+use Rattle.tt_script.specs.Names.{plain_name}
 use Rattle.tt_commands.specs.Channels.{channel_among, channel_commands, channel_row}
 use Rattle.tt_commands.specs.declared.call.Call.{Call}
 use Rattle.tt_commands.specs.declared.call.Call.TheVariants.{Other}
@@ -31,10 +31,6 @@ thread_call me name words =
       | Some command ↦ meaning_by (thread_row command) me words
       | None ↦ channel_call me name words
     ]
-
--- a command's name, without one leading `::`
-abbrev pub plain_name : (word : List ℕ) → List ℕ
-plain_name word = elim (global_of word) [ Some rest ↦ rest | None ↦ word ]
 
 -- a command's name and the words after it
 abbrev pub call_of : (words : List (List ℕ)) → (me : ℕ) → Call

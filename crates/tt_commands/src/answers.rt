@@ -1,19 +1,19 @@
 //! What words come to.
-ghost use Rattle.std.specs.Prelude.{◌≡◌, ◌++◌, IfOk, codes};
+ghost use Rattle.std.specs.Prelude.{◌≡◌, IfOk};
 ghost use Rattle.tt_calls.specs.declared.request.Request.TheVariants as ask;
 ghost use Rattle.tt_commands.specs.Usages.{bad_option, bad_value, wrong_number};
 ghost use Rattle.tt_commands.specs.declared.call.Call.TheVariants as calls;
 
 use crate::{Call, Then};
 use std::alloc::Global;
-use tt_calls::{Boxed, ChanCall, LockCall, PoolCall, Request, TsvCall};
+use tt_calls::{Boxed, ChanCall, LockCall, PoolCall, Request, TsvCall, usages};
 use tt_text::{NoMemory, Text};
 
 /// That words are too few or too many for a usage.
 pub(crate) fn wrong_number(alloc: Global, usage: &[u8]) -> Result<Call, NoMemory>
     ensures { IfOk result (λ call. call ≡ wrong_number usage.now) }
 {
-    let message = quoting(alloc, b"wrong # args: should be \"", usage)?;
+    let message = usages::wrong_number(alloc, usage)?;
     Ok(Call::Bad(message))
 }
 
@@ -21,7 +21,7 @@ pub(crate) fn wrong_number(alloc: Global, usage: &[u8]) -> Result<Call, NoMemory
 pub(crate) fn bad_option(alloc: Global, word: &[u8]) -> Result<Call, NoMemory>
     ensures { IfOk result (λ call. call ≡ bad_option word.now) }
 {
-    let message = quoting(alloc, b"bad option \"", word)?;
+    let message = usages::bad_option(alloc, word)?;
     Ok(Call::Bad(message))
 }
 
@@ -29,17 +29,8 @@ pub(crate) fn bad_option(alloc: Global, word: &[u8]) -> Result<Call, NoMemory>
 pub(crate) fn bad_value(alloc: Global, word: &[u8]) -> Result<Call, NoMemory>
     ensures { IfOk result (λ call. call ≡ bad_value word.now) }
 {
-    let message = quoting(alloc, b"bad value \"", word)?;
+    let message = usages::bad_value(alloc, word)?;
     Ok(Call::Bad(message))
-}
-
-fn quoting(alloc: Global, before: &[u8], quoted: &[u8]) -> Result<Text, NoMemory>
-    ensures { IfOk result (λ text. text ≡ before.now ++ (quoted.now ++ codes "\"")) }
-{
-    let mut text = Text::from_bytes(alloc, before)?;
-    text.push_bytes(quoted)?;
-    text.push_bytes(b"\"")?;
-    Ok(text)
 }
 
 /// That a word is an error, in these words.

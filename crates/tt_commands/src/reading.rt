@@ -1,9 +1,9 @@
 ghost use Rattle.std.specs.Prelude.{◌≡◌, IfOk};
-ghost use Rattle.tt_commands.specs.Calls.{call_of, channel_call, plain_name, shared_call, thread_call};
+ghost use Rattle.tt_commands.specs.Calls.{call_of, channel_call, shared_call, thread_call};
 
 use crate::{Call, channels, shared, threads};
 use std::alloc::Global;
-use tt_script::global_name;
+use tt_script::plain_name;
 use tt_text::{NoMemory, Text};
 
 /// What the words of a command mean in thread `me`, its name first; one leading `::` of the name is dropped.
@@ -16,15 +16,6 @@ pub fn read_call(alloc: Global, words: &[Text], me: u32) -> Result<Call, NoMemor
     match words {
         [name, words @ ..] => thread_call(alloc, plain_name(name.as_bytes()), words, me),
         [] => Ok(Call::Other),
-    }
-}
-
-fn plain_name(word: &[u8]) -> &[u8]
-    ensures { result.now ≡ plain_name word.now }
-{
-    match global_name(word) {
-        Some(rest) => rest,
-        None => word,
     }
 }
 

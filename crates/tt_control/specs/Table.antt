@@ -12,7 +12,7 @@ use Rattle.tt_control.specs.declared.command.Command.TheVariants as command
 use Rattle.tt_control.specs.declared.control.Control.{Control}
 use Rattle.tt_control.specs.declared.control.Control.TheVariants.{Other}
 use Rattle.tt_lists.specs.declared.searching.Matching.TheVariants.{Exact}
-use Rattle.tt_script.specs.Names.{global_of}
+use Rattle.tt_script.specs.Names.{plain_name}
 
 -- a row of the table
 pub record Row : Type 0 where
@@ -55,10 +55,6 @@ first_named commands name = find (λ command. bytes_eq name (row_of command).nam
 -- the command of a name
 abbrev pub command_of : (name : List ℕ) → Option Command
 command_of name = first_named commands name
-
--- a name without a leading `::`
-abbrev pub plain_name : (name : List ℕ) → List ℕ
-plain_name name = elim (global_of name) [ Some rest ↦ rest | None ↦ name ]
 
 -- what words mean to a command
 abbrev pub meaning_of : Command → (words : List (List ℕ)) → Control

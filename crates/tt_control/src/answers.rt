@@ -1,16 +1,17 @@
 //! The errors of words.
-ghost use Rattle.std.specs.Prelude.{◌≡◌, ◌++◌, IfOk, codes};
+ghost use Rattle.std.specs.Prelude.{◌≡◌, IfOk};
 ghost use Rattle.tt_control.specs.Answers as answers;
 
 use crate::Control;
 use std::alloc::Global;
-use tt_text::{NoMemory, Text};
+use tt_calls::usages;
+use tt_text::NoMemory;
 
 /// That words are too few or too many for a usage.
 pub(crate) fn wrong_number(alloc: Global, usage: &[u8]) -> Result<Control, NoMemory>
     ensures { IfOk result (λ control. control ≡ answers.wrong_number usage.now) }
 {
-    let message = quoting(alloc, b"wrong # args: should be \"", usage)?;
+    let message = usages::wrong_number(alloc, usage)?;
     Ok(Control::Bad(message))
 }
 
@@ -18,7 +19,7 @@ pub(crate) fn wrong_number(alloc: Global, usage: &[u8]) -> Result<Control, NoMem
 pub(crate) fn bad_option(alloc: Global, word: &[u8]) -> Result<Control, NoMemory>
     ensures { IfOk result (λ control. control ≡ answers.bad_option word.now) }
 {
-    let message = quoting(alloc, b"bad option \"", word)?;
+    let message = usages::bad_option(alloc, word)?;
     Ok(Control::Bad(message))
 }
 
@@ -26,15 +27,6 @@ pub(crate) fn bad_option(alloc: Global, word: &[u8]) -> Result<Control, NoMemory
 pub(crate) fn bad_value(alloc: Global, word: &[u8]) -> Result<Control, NoMemory>
     ensures { IfOk result (λ control. control ≡ answers.bad_value word.now) }
 {
-    let message = quoting(alloc, b"bad value \"", word)?;
+    let message = usages::bad_value(alloc, word)?;
     Ok(Control::Bad(message))
-}
-
-fn quoting(alloc: Global, before: &[u8], quoted: &[u8]) -> Result<Text, NoMemory>
-    ensures { IfOk result (λ text. text ≡ before.now ++ (quoted.now ++ codes "\"")) }
-{
-    let mut text = Text::from_bytes(alloc, before)?;
-    text.push_bytes(quoted)?;
-    text.push_bytes(b"\"")?;
-    Ok(text)
 }

@@ -10,7 +10,7 @@ use crate::endings::{break_loop, continue_loop, error, return_value};
 use crate::evaluating::{catch, expression, for_loop, while_loop};
 use crate::turns::foreach;
 use std::alloc::Global;
-use tt_script::global_name;
+use tt_script::plain_name;
 use tt_text::{NoMemory, Text};
 
 /// What the words of a command mean, its name first. A leading `::` of the name is dropped.
@@ -24,15 +24,6 @@ pub fn read_control(alloc: Global, words: &[Text]) -> Result<Control, NoMemory>
     match words {
         [name, words @ ..] => by_command(alloc, command_of(plain_name(name.as_bytes())), words),
         [] => Ok(Control::Other),
-    }
-}
-
-fn plain_name(name: &[u8]) -> &[u8]
-    ensures { result.now ≡ table.plain_name name.now }
-{
-    match global_name(name) {
-        Some(name) => name,
-        None => name,
     }
 }
 

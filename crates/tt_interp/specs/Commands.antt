@@ -5,9 +5,10 @@ use Rattle.tt_calls.specs.declared.outcome.Outcome.{Outcome}
 use Rattle.tt_arrays.specs.Commands as arrays
 use Rattle.tt_levels.specs.Commands as levels
 use Rattle.tt_procedures.specs.Procedures as procedures
-use Rattle.tt_procedures.specs.Procedures.{Defines, call, names, plain_name}
+use Rattle.tt_procedures.specs.Procedures.{Defines, call, names}
 use Rattle.tt_procedures.specs.declared.calling.Called.{Called}
 use Rattle.tt_procedures.specs.declared.calling.Called.TheVariants as called
+use Rattle.tt_script.specs.Names.{plain_name}
 use Rattle.tt_store.specs.Commands as variables
 use Rattle.tt_store.specs.Held.{Calls, Held}
 use Rattle.tt_store.specs.declared.answers.Answer.{Answer}

@@ -3,12 +3,11 @@ ghost use Rattle.std.specs.Prelude.{◌≡◌, IfOk, codes, drop};
 ghost use Rattle.tt_interp.specs.Commands as commands;
 ghost use Rattle.tt_arrays.specs.Commands as arrays;
 ghost use Rattle.tt_levels.specs.Commands as levels;
-ghost use Rattle.tt_procedures.specs.Procedures.{plain_name};
 
 use crate::Kept;
 use std::alloc::Global;
 use tt_procedures::Called;
-use tt_script::global_name;
+use tt_script::plain_name;
 use tt_store::{Answer, Store};
 use tt_text::{NoMemory, Text};
 use tt_wants::Body;
@@ -98,7 +97,7 @@ fn names_command(name: &[u8], words: &[Text]) -> bool
     ensures { result ≡ commands.names_command name.now words.now }
 {
     match words {
-        [word, ..] => plain_name(word) == name,
+        [word, ..] => plain_name(word.as_bytes()) == name,
         [] => false,
     }
 }
@@ -128,14 +127,5 @@ fn after(words: &[Text], count: usize) -> &[Text]
         &words[count..]
     } else {
         &words[words.len()..]
-    }
-}
-
-fn plain_name(word: &Text) -> &[u8]
-    ensures { result.now ≡ plain_name word.now }
-{
-    match global_name(word.as_bytes()) {
-        Some(rest) => rest,
-        None => word.as_bytes(),
     }
 }

@@ -7,7 +7,7 @@ use Rattle.tt_store.specs.declared.answers.Answer.{Answer}
 use Rattle.tt_store.specs.declared.answers.Answer.TheVariants as answers
 use Rattle.tt_store.specs.Commands.{Coming}
 use Rattle.tt_store.specs.Held.{Held, begun_at}
-use Rattle.tt_store.specs.Messages.{wrong_number}
+use Rattle.tt_calls.specs.Usages.{wrong_number}
 use Rattle.tt_levels.specs.Counting.{IsFrame}
 use Rattle.tt_levels.specs.Messages.{bad_level}
 use Rattle.tt_levels.specs.Words.{is_levelled, parted}

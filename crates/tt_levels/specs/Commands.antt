@@ -5,7 +5,7 @@ use Rattle.tt_store.specs.declared.answers.Answer.{Answer}
 use Rattle.tt_store.specs.declared.answers.Answer.TheVariants as answers
 use Rattle.tt_store.specs.Commands.{Row, by_row, ends, row}
 use Rattle.tt_store.specs.Held.{Held}
-use Rattle.tt_store.specs.Spots.{plain_name}
+use Rattle.tt_script.specs.Names.{plain_name}
 use Rattle.tt_levels.specs.declared.command.Command.{Command}
 use Rattle.tt_levels.specs.declared.command.Command.TheVariants as command
 use Rattle.tt_levels.specs.Beginning.{uplevel}

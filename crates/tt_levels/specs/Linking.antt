@@ -7,7 +7,7 @@ use Rattle.tt_vars.specs.declared.answers.Linked.{Linked}
 use Rattle.tt_vars.specs.declared.answers.Linked.TheVariants.{Yes, Exists, Itself}
 use Rattle.tt_vars.specs.Variables.{Name}
 use Rattle.tt_store.specs.Held.{Fails, Held, LinksTo, Meaning, Refuses}
-use Rattle.tt_store.specs.Spots.{plain_name}
+use Rattle.tt_script.specs.Names.{plain_name}
 use Rattle.tt_levels.specs.Counting.{IsFrame}
 use Rattle.tt_levels.specs.Messages.{bad_level, bad_name, in_use, to_itself}
 use Rattle.tt_levels.specs.Words.{is_odd, parted}

@@ -7,7 +7,7 @@ use Rattle.tt_store.specs.declared.answers.Answer.TheVariants as answers
 use Rattle.tt_store.specs.Commands.{Coming}
 use Rattle.tt_store.specs.Held.{Held, IsThere, Refuses}
 use Rattle.tt_store.specs.Levels.{HasDepth}
-use Rattle.tt_store.specs.Messages.{bad_option, wrong_number}
+use Rattle.tt_calls.specs.Usages.{bad_option, wrong_number}
 use Rattle.tt_levels.specs.declared.telling.Topic.{Topic}
 use Rattle.tt_levels.specs.declared.telling.Topic.TheVariants as topic
 

@@ -2,14 +2,13 @@
 ghost use Rattle.std.specs.Prelude.{◌≡◌, ◌≤◌, ◌==◌, ◌||◌, IfOk, OnOk, is_some};
 ghost use Rattle.tt_levels.specs.Linking as linking;
 ghost use Rattle.tt_script.specs.Names.{element_of, global_of};
-ghost use Rattle.tt_store.specs.Spots.{plain_name};
 
 use crate::counting::{frame_of, is_global};
-use crate::messages::{bad_level, bad_name, in_use, to_itself, wrong_number};
+use crate::messages::{bad_level, bad_name, in_use, to_itself};
 use crate::words::{is_odd, parted};
 use std::alloc::Global;
 use tt_calls::Outcome;
-use tt_script::{global_name, split_name};
+use tt_script::{global_name, plain_name, split_name};
 use tt_store::Store;
 use tt_text::{NoMemory, Text};
 use tt_vars::Linked;
@@ -40,7 +39,7 @@ fn link_names(alloc: Global, store: &mut Store, names: &[Text]) -> Result<Option
 fn link_name(alloc: Global, store: &mut Store, word: &Text) -> Result<Option<Text>, NoMemory>
     ensures { IfOk result (λ message. linking.LinksName word.now store.old message store.new) }
 {
-    let local = plain_name(alloc, word)?;
+    let local = Text::from_bytes(alloc, plain_name(word.as_bytes()))?;
     let bad = is_element(&local);
     let message = link_one(alloc, store, bad, word, &local, 0, word)?;
     Ok(message)
@@ -56,7 +55,7 @@ pub(crate) fn upvar(
     ensures { IfOk result (λ outcome. linking.upvar usage.now words.now store.old outcome store.new) }
 {
     if words.len() < 2 {
-        return wrong_number(alloc, usage);
+        return Outcome::wrong_number(alloc, usage);
     }
     let (level, names) = parted(is_odd(words), words);
     let outcome = link_from(alloc, store, level, names)?;
@@ -167,14 +166,4 @@ fn is_global_name(name: &Text) -> bool
     ensures { result ≡ is_some (global_of name.now) }
 {
     global_name(name.as_bytes()).is_some()
-}
-
-/// A name without one leading `::`.
-pub(crate) fn plain_name(alloc: Global, word: &Text) -> Result<Text, NoMemory>
-    ensures { IfOk result (λ name. name ≡ plain_name word.now) }
-{
-    match global_name(word.as_bytes()) {
-        Some(rest) => Text::from_bytes(alloc, rest),
-        None => word.copy(),
-    }
 }

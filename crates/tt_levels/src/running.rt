@@ -6,12 +6,14 @@ ghost use Rattle.tt_store.specs.Commands.{by_row};
 
 use crate::command::{Command, command_of, row_of};
 use crate::counting::frame_of;
-use crate::linking::{global, plain_name, upvar};
-use crate::messages::{bad_level, wrong_number};
+use crate::linking::{global, upvar};
+use crate::messages::bad_level;
 use crate::telling::info;
 use crate::words::{is_levelled, parted};
 use std::alloc::Global;
+use tt_calls::Outcome;
 use tt_list_commands::concat;
+use tt_script::plain_name;
 use tt_store::{Answer, Store};
 use tt_text::{NoMemory, Text};
 use tt_wants::Body;
@@ -25,7 +27,7 @@ pub fn run(alloc: Global, store: &mut Store, words: &[Text]) -> Result<Answer, N
 {
     match words {
         [word, words @ ..] => {
-            let name = plain_name(alloc, word)?;
+            let name = Text::from_bytes(alloc, plain_name(word.as_bytes()))?;
             run_command(alloc, store, command_of(name.as_bytes()), words)
         }
         [] => Ok(Answer::Other),
@@ -72,7 +74,7 @@ fn uplevel(
     ensures { IfOk result (λ answer. beginning.uplevel usage.now words.now store.old answer store.new) }
 {
     if words.is_empty() {
-        return Ok(Answer::Outcome(wrong_number(alloc, usage)?));
+        return Ok(Answer::Outcome(Outcome::wrong_number(alloc, usage)?));
     }
     let (level, script) = parted(is_levelled(words), words);
     begin(alloc, store, level, script)

@@ -2,7 +2,6 @@
 ghost use Rattle.std.specs.Prelude.{◌≡◌, IfOk};
 ghost use Rattle.tt_levels.specs.Telling as telling;
 
-use crate::messages::{bad_option, wrong_number};
 use std::alloc::Global;
 use tt_calls::Outcome;
 use tt_lists::count_text;
@@ -28,7 +27,7 @@ pub(crate) fn info(
 {
     match words {
         [word, words @ ..] => tell(alloc, store, topic_of(word.as_bytes()), word, words),
-        [] => Ok(Answer::Outcome(wrong_number(alloc, usage)?)),
+        [] => Ok(Answer::Outcome(Outcome::wrong_number(alloc, usage)?)),
     }
 }
 
@@ -59,7 +58,7 @@ fn tell(
         Some(Topic::Exists) => Ok(Answer::Outcome(exists(alloc, store, words)?)),
         Some(Topic::Level) => Ok(Answer::Outcome(level(alloc, store, words)?)),
         Some(Topic::Procs) => Ok(Answer::Other),
-        None => Ok(Answer::Outcome(bad_option(alloc, word.as_bytes())?)),
+        None => Ok(Answer::Outcome(Outcome::bad_option(alloc, word.as_bytes())?)),
     }
 }
 
@@ -68,7 +67,7 @@ fn exists(alloc: Global, store: &Store, words: &[Text]) -> Result<Outcome, NoMem
 {
     match words {
         [name] => bit(alloc, store.exists(name)?),
-        _ => wrong_number(alloc, b"info exists varName"),
+        _ => Outcome::wrong_number(alloc, b"info exists varName"),
     }
 }
 
@@ -87,6 +86,6 @@ fn level(alloc: Global, store: &Store, words: &[Text]) -> Result<Outcome, NoMemo
             let text = count_text(alloc, store.depth() as usize)?;
             Ok(Outcome::fine(alloc, text))
         }
-        _ => wrong_number(alloc, b"info level"),
+        _ => Outcome::wrong_number(alloc, b"info level"),
     }
 }

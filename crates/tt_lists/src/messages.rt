@@ -1,9 +1,9 @@
-ghost use Rattle.std.specs.Prelude.{◌≡◌, ◌++◌, IfOk, codes};
+ghost use Rattle.std.specs.Prelude.{◌≡◌, IfOk};
 ghost use Rattle.tt_lists.specs.Messages.{bad_index_message, list_message};
 
 use crate::items::ListFault;
 use std::alloc::Global;
-use tt_text::{NoMemory, Text};
+use tt_text::{NoMemory, Text, quoting};
 
 impl ListFault {
     /// The text of the error that a command gives for this fault (Tcl(n), lists).
@@ -43,13 +43,4 @@ pub fn bad_index(alloc: Global, text: &[u8]) -> Result<Text, NoMemory>
         text,
         b"\": must be integer?[+-]integer? or end?[+-]integer?",
     )
-}
-
-fn quoting(alloc: Global, before: &[u8], quoted: &[u8], after: &[u8]) -> Result<Text, NoMemory>
-    ensures { IfOk result (λ text. text ≡ before.now ++ (quoted.now ++ after.now)) }
-{
-    let mut text = Text::from_bytes(alloc, before)?;
-    text.push_bytes(quoted)?;
-    text.push_bytes(after)?;
-    Ok(text)
 }

@@ -8,7 +8,7 @@ use Rattle.tt_procedures.specs.declared.calling.Called.{Called}
 use Rattle.tt_procedures.specs.declared.calling.Called.TheVariants.{Body, Wrong}
 use Rattle.tt_procedures.specs.declared.procedure.Parameter.{Parameter}
 use Rattle.tt_procedures.specs.declared.procedure.Procedure.{Procedure}
-use Rattle.tt_procedures.specs.Messages.{wrong_number}
+use Rattle.tt_calls.specs.Usages.{wrong_number}
 
 -- a last parameter `args` takes all words that are left
 abbrev pub takes_rest : Parameter → (later : List Parameter) → Bool

@@ -1,5 +1,5 @@
 -- Procedures by name: how they are defined and called, and which there are (proc(n), info(n)).
-use Rattle.std.specs.Prelude.{◌≡◌, ℕ, Bool, bytes_eq, List, [], ◌∷◌, codes, Option, None, Result, Ok, Err, unwrap_or}
+use Rattle.std.specs.Prelude.{◌≡◌, ℕ, Bool, bytes_eq, List, [], ◌∷◌, codes, Option, None, Result, Ok, Err}
 use Rattle.std.specs.List.{filter}
 use Rattle.std.specs.Map.{keys_of, lookup}
 use Rattle.std.specs.Option.{option_map}
@@ -9,21 +9,17 @@ use Rattle.tt_text.specs.GlobFunction.{is_match}
 use Rattle.tt_calls.specs.declared.outcome.Outcome.{Outcome}
 use Rattle.tt_calls.specs.Outcomes.{failed, fine}
 use Rattle.tt_lists.specs.Spelling.{list_of}
-use Rattle.tt_script.specs.Names.{global_of}
+use Rattle.tt_script.specs.Names.{plain_name}
 use Rattle.tt_procedures.specs.declared.calling.Called.{Called}
 use Rattle.tt_procedures.specs.declared.procedure.Parameter.{Parameter}
 use Rattle.tt_procedures.specs.declared.procedure.Procedure.{Procedure}
 use Rattle.tt_procedures.specs.Calling.{call_of}
-use Rattle.tt_procedures.specs.Messages.{wrong_number}
+use Rattle.tt_calls.specs.Usages.{wrong_number}
 use Rattle.tt_procedures.specs.Parameters.{parameters_of}
 
 -- pairs of a name and a procedure, in order of first definition
 abbrev pub Table : Type 0
 Table = List (List ℕ × Procedure)
-
--- the name that a word names a procedure by: without one leading `::`
-abbrev pub plain_name : (word : List ℕ) → List ℕ
-plain_name word = unwrap_or (global_of word) word
 
 -- the procedure that a word names
 abbrev pub named_by : (word : List ℕ) → Table → Option Procedure

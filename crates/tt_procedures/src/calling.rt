@@ -3,7 +3,6 @@ ghost use Rattle.std.specs.Prelude.{◌≡◌, ◌++◌, IfOk, OnOk};
 ghost use Rattle.std.specs.Option.{option_map};
 ghost use Rattle.tt_procedures.specs.Calling as calling;
 
-use crate::messages::wrong_number;
 use crate::procedure::{Parameter, Procedure};
 use std::alloc::Global;
 use std::marker::Model;
@@ -94,7 +93,7 @@ pub(crate) fn call_of(
         }
         None => {
             let usage = usage(word, procedure.parameters.as_slice())?;
-            let wrong = wrong_number(alloc, usage.as_bytes())?;
+            let wrong = Outcome::wrong_number(alloc, usage.as_bytes())?;
             Ok(Called::Wrong(wrong))
         }
     }

@@ -8,7 +8,6 @@ ghost use Rattle.tt_procedures.specs.Parameters.{parameters_of};
 ghost use Rattle.tt_procedures.specs.Procedures as procedures;
 
 use crate::calling::{Called, call_of};
-use crate::messages::wrong_number;
 use crate::procedure::{Parameters, Procedure};
 use crate::reading::parameters_of;
 use indexmap::IndexMap;
@@ -16,7 +15,7 @@ use std::alloc::Global;
 use std::marker::Model;
 use tt_calls::Outcome;
 use tt_lists::join_list;
-use tt_script::global_name;
+use tt_script::plain_name;
 use tt_text::{NoMemory, Text, Texts, glob};
 
 /// Procedures by name, in the order of their first definition. Contracts see the list of pairs of a name and a procedure.
@@ -58,7 +57,7 @@ impl Procedures {
         match words {
             [word, parameters, body] => self.define_by(word, parameters, body),
             _ => {
-                let outcome = wrong_number(*self.map.allocator(), b"proc name args body")?;
+                let outcome = Outcome::wrong_number(*self.map.allocator(), b"proc name args body")?;
                 Ok(outcome)
             }
         }
@@ -85,7 +84,7 @@ impl Procedures {
         ensures unchanged { OnErr result (self.new ≡ self.old) }
     {
         let alloc = *self.map.allocator();
-        let name = plain_name(alloc, word)?;
+        let name = Text::from_bytes(alloc, plain_name(word.as_bytes()))?;
         let body = body.copy()?;
         self.map.insert(name, Procedure { parameters, body })?;
         Ok(Outcome::fine(alloc, Text::new(alloc)))
@@ -113,7 +112,7 @@ impl Procedures {
     fn named_by(&self, word: &Text) -> Result<Option<&Procedure>, NoMemory>
         ensures { IfOk result (λ found. option_copied found ≡ procedures.named_by word.now self.now) }
     {
-        let name = plain_name(*self.map.allocator(), word)?;
+        let name = Text::from_bytes(*self.map.allocator(), plain_name(word.as_bytes()))?;
         Ok(self.map.get(&name))
     }
 
@@ -128,7 +127,10 @@ impl Procedures {
             [] => self.list_all(),
             [pattern] => self.list_like(pattern.as_bytes()),
             [_, _, ..] => {
-                let outcome = wrong_number(*self.map.allocator(), b"info procs ?pattern?")?;
+                let outcome = Outcome::wrong_number(
+                    *self.map.allocator(),
+                    b"info procs ?pattern?",
+                )?;
                 Ok(outcome)
             }
         }
@@ -159,16 +161,6 @@ impl Procedures {
             names.push(name.copy()?)?;
         }
         Ok(names)
-    }
-}
-
-/// The name that a word names a procedure by: without one leading `::`.
-fn plain_name(alloc: Global, word: &Text) -> Result<Text, NoMemory>
-    ensures { IfOk result (λ name. name ≡ procedures.plain_name word.now) }
-{
-    match global_name(word.as_bytes()) {
-        Some(rest) => Text::from_bytes(alloc, rest),
-        None => word.copy(),
     }
 }
 

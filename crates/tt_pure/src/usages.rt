@@ -1,8 +1,8 @@
-ghost use Rattle.std.specs.Prelude.{◌≡◌, ◌++◌, IfOk, codes};
+ghost use Rattle.std.specs.Prelude.{◌≡◌, IfOk};
 ghost use Rattle.tt_pure.specs.Usages.{bad_option, outcome_of, wrong_number};
 
 use std::alloc::Global;
-use tt_calls::Outcome;
+use tt_calls::{Outcome, usages};
 use tt_lists::ListAnswer;
 use tt_text::{NoMemory, Text};
 
@@ -10,7 +10,7 @@ use tt_text::{NoMemory, Text};
 pub(crate) fn wrong_number(alloc: Global, usage: &[u8]) -> Result<ListAnswer, NoMemory>
     ensures { IfOk result (λ answer. answer ≡ wrong_number usage.now) }
 {
-    let message = quoting(alloc, b"wrong # args: should be \"", usage)?;
+    let message = usages::wrong_number(alloc, usage)?;
     Ok(ListAnswer::Bad(message))
 }
 
@@ -18,17 +18,8 @@ pub(crate) fn wrong_number(alloc: Global, usage: &[u8]) -> Result<ListAnswer, No
 pub(crate) fn bad_option(alloc: Global, word: &[u8]) -> Result<ListAnswer, NoMemory>
     ensures { IfOk result (λ answer. answer ≡ bad_option word.now) }
 {
-    let message = quoting(alloc, b"bad option \"", word)?;
+    let message = usages::bad_option(alloc, word)?;
     Ok(ListAnswer::Bad(message))
-}
-
-fn quoting(alloc: Global, before: &[u8], quoted: &[u8]) -> Result<Text, NoMemory>
-    ensures { IfOk result (λ text. text ≡ before.now ++ (quoted.now ++ codes "\"")) }
-{
-    let mut text = Text::from_bytes(alloc, before)?;
-    text.push_bytes(quoted)?;
-    text.push_bytes(b"\"")?;
-    Ok(text)
 }
 
 /// How a command with this answer ends.

@@ -1,7 +1,7 @@
 -- Names of variables as commands are given them (Tcl(n), rule 8; set(n)).
 use Rattle.std.specs.Prelude.{◌≡◌, ℕ, ◌+◌, ◌-◌, ◌==◌, ◌↔◌, List, [], ◌∷◌, ◌++◌, length, take, drop, slice_range, Option, Some, None, if◌then◌else◌, nat_eq, codes}
 use Rattle.std.specs.List.{position_or_len, starts_with}
-use Rattle.std.specs.Option.{option_map}
+use Rattle.std.specs.Option.{option_map, unwrap_or}
 use Rattle.tt_script.specs.Reading.{index_start}
 
 -- a(b) names the element b of the array a: the index goes from the first `(` to a last `)`
@@ -21,3 +21,7 @@ ElementNameLaw = (name array index : List ℕ) → (element_of name ≡ Some (ar
 -- what a name with a leading `::` names in the whole program: the rest, after one such pair
 abbrev pub global_of : List ℕ → Option (List ℕ)
 global_of name = if starts_with nat_eq name (codes "::") then Some (drop 2 name) else None
+
+-- the name of a command or a procedure, without one leading `::`
+abbrev pub plain_name : (name : List ℕ) → List ℕ
+plain_name name = unwrap_or (global_of name) name

@@ -1,7 +1,7 @@
 //! Names of elements, and names with a leading `::`.
 ghost use Rattle.std.specs.Prelude.{◌≡◌, ◌+◌, ◌<◌, ◌==◌, IfOk, IfSome, length, position};
 ghost use Rattle.std.specs.Option.{option_map};
-ghost use Rattle.tt_script.specs.Names.{element_of, global_of};
+ghost use Rattle.tt_script.specs.Names.{element_of, global_of, plain_name};
 ghost use Rattle.tt_script.specs.Plain.{plain_part};
 ghost use Rattle.tt_script.specs.Reading as reading;
 
@@ -46,6 +46,16 @@ pub fn global_name(name: &[u8]) -> Option<&[u8]>
     ensures { option_map (λ rest. rest.now) result ≡ global_of name.now }
 {
     name.strip_prefix(b"::")
+}
+
+/// The name that a command or a procedure has in the whole program: without one leading `::`.
+pub fn plain_name(name: &[u8]) -> &[u8]
+    ensures { result.now ≡ plain_name name.now }
+{
+    match global_name(name) {
+        Some(rest) => rest,
+        None => name,
+    }
 }
 
 /// The variable of a name in braces: `a(b)` is an element of an array (Tcl(n), rule 8).

@@ -16,7 +16,7 @@ mod script;
 mod stop;
 
 pub use command::{Command, First, ParseFault, Part, Word};
-pub use elements::{global_name, split_name};
+pub use elements::{global_name, plain_name, split_name};
 pub use operands::{braced_text, quoted_parts, script_part, variable_part};
 pub use script::{DEPTH, first_command};
 

@@ -13,9 +13,9 @@ use Rattle.tt_store.specs.declared.command.Command.TheVariants as command
 use Rattle.tt_store.specs.Held.{Fails, Held, Meaning, Refuses, with_levels}
 use Rattle.tt_store.specs.Levels.{begun_in}
 use Rattle.tt_store.specs.Listed.{lappend, lassign}
-use Rattle.tt_store.specs.Messages.{bad_option, wrong_number}
+use Rattle.tt_calls.specs.Usages.{bad_option, wrong_number}
 use Rattle.tt_store.specs.Scalars.{append, incr, set, unset}
-use Rattle.tt_store.specs.Spots.{plain_name}
+use Rattle.tt_script.specs.Names.{plain_name}
 
 -- what words come to: an answer, and what is held then
 abbrev pub Coming : Type 1

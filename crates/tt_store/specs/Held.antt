@@ -14,7 +14,8 @@ use Rattle.tt_vars.specs.Variables.{Frame, Name}
 use Rattle.tt_store.specs.declared.spot.Spot.{Spot}
 use Rattle.tt_store.specs.declared.watch.Watch.{Watch}
 use Rattle.tt_store.specs.Levels.{Levels, begun_in, called, global_level, left, with_frames}
-use Rattle.tt_store.specs.Messages.{cannot_read, cannot_set, wrong_number}
+use Rattle.tt_calls.specs.Usages.{wrong_number}
+use Rattle.tt_store.specs.Messages.{cannot_read, cannot_set}
 use Rattle.tt_store.specs.Spots.{place_in, spot, spot_of, told}
 
 pub record Held : Type 0 where

@@ -3,14 +3,6 @@ use Rattle.std.specs.Prelude.{ℕ, List, ◌++◌, codes}
 use Rattle.tt_vars.specs.declared.answers.VarFault.{VarFault}
 use Rattle.tt_vars.specs.declared.answers.VarFault.TheVariants.{NoSuchVariable, NoSuchElement, IsArray, NotArray}
 
--- that words are too few or too many
-abbrev pub wrong_number : (usage : List ℕ) → List ℕ
-wrong_number usage = codes "wrong # args: should be \"" ++ (usage ++ codes "\"")
-
--- that a word is no option, or no subcommand
-abbrev pub bad_option : (word : List ℕ) → List ℕ
-bad_option word = codes "bad option \"" ++ (word ++ codes "\"")
-
 -- why a variable is not read, written or removed
 abbrev pub reason : VarFault → List ℕ
 reason NoSuchVariable = codes "\": no such variable"

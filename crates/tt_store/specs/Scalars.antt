@@ -16,7 +16,8 @@ use Rattle.tt_number.specs.Operators.{binary_of}
 use Rattle.tt_vars.specs.declared.answers.VarFault.{VarFault}
 use Rattle.tt_vars.specs.declared.answers.VarFault.TheVariants.{NoSuchVariable, NoSuchElement, IsArray, NotArray}
 use Rattle.tt_store.specs.Held.{Drops, Fails, Finds, Gives, Held, Meaning, Reads, Refuses}
-use Rattle.tt_store.specs.Messages.{bad_option, cannot_read, cannot_unset}
+use Rattle.tt_calls.specs.Usages.{bad_option}
+use Rattle.tt_store.specs.Messages.{cannot_read, cannot_unset}
 use Rattle.tt_store.specs.Spots.{spot_of}
 
 -- set(n)

@@ -1,5 +1,5 @@
 -- What names name: variables and elements, of the current frame or of the global one (Tcl(n), set(n)).
-use Rattle.std.specs.Prelude.{ℕ, true, false, List, ◌++◌, codes, Option, Some, None, if◌then◌else◌, unwrap_or}
+use Rattle.std.specs.Prelude.{ℕ, true, false, List, ◌++◌, codes, Option, Some, None, if◌then◌else◌}
 use Rattle.tt_script.specs.Names.{element_of, global_of}
 use Rattle.tt_vars.specs.declared.variable.Place.{Place}
 use Rattle.tt_vars.specs.Links.{place_of}
@@ -31,7 +31,3 @@ place_in current spot = place_of (if spot.global then 0 else current) spot.name 
 abbrev pub told : Name → Option Name → List ℕ
 told name None = name
 told name (Some index) = name ++ (codes "(" ++ (index ++ codes ")"))
-
--- the name of a command or a procedure, without one leading `::`
-abbrev pub plain_name : (word : Name) → Name
-plain_name word = unwrap_or (global_of word) word

@@ -5,14 +5,13 @@ ghost use Rattle.tt_pure.specs.Table as pure_table;
 ghost use Rattle.tt_store.specs.Commands as table;
 
 use crate::command::{Command, command_of, row_of};
-use crate::messages::{bad_option, quoting, wrong_number};
-use crate::spot::plain_name;
 use crate::{Answer, Store};
 use std::alloc::Global;
 use tt_calls::Outcome;
 use tt_list_commands::concat;
 use tt_pure::{is_pure, pure};
-use tt_text::{NoMemory, Text};
+use tt_script::plain_name;
+use tt_text::{NoMemory, Text, quoting};
 use tt_wants::Body;
 
 impl Store {
@@ -25,7 +24,7 @@ impl Store {
     {
         match words {
             [word, words @ ..] => {
-                let name = plain_name(self.alloc, word)?;
+                let name = Text::from_bytes(self.alloc, plain_name(word.as_bytes()))?;
                 self.run_command(&name, words)
             }
             [] => Ok(Answer::Outcome(Outcome::fine(self.alloc, Text::new(self.alloc)))),
@@ -73,7 +72,7 @@ impl Store {
         ensures { IfOk result (λ answer. table.eval usage.now words.now self.old answer self.new) }
     {
         if words.is_empty() {
-            return Ok(Answer::Outcome(wrong_number(self.alloc, usage)?));
+            return Ok(Answer::Outcome(Outcome::wrong_number(self.alloc, usage)?));
         }
         let text = concat(self.alloc, words)?;
         self.nesting.begin_here()?;
@@ -111,7 +110,7 @@ impl Store {
         ensures { IfOk result (λ outcome. table.PackageBy known usage.now word.now words.now self.now outcome self.now) }
     {
         if !known {
-            return bad_option(self.alloc, word.as_bytes());
+            return Outcome::bad_option(self.alloc, word.as_bytes());
         }
         match words {
             [name] => required(self.alloc, name),

@@ -11,7 +11,7 @@ ghost use Rattle.tt_store.specs.Messages as messages;
 ghost use Rattle.tt_store.specs.Scalars as scalars;
 
 use crate::Store;
-use crate::messages::{bad_option, cannot_read, cannot_unset};
+use crate::messages::{cannot_read, cannot_unset};
 use crate::spot::spot_of;
 use std::alloc::Global;
 use tt_calls::Outcome;
@@ -101,7 +101,7 @@ impl Store {
         ensures { IfOk result (λ outcome. scalars.UnsetsIf (scalars.first_unknown words.now) words.now self.old outcome self.new) }
     {
         match first_unknown(words) {
-            Some(word) => bad_option(self.alloc, word.as_bytes()),
+            Some(word) => Outcome::bad_option(self.alloc, word.as_bytes()),
             None => {
                 let front = front(words);
                 self.unset_all(front > 0, &words[front..])

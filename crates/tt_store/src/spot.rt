@@ -1,6 +1,6 @@
 ghost use Rattle.std.specs.Prelude.{◌≡◌, IfOk};
 ghost use Rattle.std.specs.Option.{option_copied};
-ghost use Rattle.tt_store.specs.Spots.{plain_name, spot, spot_of, told};
+ghost use Rattle.tt_store.specs.Spots.{spot, spot_of, told};
 
 use std::alloc::Global;
 use tt_script::{global_name, split_name};
@@ -64,14 +64,4 @@ pub(crate) fn told(alloc: Global, name: &[u8], index: Option<&[u8]>) -> Result<T
         text.push_bytes(b")")?;
     }
     Ok(text)
-}
-
-/// The name of a command or a procedure, without one leading `::`.
-pub(crate) fn plain_name(alloc: Global, word: &Text) -> Result<Text, NoMemory>
-    ensures { IfOk result (λ name. name ≡ plain_name word.now) }
-{
-    match global_name(word.as_bytes()) {
-        Some(rest) => Text::from_bytes(alloc, rest),
-        None => word.copy(),
-    }
 }

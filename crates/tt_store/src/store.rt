@@ -2,7 +2,7 @@ ghost use Rattle.std.specs.Prelude.{◌≡◌, IfOk, OnOk, OnErr};
 ghost use Rattle.std.specs.Option.{option_copied};
 ghost use Rattle.tt_store.specs.Held as held;
 
-use crate::messages::{cannot_read, cannot_set, wrong_number};
+use crate::messages::{cannot_read, cannot_set};
 use crate::nesting::Nesting;
 use crate::spot::{Spot, spot_named, spot_of, told};
 use crate::watch::{Watch, mark};
@@ -176,7 +176,7 @@ impl Store {
     pub(crate) fn refuse(&self, usage: &[u8]) -> Result<Outcome, NoMemory>
         ensures { IfOk result (λ outcome. held.Refuses usage.now self.now outcome self.now) }
     {
-        let outcome = wrong_number(self.alloc, usage)?;
+        let outcome = Outcome::wrong_number(self.alloc, usage)?;
         Ok(outcome)
     }
 }

@@ -1,5 +1,5 @@
 //! What is told, and which names are like a pattern.
-ghost use Rattle.std.specs.Prelude.{◌≡◌, ◌++◌, [], IfOk};
+ghost use Rattle.std.specs.Prelude.{◌≡◌, [], IfOk};
 ghost use Rattle.std.specs.Option.{option_copied};
 ghost use Rattle.tt_calls.specs.declared.reply.Reply.TheVariants.{Refused, Value};
 ghost use Rattle.tt_lists.specs.Spelling.{list_of};
@@ -9,7 +9,7 @@ ghost use Rattle.tt_tsv.specs.Elements as elements;
 use std::alloc::Global;
 use tt_calls::Reply;
 use tt_lists::{ListAnswer, join_list};
-use tt_text::{NoMemory, Text, Texts, glob};
+use tt_text::{NoMemory, Text, Texts, glob, quoting};
 
 /// That an array has no element of this key.
 pub(crate) fn missing_message(alloc: Global, array: &Text, key: &Text) -> Result<Text, NoMemory>
@@ -22,15 +22,6 @@ pub(crate) fn missing_message(alloc: Global, array: &Text, key: &Text) -> Result
         key.as_bytes(),
         in_array.as_bytes(),
     )
-}
-
-fn quoting(alloc: Global, before: &[u8], name: &[u8], after: &[u8]) -> Result<Text, NoMemory>
-    ensures { IfOk result (λ text. text ≡ before.now ++ (name.now ++ after.now)) }
-{
-    let mut text = Text::from_bytes(alloc, before)?;
-    text.push_bytes(name)?;
-    text.push_bytes(after)?;
-    Ok(text)
 }
 
 /// The same, as a reply.
