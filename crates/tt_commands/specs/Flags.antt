@@ -52,7 +52,8 @@ cut count words meaning = meaning (take count words) (drop count words)
 
 -- a word before the last ones that is meant as an option, and is none, is an error
 abbrev pub by_options :
-    (known : List Flag) → (required : ℕ) → (words : List (List ℕ)) → (meaning : (options after : List (List ℕ)) → Call) → Call
+    (known : List Flag) → (required : ℕ) → (words : List (List ℕ)) →
+    (meaning : (options after : List (List ℕ)) → Call) → Call
 by_options known required words meaning =
     elim (first_unknown known (before_last required words)) [
       | Some word ↦ bad_option word

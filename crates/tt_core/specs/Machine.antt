@@ -25,8 +25,8 @@ pub record Thread : Type 0 where
   pub start : Start
   pub replies : List Reply
 
--- the machine: how the run began, what the threads share, the threads by number from 1, and what was written on standard
--- output and on standard error
+-- the machine: how the run began, what the threads share, the threads by number from 1, and what was written on
+-- standard output and on standard error
 pub record Machine : Type 0 where
   pub beginning : Beginning
   pub shared : State

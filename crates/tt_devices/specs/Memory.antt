@@ -22,7 +22,8 @@ FailsNext plan = Contains plan.failing (one_more plan.calls)
 
 -- the plan after one more call, which failed or did not
 abbrev pub after_call : Plan → Bool → Plan
-after_call plan failed = record plan { calls = one_more plan.calls; faults = if failed then one_more plan.faults else plan.faults }
+after_call plan failed =
+    record plan { calls = one_more plan.calls; faults = if failed then one_more plan.faults else plan.faults }
 
 -- a source in memory: what is left of its bytes
 pub record Supply : Type 0 where

@@ -1,4 +1,5 @@
--- Commands that ask what the threads share, and what follows the replies (thread(n), tsv(n), tpool(n), puts(n), gets(n)).
+-- Commands that ask what the threads share, and what follows the replies (thread(n), tsv(n), tpool(n), puts(n),
+-- gets(n)).
 use Rattle.std.specs.Prelude.{ℕ, Bool, true, false, List, [], ◌∷◌, ◌++◌, codes, length, decimal, Option, Some, None}
 use Rattle.tt_calls.specs.declared.chan_call.ChanCall.{ChanCall}
 use Rattle.tt_calls.specs.declared.chan_call.ChanCall.TheVariants as chan
@@ -41,8 +42,8 @@ answer (reply.Answer outcome) = of_outcome outcome
 answer reply.Died = failed died
 answer reply = fine []
 
--- a reply that a variable gets, with the command's answer: of gets(n) how many characters, or -1 at the end; of tsv::get
--- whether there is one; of tpool::cancel the jobs that are removed
+-- a reply that a variable gets, with the command's answer: of gets(n) how many characters, or -1 at the end; of
+-- tsv::get whether there is one; of tpool::cancel the jobs that are removed
 abbrev pub kept_in : (name : List ℕ) → Reply → Then
 kept_in name (reply.Line line) = stored (Some name) line (decimal (length (characters line)))
 kept_in name reply.LineEnd = stored (Some name) [] (codes "-1")

@@ -69,7 +69,8 @@ assigning names (name ∷ left) (value ∷ values) body state =
 
 -- a turn
 abbrev pub turning : Loop → Then
-turning (While test body) state = Calls None (job.Expression Condition test) state (on_truth (bodily (While test body)) done)
+turning (While test body) state =
+    Calls None (job.Expression Condition test) state (on_truth (bodily (While test body)) done)
 turning (For test next body) state =
     Calls None (job.Expression Condition test) state (on_truth (bodily (For test next body)) done)
 turning (Foreach names values body) state = assigning names names values body state

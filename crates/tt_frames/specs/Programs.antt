@@ -10,8 +10,8 @@ use Rattle.tt_script.specs.declared.command.ParseFault.{ParseFault}
 use Rattle.tt_frames.specs.declared.program.Step.{Step}
 use Rattle.tt_frames.specs.declared.program.Step.TheVariants as code
 
--- a command of a script: one that can't be read, at its first byte; or what its words need, with the places of its first
--- byte and after its last word
+-- a command of a script: one that can't be read, at its first byte; or what its words need, with the places of its
+-- first byte and after its last word
 pub data PlainStep : Type 0 where
   Wrong : ParseFault → (start : ℕ) → PlainStep
   Does : Needs → (start end : ℕ) → PlainStep

@@ -1,5 +1,5 @@
--- Units: each command, each turn of a loop and each event that is asked for spends one of those that a thread may spend;
--- after each stretch of them it pauses.
+-- Units: each command, each turn of a loop and each event that is asked for spends one of those that a thread may
+-- spend; after each stretch of them it pauses.
 use Rattle.std.specs.Prelude.{ℕ, ◌+◌, ◌%◌, ◌==◌, nat_le, false, if◌then◌else◌, List, codes}
 use Rattle.tt_calls.specs.declared.request.Request.TheVariants.{Pause}
 use Rattle.tt_plans.specs.Plans.{Asks}

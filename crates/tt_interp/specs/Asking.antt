@@ -1,4 +1,5 @@
--- What a thread asks next: its evaluation gets what it wants from what is kept, and replies to what it asks (thread(n)).
+-- What a thread asks next: its evaluation gets what it wants from what is kept, and replies to what it asks
+-- (thread(n)).
 use Rattle.std.specs.Prelude.{ℕ, pos, ◌≡◌, Bool, true, false, IsTrue, List, [], ◌∷◌}
 use Rattle.tt_calls.specs.declared.outcome.Code.{Code}
 use Rattle.tt_calls.specs.declared.outcome.Code.TheVariants as code

@@ -96,8 +96,8 @@ creates table least most init exit room =
       gives = workers_made (new_id table) (new_pool most least init exit) least (Value (new_id table));
     }
 
--- tpool::post: the job is queued; where more jobs are unfinished than there are workers, one worker is made, if the pool
--- may have it and there is room
+-- tpool::post: the job is queued; where more jobs are unfinished than there are workers, one worker is made, if the
+-- pool may have it and there is room
 abbrev pub wants_worker : Pool → (room : ℕ) → Bool
 wants_worker pool room = nat_lt pool.workers (unfinished pool.jobs) && (nat_lt pool.workers pool.most && nat_lt 0 room)
 

@@ -41,13 +41,17 @@ IsSearchWith wrong (Some how) list pattern answer = answer ≡ search_answer how
 IsSearchWith wrong None list pattern answer = answer ≡ wrong
 
 -- the answer to options and what follows them: a word that is meant as an option and is none comes first
-abbrev pub IsSearchBy : (wrong : ListAnswer) → (unknown : Option (List ℕ)) → (options : List (List ℕ)) → (list pattern : List ℕ) → ListAnswer → Type 0
+abbrev pub IsSearchBy :
+    (wrong : ListAnswer) → (unknown : Option (List ℕ)) → (options : List (List ℕ)) →
+    (list pattern : List ℕ) → ListAnswer → Type 0
 IsSearchBy wrong (Some word) options list pattern answer = answer ≡ bad_option word
-IsSearchBy wrong None options list pattern answer = IsSearchWith wrong (with_flags plain_search options) list pattern answer
+IsSearchBy wrong None options list pattern answer =
+    IsSearchWith wrong (with_flags plain_search options) list pattern answer
 
 -- the answer to words before the last two, and those two
 abbrev pub IsSearchOf : (wrong : ListAnswer) → (options last : List (List ℕ)) → ListAnswer → Type 0
-IsSearchOf wrong options (list ∷ pattern ∷ []) answer = IsSearchBy wrong (first_unknown search_flags options) options list pattern answer
+IsSearchOf wrong options (list ∷ pattern ∷ []) answer =
+    IsSearchBy wrong (first_unknown search_flags options) options list pattern answer
 IsSearchOf wrong options last answer = answer ≡ wrong
 
 -- lsearch(n)

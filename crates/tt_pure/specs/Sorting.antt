@@ -40,7 +40,9 @@ IsSortWith wrong (Some how) list answer = IsSortAnswer how list answer
 IsSortWith wrong None list answer = answer ≡ wrong
 
 -- the answer to options and what follows them: a word that is meant as an option and is none comes first
-abbrev pub IsSortBy : (wrong : ListAnswer) → (unknown : Option (List ℕ)) → (options : List (List ℕ)) → (list : List ℕ) → ListAnswer → Type 0
+abbrev pub IsSortBy :
+    (wrong : ListAnswer) → (unknown : Option (List ℕ)) → (options : List (List ℕ)) →
+    (list : List ℕ) → ListAnswer → Type 0
 IsSortBy wrong (Some word) options list answer = answer ≡ bad_option word
 IsSortBy wrong None options list answer = IsSortWith wrong (with_flags plain_sort options) list answer
 

@@ -74,7 +74,9 @@ equal_answer wrong words = wrong
 -- string match
 abbrev pub IsMatchAnswer : (wrong : ListAnswer) → (words : List (List ℕ)) → ListAnswer → Type 0
 IsMatchAnswer wrong (pattern ∷ text ∷ []) answer =
-    (matches : Bool) × (IsTrue matches ↔ Matches (characters pattern) (characters text)) × (answer ≡ Made (truth matches))
+    (matches : Bool)
+    × (IsTrue matches ↔ Matches (characters pattern) (characters text))
+    × (answer ≡ Made (truth matches))
 IsMatchAnswer wrong words answer = answer ≡ wrong
 
 -- a place, and -1 where there is none

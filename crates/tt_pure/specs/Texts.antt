@@ -23,7 +23,9 @@ join wrong words = wrong
 -- a text split at characters
 abbrev pub IsSplitAt : (text splitting : List ℕ) → ListAnswer → Type 0
 IsSplitAt text splitting answer =
-    (fields : List (List ℕ)) × IsSplitInto (characters splitting) (characters text) fields × (answer ≡ Made (list_of fields))
+    (fields : List (List ℕ))
+    × IsSplitInto (characters splitting) (characters text) fields
+    × (answer ≡ Made (list_of fields))
 
 -- split(n): without characters, at white space
 abbrev pub IsSplitAnswer : (wrong : ListAnswer) → (words : List (List ℕ)) → ListAnswer → Type 0

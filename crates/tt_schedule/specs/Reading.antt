@@ -26,4 +26,7 @@ pub record StopsBefore (text : List ℕ) (left : ℕ) : Type 0 where
 -- what the lines say: the runs that they stand for, or that they are no lines of a schedule
 abbrev pub ReadsLines : List ℕ → ReadLines → Type 0
 ReadsLines text (Good runs) = AreRuns 0 runs.items × (text ≡ flat_map line_text (lines_from 0 runs.items))
-ReadsLines text (Wrong left) = (left ≤ length text) × StopsBefore text left × ((lines : List Line) → AreLines lines → text ≢ flat_map line_text lines)
+ReadsLines text (Wrong left) =
+    (left ≤ length text)
+    × StopsBefore text left
+    × ((lines : List Line) → AreLines lines → text ≢ flat_map line_text lines)

@@ -70,7 +70,8 @@ OnePlaceLaw = (text : List ℕ) (place other : ℕ) → IsFirstWrong text place 
 
 -- a text is that of one list of thread numbers at most
 abbrev pub OneListLaw : Type 0
-OneListLaw = (text threads others : List ℕ) → IsScheduleText text threads → IsScheduleText text others → threads ≡ others
+OneListLaw =
+    (text threads others : List ℕ) → IsScheduleText text threads → IsScheduleText text others → threads ≡ others
 
 -- and such a list has one text
 abbrev pub OneTextLaw : Type 0

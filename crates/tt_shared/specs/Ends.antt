@@ -51,9 +51,9 @@ exit_code code = unsigned_abs (int_rem_euclid code (pos 256))
 abbrev pub over_after : Option ℕ → ℕ → ℤ → Option ℕ
 over_after over t code = if t == 1 then Some (exit_code code) else over
 
--- The thread has ended with its code; whoever waits for an answer of it is told that it died; its queue is emptied; as a
--- worker its job has failed; its channels are closed, and those that were on their way to it go back. Locks and arrays
--- that it holds stay held.
+-- The thread has ended with its code; whoever waits for an answer of it is told that it died; its queue is emptied; as
+-- a worker its job has failed; its channels are closed, and those that were on their way to it go back. Locks and
+-- arrays that it holds stay held.
 abbrev pub ended : State → ℕ → ℤ → State
 ended state t code = record state {
   over = over_after state.over t code;

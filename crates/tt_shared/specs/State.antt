@@ -17,9 +17,9 @@ use Rattle.tt_threads.specs.declared.row.Life.TheVariants.{Live, Marked, Ended}
 use Rattle.tt_threads.specs.declared.row.Row.{Row}
 use Rattle.tt_tsv.specs.Arrays.{Table}
 
--- What the threads share: the code of the ended run; the threads and their queues, by number from 1; the posts that wait
--- for an answer; arrays, locks, pools and channels; the procedure that errors are reported to; and whether the end of
--- standard input was met.
+-- What the threads share: the code of the ended run; the threads and their queues, by number from 1; the posts that
+-- wait for an answer; arrays, locks, pools and channels; the procedure that errors are reported to; and whether the
+-- end of standard input was met.
 pub record State : Type 0 where
   pub over : Option ℕ
   pub rows : List Row

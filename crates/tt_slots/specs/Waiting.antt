@@ -61,4 +61,5 @@ abbrev pub died_with : ℕ → Slot → Slot
 died_with target slot = if slot.target == target && is_waiting slot.state then put_state Died slot else slot
 
 abbrev pub after_end : OpenSlots → ℕ → OpenSlots
-after_end slots target = record slots { open_slots = map (λ entry. (entry.0, died_with target entry.1)) slots.open_slots }
+after_end slots target =
+    record slots { open_slots = map (λ entry. (entry.0, died_with target entry.1)) slots.open_slots }

@@ -98,7 +98,12 @@ joins rows asker text (Some number) =
 -- the exit code of a thread that has ended
 abbrev pub exits : List Row → Option Row → Answered
 exits rows None = is_not_asked rows
-exits rows (Some row) = elim row.life [ Live ↦ is_not_asked rows | Marked ↦ is_not_asked rows | Ended code ↦ answers rows (signed_decimal code) ]
+exits rows (Some row) =
+    elim row.life [
+        Live ↦ is_not_asked rows
+      | Marked ↦ is_not_asked rows
+      | Ended code ↦ answers rows (signed_decimal code)
+    ]
 
 -- ---- thread::configure ----
 

@@ -48,7 +48,8 @@ with_row rows number row = slice_set rows (number - 1) row
 abbrev pub found_from : (Life → Bool) → ℕ → List Row → List ℕ → Option ℕ
 found_from counts number [] text = None
 found_from counts number (row ∷ rows) text =
-    if counts row.life && bytes_eq text (id Thread number) then Some number else found_from counts (suc number) rows text
+    if counts row.life && bytes_eq text (id Thread number) then Some number
+    else found_from counts (suc number) rows text
 
 -- the linked thread of this id
 abbrev pub linked : List Row → List ℕ → Option ℕ

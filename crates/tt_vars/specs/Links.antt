@@ -161,7 +161,8 @@ link_answer frames frame name whole stands =
 
 -- the frames after a link
 abbrev pub linked_by : Linked → List Frame → ℕ → Name → Option Place → List Frame
-linked_by answers.Yes frames frame name stands = with_frame frames frame (with (frame_at frames frame) name (Link stands))
+linked_by answers.Yes frames frame name stands =
+    with_frame frames frame (with (frame_at frames frame) name (Link stands))
 linked_by answers.Exists frames frame name stands = frames
 linked_by answers.Itself frames frame name stands = frames
 
