@@ -16,7 +16,7 @@ abbrev pub replay_of : List ℕ → List ℕ → List ℕ → Option Replay
 replay_of option schedule script =
     if bytes_eq option (codes "--replay") then
     (if is_empty schedule then None
-     else (if is_empty script then None else Some (record { schedule = schedule; script = script })))
+    else (if is_empty script then None else Some (record { schedule = schedule; script = script })))
     else None
 
 -- exactly three words: the option, the name of the schedule, and the name of the script

@@ -122,9 +122,9 @@ thread_row thread.Exists = row (codes "thread::exists") (codes "thread::exists i
 thread_row thread.Join = row (codes "thread::join") (codes "thread::join id") (by_words join)
 thread_row thread.Configure =
     row
-        (codes "thread::configure")
-        (codes "thread::configure id ?option? ?value? ?option value ...?")
-        (by_words configure)
+    (codes "thread::configure")
+    (codes "thread::configure id ?option? ?value? ?option value ...?")
+    (by_words configure)
 thread_row thread.ErrorProc = row (codes "thread::errorproc") (codes "thread::errorproc ?name?") (by_words errorproc)
 thread_row thread.Send =
     row (codes "thread::send") (codes "thread::send ?-async? ?-head? id script ?varname?") send

@@ -155,9 +155,9 @@ order_with (Ok a) (Ok b) texts = Ok (order_by a b texts)
 abbrev pub order_of : List (List ℕ) → Result Ordering Refusal
 order_of operands =
     order_with
-        (comparand (first operands))
-        (comparand (second operands))
-        (slice_cmp nat_cmp (first operands) (second operands))
+    (comparand (first operands))
+    (comparand (second operands))
+    (slice_cmp nat_cmp (first operands) (second operands))
 
 -- one of `< > <= >= == !=`, by the orders at which it holds
 abbrev pub test_order : (Ordering → Bool) → Result Ordering Refusal → Result ℤ Refusal

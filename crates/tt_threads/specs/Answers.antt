@@ -100,7 +100,7 @@ abbrev pub exits : List Row → Option Row → Answered
 exits rows None = is_not_asked rows
 exits rows (Some row) =
     elim row.life [
-        Live ↦ is_not_asked rows
+      | Live ↦ is_not_asked rows
       | Marked ↦ is_not_asked rows
       | Ended code ↦ answers rows (signed_decimal code)
     ]
