@@ -143,11 +143,13 @@ fn post_of(event: &Event) -> Option<u64>
     ensures { result ≡ events.post_of event.now }
 {
     match event {
-        Event::Script {
-            n,
-            answer: true,
-            ..
-        } => Some(*n),
-        Event::Script { .. } | Event::SetVar { .. } | Event::Moved { .. } | Event::Stop => None,
+        Event::Script { n, answer, .. } => answered_post(*n, *answer),
+        Event::SetVar { .. } | Event::Moved { .. } | Event::Stop => None,
     }
+}
+
+fn answered_post(n: u64, answer: bool) -> Option<u64>
+    ensures { result ≡ events.answered_post n answer }
+{
+    if answer { Some(n) } else { None }
 }
