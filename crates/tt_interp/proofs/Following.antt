@@ -12,7 +12,7 @@ use Rattle.tt_frames.specs.declared.job.Frame.{Frame}
 use Rattle.tt_frames.specs.declared.job.Job.TheVariants as job
 use Rattle.tt_frames.specs.declared.state.Counts.{Counts}
 use Rattle.tt_plans.specs.Evaluation.{eval}
-use Rattle.tt_plans.specs.Frames.{after_answer, is_waiting, wants}
+use Rattle.tt_plans.specs.Frames.{after_answer}
 use Rattle.tt_plans.specs.declared.stack.Halt.{Halt}
 use Rattle.tt_plans.specs.declared.stack.Halt.TheVariants.{Wants}
 use Rattle.tt_plans.specs.declared.stack.Stack.{Stack}
@@ -23,7 +23,7 @@ use Rattle.tt_wants.specs.declared.want.Want.{Want}
 use Rattle.tt_interp.specs.Answering.{Answers}
 use Rattle.tt_interp.specs.Asking.{AsksNext, Coming, goes_on, having, asks, replied, answered, ends}
 use Rattle.tt_interp.specs.Beginning.{Begins}
-use Rattle.tt_interp.specs.Interps.{GoesOnFrom, IsLast, LeadsTo, StandsFor, after_got, coming, halt_of, halted, is_halted, serving_of, standing_of}
+use Rattle.tt_interp.specs.Interps.{GoesOnFrom, IsLast, LeadsTo, StandsFor, after_got, coming, halt_of, halted, serving_of, standing_of}
 use Rattle.tt_interp.specs.declared.interp.Standing.{Standing}
 use Rattle.tt_interp.specs.declared.interp.Standing.TheVariants as standing
 use Rattle.tt_interp.specs.declared.kept.Kept.{Kept}
@@ -69,16 +69,14 @@ settled {before = before} {held = held} halt other stack kept is leads =
     subst (λ h. LeadsTo (halted h stack) kept before held) is leads
 
 -- what was reached stands where its stack halts
-pub stood : {before : Coming} {held kept : Kept} (reached : Reached) (stack : Stack Counts Frame Asking)
+pub stood : {before : Coming} {held kept : Kept} (next : Standing) (reached : Reached) (stack : Stack Counts Frame Asking)
+    → next ≡ standing_of reached stack
     → LeadsTo (halted (halt_of reached) stack) kept before held
-    → LeadsTo (coming (standing_of reached stack)) kept before held
-stood (reached.Asks request) stack leads = leads
-stood (reached.Over ending) stack leads = leads
-
-pub stood_waits : (reached : Reached) (stack : Stack Counts Frame Asking)
-    → wants (halt_of reached) ≡ is_waiting stack → IsTrue (is_halted (standing_of reached stack))
-stood_waits (reached.Asks request) stack waits = sym waits
-stood_waits (reached.Over ending) stack waits = refl
+    → LeadsTo (coming next) kept before held
+stood {before} {held} {kept} next (reached.Asks request) stack is leads =
+    subst (λ s. LeadsTo (coming s) kept before held) (sym is) leads
+stood {before} {held} {kept} next (reached.Over ending) stack is leads =
+    subst (λ s. LeadsTo (coming s) kept before held) (sym is) leads
 
 pub begun_settled : (halt : Halt Want Ending) (stack : Stack Counts Frame Asking) (start : Start) (me limit : ℕ) (kept new : Kept) (next : Coming)
     → LeadsTo next new (halted halt stack) kept

@@ -1,16 +1,17 @@
 //! An evaluation goes on with what it gets here, up to a request or its end.
 ghost use Rattle.std.specs.Prelude.{◌≡◌, IfOk, IsTrue, Some};
+ghost use Rattle.tt_interp.specs.Asking.{goes_on};
 ghost use Rattle.tt_interp.specs.Interps as interps;
 ghost use Rattle.tt_interp.specs.declared.interp.Standing.TheVariants as standing;
 ghost use Rattle.tt_plans.specs.Frames.{is_waiting, wants};
 ghost use Rattle.tt_plans.specs.declared.stack.Halt.TheVariants.{Wants};
 ghost use Rattle.tt_wants.specs.declared.got.Got.TheVariants as gots;
 
-use crate::{Kept, Standing};
+use crate::{Kept, Paused, Standing};
 use std::alloc::Global;
 use tt_calls::{Boxed, Reply, Request, Start};
 use tt_endings::Ending;
-use tt_frames::{Got, Stack, Want, begin, turn};
+use tt_frames::{Got, Want};
 use tt_plans::Halt;
 use tt_text::NoMemory;
 
@@ -39,7 +40,9 @@ pub(crate) fn resumed(
 {
     match (standing, reply) {
         (Standing::Fresh { start, me, limit }, None) => begun(alloc, kept, start, me, limit),
-        (Standing::Asks { stack, .. }, Some(reply)) => replied(alloc, kept, stack, reply),
+        (Standing::Asks { stack, request }, Some(reply)) => {
+            replied(alloc, kept, stack, request, reply)
+        }
         _ => Err(NoMemory),
     }
 }
@@ -54,15 +57,22 @@ fn begun(
     ensures leads { IfOk result (λ next. interps.LeadsTo (interps.coming next) kept.new (interps.coming (standing.Fresh start me limit)) kept.old) }
     ensures halts { IfOk result (λ next. IsTrue (interps.is_halted next)) }
 {
-    let (stack, halt) = begin(alloc, start, me, limit)?;
+    let (stack, halt) = Paused::begin(alloc, start, me, limit)?;
     let mut stack = stack;
     let reached = settle(alloc, kept, &mut stack, halt)?;
     Ok(standing_of(reached, stack))
 }
 
-fn replied(alloc: Global, kept: &mut Kept, stack: Stack, reply: Reply) -> Result<Standing, NoMemory>
-    requires { IsTrue (is_waiting stack) }
-    ensures leads { IfOk result (λ next. interps.LeadsTo (interps.coming next) kept.new (interps.after_got stack (gots.Reply reply)) kept.old) }
+fn replied(
+    alloc: Global,
+    kept: &mut Kept,
+    stack: Paused,
+    request: Boxed<Request>,
+    reply: Reply,
+) -> Result<Standing, NoMemory>
+    requires waits { IsTrue (is_waiting stack) }
+    requires goes_on { IsTrue (goes_on request) }
+    ensures leads { IfOk result (λ next. interps.GoesOnFrom (interps.coming next) kept.new (interps.coming (standing.Asks stack request)) kept.old (Some reply)) }
     ensures halts { IfOk result (λ next. IsTrue (interps.is_halted next)) }
 {
     let mut stack = stack;
@@ -70,7 +80,7 @@ fn replied(alloc: Global, kept: &mut Kept, stack: Stack, reply: Reply) -> Result
     Ok(standing_of(reached, stack))
 }
 
-fn standing_of(reached: Reached, stack: Stack) -> Standing
+fn standing_of(reached: Reached, stack: Paused) -> Standing
     ensures { result ≡ interps.standing_of reached stack }
 {
     match reached {
@@ -82,14 +92,14 @@ fn standing_of(reached: Reached, stack: Stack) -> Standing
 fn go_on_with(
     alloc: Global,
     kept: &mut Kept,
-    stack: &mut Stack,
+    stack: &mut Paused,
     reply: Reply,
 ) -> Result<Reached, NoMemory>
     requires { IsTrue (is_waiting stack.old) }
     ensures leads { IfOk result (λ reached. interps.LeadsTo (interps.halted (interps.halt_of reached) stack.new) kept.new (interps.after_got stack.old (gots.Reply reply)) kept.old) }
     ensures waiting { IfOk result (λ reached. wants (interps.halt_of reached) ≡ is_waiting stack.new) }
 {
-    let halt = turn(alloc, stack, Got::Reply(reply))?;
+    let halt = stack.turn(alloc, Got::Reply(reply))?;
     let reached = settle(alloc, kept, stack, halt)?;
     Ok(reached)
 }
@@ -98,7 +108,7 @@ fn go_on_with(
 fn settle(
     alloc: Global,
     kept: &mut Kept,
-    stack: &mut Stack,
+    stack: &mut Paused,
     halt: Halt<Want, Ending>,
 ) -> Result<Reached, NoMemory>
     requires { wants halt ≡ is_waiting stack.old }
@@ -119,7 +129,7 @@ fn settle(
 fn go_on(
     alloc: Global,
     kept: &mut Kept,
-    stack: &mut Stack,
+    stack: &mut Paused,
     want: Want,
 ) -> Result<Halt<Want, Ending>, NoMemory>
     requires { IsTrue (is_waiting stack.old) }
@@ -127,6 +137,6 @@ fn go_on(
     ensures waiting { IfOk result (λ halt. wants halt ≡ is_waiting stack.new) }
 {
     let got = kept.answer(alloc, want)?;
-    let halt = turn(alloc, stack, got)?;
+    let halt = stack.turn(alloc, got)?;
     Ok(halt)
 }
