@@ -8,6 +8,8 @@ pub(crate) struct Row {
     pub(crate) name: Text,
     /// The number of the thread.
     pub(crate) me: u32,
+    /// How many units it may spend.
+    pub(crate) limit: u64,
     /// Its script.
     pub(crate) script: Vec<u8>,
     /// What is asked, in turn.
@@ -31,6 +33,7 @@ impl Row {
         Ok(Row {
             name: Text::from_bytes(alloc, name)?,
             me: 1,
+            limit: 1 << 62,
             script: Vec::new(alloc),
             exchanges: Vec::new(alloc),
             open: false,

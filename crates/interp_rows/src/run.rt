@@ -37,7 +37,7 @@ fn begin(alloc: Global, row: &Row) -> Result<Interp, NoMemory> {
         script: Text::from_bytes(alloc, row.text())?,
         name: Text::from_bytes(alloc, b"rows")?,
         arguments: Texts::new(alloc),
-        limit: 1 << 62,
+        limit: row.limit,
     };
     let start = Start::Script(setup.script.copy()?);
     Interp::new(alloc, &start, row.me, &setup)

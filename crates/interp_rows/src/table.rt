@@ -11,6 +11,7 @@ use tt_text::Text;
 enum Line<'a> {
     Name(&'a [u8]),
     Thread(&'a [u8]),
+    Limit(&'a [u8]),
     Asked(&'a [u8]),
     Reply(&'a [u8]),
     Open,
@@ -49,6 +50,9 @@ fn read_line(line: &[u8]) -> Line {
     if let Some(number) = line.strip_prefix(b"%% thread ") {
         return Line::Thread(number);
     }
+    if let Some(number) = line.strip_prefix(b"%% limit ") {
+        return Line::Limit(number);
+    }
     if let Some(asked) = line.strip_prefix(b"? ") {
         return Line::Asked(asked);
     }
@@ -64,6 +68,7 @@ fn read_line(line: &[u8]) -> Line {
 fn add(alloc: Global, row: &mut Row, kind: Line, line: &[u8]) -> anyhow::Result<()> {
     match kind {
         Line::Thread(number) => row.me = number_of(number)?,
+        Line::Limit(number) => row.limit = u64::from(number_of(number)?),
         Line::Asked(asked) => row.push_asked(alloc, asked)?,
         Line::Reply(reply) => row.set_reply(Text::from_bytes(alloc, reply)?)?,
         Line::Open => row.open = true,

@@ -12,20 +12,23 @@ use Rattle.tt_calls.specs.declared.request.Request.{Request}
 use Rattle.tt_calls.specs.declared.request.Request.TheVariants as ask
 use Rattle.tt_commands.specs.declared.call.Call.{Call}
 use Rattle.tt_commands.specs.declared.call.Call.TheVariants as call
+use Rattle.tt_commands.specs.declared.call.Goal.{Goal}
+use Rattle.tt_commands.specs.declared.call.Goal.TheVariants as goal
 use Rattle.tt_commands.specs.declared.call.Here.TheVariants as here
 use Rattle.tt_commands.specs.declared.call.Then.{Then as After}
 use Rattle.tt_commands.specs.declared.call.Then.TheVariants as after
 use Rattle.tt_endings.specs.Endings.{code_of, failed, fine, number_of, of_outcome, text_of}
 use Rattle.tt_endings.specs.declared.ending.Ending.{Ending}
-use Rattle.tt_plans.specs.Plans.{Asks, Calls}
+use Rattle.tt_plans.specs.Plans.{Asks, Calls, Goes}
 use Rattle.tt_text.specs.Characters.{characters}
 use Rattle.tt_wants.specs.declared.got.Got.{Got}
 use Rattle.tt_wants.specs.declared.got.Got.TheVariants as got
-use Rattle.tt_wants.specs.declared.want.Want.TheVariants.{Ask}
+use Rattle.tt_wants.specs.declared.want.Want.TheVariants.{Ask, Watch}
 use Rattle.tt_frames.specs.Vocabulary.{OnEnding, Then, passed, stored}
 use Rattle.tt_frames.specs.declared.job.Awaits.{Awaits}
 use Rattle.tt_frames.specs.declared.job.Awaits.TheVariants as awaits
 use Rattle.tt_frames.specs.declared.job.Job.TheVariants as job
+use Rattle.tt_frames.specs.declared.job.Until.TheVariants as until
 
 -- ---- replies ----
 
@@ -110,6 +113,21 @@ awaits_of request after.AwaitMove = moving request
 awaits_of request after.Retake = retaking request
 awaits_of request after = awaits.Value
 
+-- ---- event loops ----
+
+-- a command that serves events up to its goal: a variable is watched from there on (vwait(n), update(n), thread(n),
+-- thread::wait)
+abbrev pub serving : Request → Goal → Then
+serving request (goal.Written name) state = Asks (Watch name) state (λ got. Goes (job.Serve until.Written))
+serving request goal.Idle state = Goes (job.Serve until.Idle) state
+serving request goal.Stopped state = Goes (job.Serve until.Stopped) state
+serving request (goal.Pool variable) state = asking request answering state
+
+-- a command that asks
+abbrev pub requested : Request → After → Then
+requested request (after.Serve goal) = serving request goal
+requested request after = asking request (following (awaits_of request after))
+
 -- ---- commands ----
 
 -- a name that no command has (unknown(n))
@@ -132,4 +150,4 @@ called (call.Bad message) words = passed (failed message)
 called (call.Here (here.Local value)) words = passed (fine value)
 called (call.Here (here.Direct script variable)) words = λ state.
     Calls None (job.Global script) state (sent variable)
-called (call.Ask request after) words = asking request (following (awaits_of request after))
+called (call.Ask request after) words = requested request after

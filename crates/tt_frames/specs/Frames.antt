@@ -11,6 +11,7 @@ use Rattle.tt_wants.specs.declared.got.Got.{Got}
 use Rattle.tt_wants.specs.declared.want.Want.{Want}
 use Rattle.tt_frames.specs.Asking.{following, on_reply, sent}
 use Rattle.tt_frames.specs.Control.{caught, clauses}
+use Rattle.tt_frames.specs.Events as events
 use Rattle.tt_frames.specs.Expressions.{computed}
 use Rattle.tt_frames.specs.Loops as loops
 use Rattle.tt_frames.specs.Nesting.{left}
@@ -79,6 +80,9 @@ after (frame.Leaves body) = left body
 after (frame.Sends variable) = sent variable
 after (frame.Stores result) = on_fine (λ old. passed (Fine result)) passed
 after frame.Reports = finished
+after (frame.Rounds goal) = λ ending. Goes (job.Serve goal)
+after (frame.Serves n answer plain) = events.script_served n answer plain
+after frame.Sets = events.was_set
 
 -- ---- askings ----
 
@@ -91,3 +95,9 @@ on_got (asking.Ends ending) got = passed ending
 on_got (asking.Caught variable message) got = stored variable message (codes "1")
 on_got (asking.Replied awaits) got = on_reply (following awaits) got
 on_got (asking.Reported trace ending) got = reporting trace ending
+on_got asking.Seen got = events.seen (ending_of got)
+on_got (asking.Taken goal) got = events.taken goal got
+on_got (asking.Sets name value) got = events.sets name value
+on_got (asking.Left ending) got = events.set_reported ending
+on_got (asking.Told n answer plain fault) got = events.handing (events.error_request n answer plain fault)
+on_got asking.Handed got = events.handed got

@@ -1,5 +1,6 @@
 pub mod Asking
 pub mod Control
+pub mod Events
 pub mod Expressions
 pub mod Frames
 pub mod Loops

@@ -4,6 +4,7 @@ use Rattle.tt_endings.specs.declared.ending.Ending.{Ending}
 use Rattle.tt_wants.specs.declared.got.Got.{Got}
 use Rattle.tt_wants.specs.declared.want.Want.{Want}
 use Rattle.tt_frames.specs.Control.{own}
+use Rattle.tt_frames.specs.Events.{happens, round, taking}
 use Rattle.tt_frames.specs.Expressions.{expression}
 use Rattle.tt_frames.specs.Loops.{looping, turning}
 use Rattle.tt_frames.specs.Nesting.{global, nested}
@@ -22,3 +23,6 @@ plan (job.Nested body text) = nested body text
 plan (job.Global text) = global text
 plan (job.Loop loop) = looping loop
 plan (job.Turn loop) = turning loop
+plan (job.Serve goal) = round goal
+plan (job.Take goal) = taking goal
+plan (job.Event event) = happens event

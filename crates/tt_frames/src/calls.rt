@@ -11,6 +11,7 @@ ghost use Rattle.tt_frames.specs.Frames.{after, on_got};
 ghost use Rattle.tt_frames.specs.declared.state.Counts.{Counts};
 ghost use Rattle.tt_plans.specs.Frames.{plan_of};
 
+use crate::events::begin_serving;
 use crate::job::{Asking, Awaits, Frame, Job};
 use crate::language::Next;
 use crate::storing::store;
@@ -37,6 +38,20 @@ pub(crate) fn begin_call(alloc: Global, words: &Texts, me: u32) -> Result<Next, 
             Frame::Sends(variable),
         )),
         Call::Ask { request, then } => {
+            let next = begin_request(request, then)?;
+            Ok(next)
+        }
+    }
+}
+
+// A command begins that asks.
+fn begin_request(request: Boxed<Request>, then: Then) -> Result<Next, NoMemory>
+    ensures { IfOk result (λ move. (state : Counts)
+        → table.requested request then state ≡ plan_of after on_got move state) }
+{
+    match then {
+        Then::Serve(goal) => Ok(begin_serving(request, goal)),
+        then => {
             let awaits = awaits_of(request.get(), then)?;
             Ok(Next::Ask(Want::Ask { request }, Asking::Replied(awaits)))
         }

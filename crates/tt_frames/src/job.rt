@@ -3,9 +3,9 @@
 use crate::program::Program;
 use crate::rest::Rest;
 use std::sync::Arc;
-use tt_calls::Start;
+use tt_calls::{Event, Start};
 use tt_code::Running;
-use tt_endings::Ending;
+use tt_endings::{Ending, Failure};
 use tt_text::{Text, Texts};
 use tt_wants::Body;
 
@@ -40,6 +40,17 @@ pub enum Purpose {
     Condition,
 }
 
+/// Up to when events are served.
+#[derive(Clone, Copy, Debug, PartialEq, Eq)]
+pub enum Until {
+    /// The global variable that was watched last was written (vwait(n)).
+    Written,
+    /// No event is ready (update(n)).
+    Idle,
+    /// The thread is to stop (thread(n), thread::wait).
+    Stopped,
+}
+
 /// What is evaluated.
 #[derive(Debug, Drop)]
 pub enum Job {
@@ -59,6 +70,12 @@ pub enum Job {
     Loop(Loop),
     /// A turn of a loop, for which a unit is spent.
     Turn(Loop),
+    /// The serving of events, one after the other.
+    Serve(Until),
+    /// The taking of an event, for which a unit is spent.
+    Take(Until),
+    /// An event that is served.
+    Event(Event),
 }
 
 /// A command of a script, with its words on the way or with them all.
@@ -100,6 +117,12 @@ pub enum Frame {
     Stores(Text),
     /// The script that a thread begins with.
     Reports,
+    /// An event that is served, before the next one.
+    Rounds(Until),
+    /// The script of an event: the post, whether its sender gets an answer, and whether its error is reported plainly.
+    Serves { n: u64, answer: bool, plain: bool },
+    /// A global variable that an event set.
+    Sets,
 }
 
 /// What follows the reply to a request.
@@ -144,4 +167,21 @@ pub enum Asking {
     Replied(Awaits),
     /// The report of the error that a thread ends with.
     Reported(Text, Ending),
+    /// Whether the variable that is watched was written.
+    Seen,
+    /// The event that was asked for.
+    Taken(Until),
+    /// The name and the value of a global variable that an event sets.
+    Sets(Text, Text),
+    /// The global level, which is left after a variable was set there, with how that ended.
+    Left(Ending),
+    /// The telling of the error of an event's script, and what it's told to next.
+    Told {
+        n: u64,
+        answer: bool,
+        plain: bool,
+        failure: Failure,
+    },
+    /// What was handed over of an event.
+    Handed,
 }

@@ -8,12 +8,16 @@ ghost use Rattle.tt_plans.specs.Frames.{plan_of};
 use crate::calls::{after_sent, take_reply};
 use crate::commands::{advance_command, begin_script, end_command, give_command, run_command};
 use crate::control::{after_caught, after_clause, begin_own, store_caught};
+use crate::events::{after_seen, after_taken, ask_event, begin_round};
 use crate::expressions::{begin_expression, give_expression};
 use crate::job::{Asking, Frame, Job};
 use crate::loops::{
     after_body, after_next, after_start, after_test, begin_loop, begin_turn, go_on_assigning,
 };
 use crate::nesting::{begin_global, begin_nested, leave};
+use crate::serving::{
+    after_handed, after_left, after_script, after_set, after_told, begin_event, set_global,
+};
 use crate::starts::{begin_start, finish, report_error};
 use crate::state::State;
 use std::alloc::Global;
@@ -67,6 +71,9 @@ impl Language for Tcl {
             Job::Global(text) => begin_global(text),
             Job::Loop(next) => begin_loop(alloc, next, state)?,
             Job::Turn(turn) => begin_turn(alloc, turn)?,
+            Job::Serve(goal) => begin_round(alloc, goal, state)?,
+            Job::Take(goal) => ask_event(alloc, goal)?,
+            Job::Event(event) => begin_event(alloc, event, state),
         };
         Ok(next)
     }
@@ -99,6 +106,20 @@ impl Language for Tcl {
             Asking::Caught(variable, message) => store_caught(alloc, variable, message)?,
             Asking::Replied(awaits) => take_reply(alloc, awaits, got)?,
             Asking::Reported(trace, ending) => report_error(alloc, trace, ending, state.counts.me)?,
+            Asking::Seen => {
+                let ending = ending_of(alloc, got)?;
+                after_seen(alloc, ending, state)?
+            }
+            Asking::Taken(goal) => after_taken(alloc, goal, got),
+            Asking::Sets(name, value) => set_global(alloc, name, value)?,
+            Asking::Left(ending) => after_left(alloc, ending)?,
+            Asking::Told {
+                n,
+                answer,
+                plain,
+                failure,
+            } => { after_told(alloc, n, answer, plain, failure)? }
+            Asking::Handed => after_handed(alloc, &got, state),
         };
         Ok(next)
     }
@@ -141,6 +162,9 @@ fn continued(
         Frame::Sends(variable) => after_sent(alloc, variable, ending),
         Frame::Stores(answer) => Ok(answered(answer, ending)),
         Frame::Reports => finish(alloc, ending),
+        Frame::Rounds(goal) => Ok(Next::Goto(Job::Serve(goal))),
+        Frame::Serves { n, answer, plain } => after_script(alloc, n, answer, plain, ending),
+        Frame::Sets => Ok(after_set(ending)),
     }
 }
 

@@ -5,6 +5,7 @@
 mod calls;
 mod commands;
 mod control;
+mod events;
 mod expression;
 mod expressions;
 mod job;
@@ -14,12 +15,13 @@ mod loops;
 mod nesting;
 mod program;
 mod rest;
+mod serving;
 mod stack;
 mod starts;
 mod state;
 mod storing;
 
-pub use job::{Asking, Awaits, CommandFrame, Frame, Job, Loop, Purpose};
+pub use job::{Asking, Awaits, CommandFrame, Frame, Job, Loop, Purpose, Until};
 pub use language::Tcl;
 pub use rest::Rest;
 pub use stack::{Stack, begin, turn};

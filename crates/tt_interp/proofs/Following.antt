@@ -23,10 +23,12 @@ use Rattle.tt_wants.specs.declared.want.Want.{Want}
 use Rattle.tt_interp.specs.Answering.{Answers}
 use Rattle.tt_interp.specs.Asking.{AsksNext, Coming, goes_on, having, asks, replied, answered, ends}
 use Rattle.tt_interp.specs.Beginning.{Begins}
-use Rattle.tt_interp.specs.Interps.{GoesOnFrom, IsLast, LeadsTo, StandsFor, coming, halted, serving_of}
+use Rattle.tt_interp.specs.Interps.{GoesOnFrom, IsLast, LeadsTo, StandsFor, after_got, coming, halt_of, halted, serving_of, standing_of}
 use Rattle.tt_interp.specs.declared.interp.Standing.{Standing}
 use Rattle.tt_interp.specs.declared.interp.Standing.TheVariants as standing
 use Rattle.tt_interp.specs.declared.kept.Kept.{Kept}
+use Rattle.tt_interp.specs.declared.settling.Reached.{Reached}
+use Rattle.tt_interp.specs.declared.settling.Reached.TheVariants as reached
 use Rattle.tt_interp.specs.declared.setup.Setup.{Setup}
 
 abbrev pub AreSame : Coming → Coming → Type 0
@@ -55,12 +57,6 @@ pub answered_on : (halt : Halt Want Ending) (stack before : Stack Counts Frame A
 answered_on halt stack before want got kept held gives turned replies request serving asked =
     answered got refl gives (same_asked turned asked)
 
-pub replied_on : (halt : Halt Want Ending) (stack before : Stack Counts Frame Asking) (asked : Request) (reply : Reply) (kept : Kept)
-    → IsTrue (goes_on asked) → IsAfter halt stack before (gots.Reply reply)
-    → GoesOnFrom (halted halt stack) kept (coming (standing.Asks before asked)) kept (Some reply)
-replied_on halt stack before asked reply kept goes turned replies request serving next =
-    replied refl goes (same_asked turned next)
-
 pub begun_on : (halt : Halt Want Ending) (stack : Stack Counts Frame Asking) (start : Start) (me limit : ℕ) (kept : Kept)
     → AreSame (halted halt stack) (eval plan (job.Start start) (fresh me limit) STEPS)
     → LeadsTo (halted halt stack) kept (coming (standing.Fresh start me limit)) kept
@@ -72,19 +68,34 @@ pub settled : {before : Coming} {held : Kept} (halt other : Halt Want Ending) (s
 settled {before = before} {held = held} halt other stack kept is leads =
     subst (λ h. LeadsTo (halted h stack) kept before held) is leads
 
-pub begun_settled : (halt : Halt Want Ending) (stack : Stack Counts Frame Asking) (start : Start) (me limit : ℕ) (kept new : Kept) (next : Standing)
-    → LeadsTo (coming next) new (halted halt stack) kept
+-- what was reached stands where its stack halts
+pub stood : {before : Coming} {held kept : Kept} (next : Standing) (reached : Reached) (stack : Stack Counts Frame Asking)
+    → next ≡ standing_of reached stack
+    → LeadsTo (halted (halt_of reached) stack) kept before held
+    → LeadsTo (coming next) kept before held
+stood {before} {held} {kept} next (reached.Asks request) stack is leads =
+    subst (λ s. LeadsTo (coming s) kept before held) (sym is) leads
+stood {before} {held} {kept} next (reached.Over ending) stack is leads =
+    subst (λ s. LeadsTo (coming s) kept before held) (sym is) leads
+
+pub begun_settled : (halt : Halt Want Ending) (stack : Stack Counts Frame Asking) (start : Start) (me limit : ℕ) (kept new : Kept) (next : Coming)
+    → LeadsTo next new (halted halt stack) kept
     → AreSame (halted halt stack) (eval plan (job.Start start) (fresh me limit) STEPS)
-    → LeadsTo (coming next) new (coming (standing.Fresh start me limit)) kept
+    → LeadsTo next new (coming (standing.Fresh start me limit)) kept
 begun_settled halt stack start me limit kept new next leads same replies request serving asked =
     begun_on halt stack start me limit kept same replies request serving (leads replies request serving asked)
 
-pub replied_settled : (halt : Halt Want Ending) (stack before : Stack Counts Frame Asking) (asked : Request) (reply : Reply) (kept new : Kept) (next : Standing)
-    → LeadsTo (coming next) new (halted halt stack) kept
-    → IsTrue (goes_on asked) → IsAfter halt stack before (gots.Reply reply)
-    → GoesOnFrom (coming next) new (coming (standing.Asks before asked)) kept (Some reply)
-replied_settled halt stack before asked reply kept new next leads goes turned replies request serving then =
-    replied_on halt stack before asked reply kept goes turned replies request serving (leads replies request serving then)
+pub got_settled : (halt : Halt Want Ending) (stack before : Stack Counts Frame Asking) (got : Got) (kept new : Kept) (next : Coming)
+    → LeadsTo next new (halted halt stack) kept → IsAfter halt stack before got
+    → LeadsTo next new (after_got before got) kept
+got_settled halt stack before got kept new next leads turned replies request serving asked =
+    same_asked turned (leads replies request serving asked)
+
+pub replied_on : (before : Stack Counts Frame Asking) (asked : Request) (reply : Reply) (kept new : Kept) (next : Coming)
+    → IsTrue (goes_on asked) → LeadsTo next new (after_got before (gots.Reply reply)) kept
+    → GoesOnFrom next new (coming (standing.Asks before asked)) kept (Some reply)
+replied_on before asked reply kept new next goes leads replies request serving then =
+    replied refl goes (leads replies request serving then)
 
 pub stands : (setup : Setup) (me : ℕ) (start copy : Start) (kept : Kept)
     → copy ≡ start → Begins setup me kept

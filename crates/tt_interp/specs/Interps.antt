@@ -13,11 +13,12 @@ use Rattle.tt_frames.specs.declared.job.Job.TheVariants as job
 use Rattle.tt_frames.specs.declared.state.Counts.{Counts}
 use Rattle.tt_plans.specs.Evaluation.{eval}
 use Rattle.tt_plans.specs.Frames as frames
-use Rattle.tt_plans.specs.Frames.{from_halt, is_waiting}
+use Rattle.tt_plans.specs.Frames.{after_answer, from_halt, is_waiting}
 use Rattle.tt_plans.specs.declared.stack.Halt.{Halt}
 use Rattle.tt_plans.specs.declared.stack.Halt.TheVariants.{Wants, Ended}
 use Rattle.tt_plans.specs.declared.stack.Stack.{Stack}
 use Rattle.tt_plans.specs.declared.stack.TheConstants.{STEPS}
+use Rattle.tt_wants.specs.declared.got.Got.{Got}
 use Rattle.tt_wants.specs.declared.want.Want.{Want}
 use Rattle.tt_wants.specs.declared.want.Want.TheVariants.{Ask}
 use Rattle.tt_interp.specs.Asking.{AsksNext, Coming, end_of, goes_on}
@@ -25,6 +26,8 @@ use Rattle.tt_interp.specs.Beginning.{IsNext}
 use Rattle.tt_interp.specs.declared.interp.Standing.{Standing}
 use Rattle.tt_interp.specs.declared.interp.Standing.TheVariants as standing
 use Rattle.tt_interp.specs.declared.kept.Kept.{Kept}
+use Rattle.tt_interp.specs.declared.settling.Reached.{Reached}
+use Rattle.tt_interp.specs.declared.settling.Reached.TheVariants as reached
 use Rattle.tt_interp.specs.declared.setup.Setup.{Setup}
 
 -- an interpreter: what it keeps, and where its evaluation stands
@@ -114,3 +117,16 @@ IsLast other last = ⊤
 pub record IsStanding (standing : Standing) (last : Request) : Type 0 where
   pub waits : Waits standing
   pub ends : IsLast standing last
+
+-- what a stack that waits comes to after what it gets
+abbrev pub after_got : Stack Counts Frame Asking → Got → Coming
+after_got stack got gots = after_answer plan after on_got stack got gots
+
+-- what was reached, as the halt of its stack, and where the evaluation stands with it
+abbrev pub halt_of : Reached → Halt Want Ending
+halt_of (reached.Asks request) = Wants (Ask request)
+halt_of (reached.Over ending) = Ended ending
+
+abbrev pub standing_of : Reached → Stack Counts Frame Asking → Standing
+standing_of (reached.Asks request) stack = standing.Asks stack request
+standing_of (reached.Over ending) stack = standing.Over stack ending

@@ -3,13 +3,12 @@ ghost use Rattle.tt_interp.specs.Asking.{end_by, goes_on};
 ghost use Rattle.tt_interp.specs.Interps as interps;
 
 use crate::settling::resumed;
-use crate::{Kept, Setup};
+use crate::{Kept, Paused, Setup};
 use std::alloc::Global;
 use std::marker::Model;
 use std::mem;
 use tt_calls::{Boxed, Code, Reply, Request, Start};
 use tt_endings::Ending;
-use tt_frames::Stack;
 use tt_text::{NoMemory, Text};
 
 /// Where the evaluation of a thread stands.
@@ -23,12 +22,12 @@ pub enum Standing {
     },
     /// It waits for the reply to this.
     Asks {
-        stack: Stack,
+        stack: Paused,
         request: Boxed<Request>,
     },
     /// It has ended so.
     Over {
-        stack: Stack,
+        stack: Paused,
         ending: Ending,
     },
 }
@@ -87,9 +86,7 @@ impl Interp {
         let gone = Standing::gone(self.alloc);
         let standing = mem::replace(&mut self.standing, gone);
         let standing = resumed(self.alloc, &mut self.kept, standing, reply)?;
-        if let Standing::Over { ending, .. } = &standing {
-            self.last = end_of(ending.code());
-        }
+        self.last = last_of(&standing);
         self.standing = standing;
         Ok(())
     }
@@ -137,6 +134,17 @@ fn goes_on(request: &Request) -> bool
     match request {
         Request::End { .. } | Request::Exit { .. } => false,
         _ => true,
+    }
+}
+
+// The last request of a thread whose evaluation stands there; before its end that says nothing.
+fn last_of(standing: &Standing) -> Request
+    requires { IsTrue (interps.is_halted standing.now) }
+    ensures { interps.IsStanding standing.now result }
+{
+    match standing {
+        Standing::Over { ending, .. } => end_of(ending.code()),
+        Standing::Fresh { .. } | Standing::Asks { .. } => Request::End { code: 0 },
     }
 }
 

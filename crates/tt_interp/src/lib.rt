@@ -5,9 +5,11 @@ mod answering;
 mod commands;
 mod interp;
 mod kept;
+mod paused;
 mod settling;
 mod setup;
 
 pub use interp::{Interp, Standing};
 pub use kept::Kept;
+pub use paused::Paused;
 pub use setup::Setup;

@@ -5,14 +5,24 @@ ghost use Rattle.tt_interp.specs.Interps as interps;
 ghost use Rattle.tt_interp.specs.declared.interp.Standing.TheVariants as standing;
 ghost use Rattle.tt_plans.specs.Frames.{is_waiting, wants};
 ghost use Rattle.tt_plans.specs.declared.stack.Halt.TheVariants.{Wants};
+ghost use Rattle.tt_wants.specs.declared.got.Got.TheVariants as gots;
 
-use crate::{Kept, Standing};
+use crate::{Kept, Paused, Standing};
 use std::alloc::Global;
 use tt_calls::{Boxed, Reply, Request, Start};
 use tt_endings::Ending;
-use tt_frames::{Got, Stack, Want, begin, turn};
+use tt_frames::{Got, Want};
 use tt_plans::Halt;
 use tt_text::NoMemory;
+
+/// Where an evaluation comes to that can't go on by what is kept.
+#[derive(Debug, Drop)]
+pub(crate) enum Reached {
+    /// It asks this.
+    Asks(Boxed<Request>),
+    /// It has ended so.
+    Over(Ending),
+}
 
 /// Where an evaluation stands after this reply, or first.
 ///
@@ -47,15 +57,16 @@ fn begun(
     ensures leads { IfOk result (λ next. interps.LeadsTo (interps.coming next) kept.new (interps.coming (standing.Fresh start me limit)) kept.old) }
     ensures halts { IfOk result (λ next. IsTrue (interps.is_halted next)) }
 {
-    let (stack, halt) = begin(alloc, start, me, limit)?;
-    let standing = settle(alloc, kept, stack, halt)?;
-    Ok(standing)
+    let (stack, halt) = Paused::begin(alloc, start, me, limit)?;
+    let mut stack = stack;
+    let reached = settle(alloc, kept, &mut stack, halt)?;
+    Ok(standing_of(reached, stack))
 }
 
 fn replied(
     alloc: Global,
     kept: &mut Kept,
-    stack: Stack,
+    stack: Paused,
     request: Boxed<Request>,
     reply: Reply,
 ) -> Result<Standing, NoMemory>
@@ -65,29 +76,51 @@ fn replied(
     ensures halts { IfOk result (λ next. IsTrue (interps.is_halted next)) }
 {
     let mut stack = stack;
-    let halt = turn(alloc, &mut stack, Got::Reply(reply))?;
-    let standing = settle(alloc, kept, stack, halt)?;
-    Ok(standing)
+    let reached = go_on_with(alloc, kept, &mut stack, reply)?;
+    Ok(standing_of(reached, stack))
 }
 
-// Where an evaluation stands that halts there. It has no memory for more wants than can be counted.
+fn standing_of(reached: Reached, stack: Paused) -> Standing
+    ensures { result ≡ interps.standing_of reached stack }
+{
+    match reached {
+        Reached::Asks(request) => Standing::Asks { stack, request },
+        Reached::Over(ending) => Standing::Over { stack, ending },
+    }
+}
+
+fn go_on_with(
+    alloc: Global,
+    kept: &mut Kept,
+    stack: &mut Paused,
+    reply: Reply,
+) -> Result<Reached, NoMemory>
+    requires { IsTrue (is_waiting stack.old) }
+    ensures leads { IfOk result (λ reached. interps.LeadsTo (interps.halted (interps.halt_of reached) stack.new) kept.new (interps.after_got stack.old (gots.Reply reply)) kept.old) }
+    ensures waiting { IfOk result (λ reached. wants (interps.halt_of reached) ≡ is_waiting stack.new) }
+{
+    let halt = stack.turn(alloc, Got::Reply(reply))?;
+    let reached = settle(alloc, kept, stack, halt)?;
+    Ok(reached)
+}
+
+// Where an evaluation comes to that halts there. It has no memory for more wants than can be counted.
 fn settle(
     alloc: Global,
     kept: &mut Kept,
-    stack: Stack,
+    stack: &mut Paused,
     halt: Halt<Want, Ending>,
-) -> Result<Standing, NoMemory>
-    requires { wants halt ≡ is_waiting stack }
-    ensures leads { IfOk result (λ standing. interps.LeadsTo (interps.coming standing) kept.new (interps.halted halt stack) kept.old) }
-    ensures stands { IfOk result (λ standing. IsTrue (interps.is_halted standing)) }
+) -> Result<Reached, NoMemory>
+    requires { wants halt ≡ is_waiting stack.old }
+    ensures leads { IfOk result (λ reached. interps.LeadsTo (interps.halted (interps.halt_of reached) stack.new) kept.new (interps.halted halt stack.old) kept.old) }
+    ensures waiting { IfOk result (λ reached. wants (interps.halt_of reached) ≡ is_waiting stack.new) }
 {
-    let mut stack = stack;
     let mut halt = halt;
     'wants: for _ in 0..u64::MAX {
         match halt {
-            Halt::Ended(ending) => return Ok(Standing::Over { stack, ending }),
-            Halt::Wants(Want::Ask { request }) => return Ok(Standing::Asks { stack, request }),
-            Halt::Wants(want) => halt = go_on(alloc, kept, &mut stack, want)?,
+            Halt::Ended(ending) => return Ok(Reached::Over(ending)),
+            Halt::Wants(Want::Ask { request }) => return Ok(Reached::Asks(request)),
+            Halt::Wants(want) => halt = go_on(alloc, kept, stack, want)?,
         }
     }
     Err(NoMemory)
@@ -96,7 +129,7 @@ fn settle(
 fn go_on(
     alloc: Global,
     kept: &mut Kept,
-    stack: &mut Stack,
+    stack: &mut Paused,
     want: Want,
 ) -> Result<Halt<Want, Ending>, NoMemory>
     requires { IsTrue (is_waiting stack.old) }
@@ -104,6 +137,6 @@ fn go_on(
     ensures waiting { IfOk result (λ halt. wants halt ≡ is_waiting stack.new) }
 {
     let got = kept.answer(alloc, want)?;
-    let halt = turn(alloc, stack, got)?;
+    let halt = stack.turn(alloc, got)?;
     Ok(halt)
 }

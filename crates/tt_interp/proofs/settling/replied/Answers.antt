@@ -1,7 +1,10 @@
-use Rattle.tt_interp.proofs.Following.{replied_settled}
+use Rattle.std.proofs.Common.{rules}
+use Rattle.tt_interp.specs.Interps.{coming}
+use Rattle.tt_interp.proofs.Following.{replied_on, stood}
 use Rattle.tt_interp.proofs.settling.replied.Goals as goal
 
 pub returns-clause-leads : goal.returns-clause-leads
 returns-clause-leads c =
-    replied_settled c.in_ok-halt.halt c.turn.new.stack c.args.stack c.args.request c.args.reply c.args.kept.now c.settle.new.kept c.in_ok-standing.standing
-    c.in_ok-standing.ensures.leads c.requires.goes_on c.in_ok-halt.ensures.turned
+    replied_on c.args.stack c.args.request c.args.reply c.args.kept.now c.go_on_with.new.kept (coming c.standing_of.result)
+    c.requires.goes_on
+    (stood c.standing_of.result c.in_ok-reached.reached c.go_on_with.new.stack (search rules) c.in_ok-reached.ensures.leads)

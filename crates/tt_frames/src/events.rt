@@ -1,0 +1,155 @@
+//! Event loops: events are taken, one after the other.
+ghost use Rattle.std.specs.Prelude.{◌≡◌, IfOk};
+ghost use Rattle.tt_frames.specs.Asking.{serving};
+ghost use Rattle.tt_frames.specs.Events as events;
+ghost use Rattle.tt_frames.specs.Frames.{after, on_got};
+ghost use Rattle.tt_frames.specs.declared.state.Counts.{Counts};
+ghost use Rattle.tt_plans.specs.Frames.{plan_of};
+
+use crate::job::{Asking, Awaits, Frame, Job, Until};
+use crate::language::Next;
+use crate::state::{State, Unit};
+use std::alloc::Global;
+use tt_calls::{Boxed, Event, Reply, Request};
+use tt_commands::Goal;
+use tt_endings::Ending;
+use tt_text::NoMemory;
+use tt_wants::{Got, Want};
+
+/// A command begins that serves events up to its goal.
+pub(crate) fn begin_serving(request: Boxed<Request>, goal: Goal) -> Next
+    ensures { (state : Counts) → serving request goal state ≡ plan_of after on_got result state }
+{
+    match goal {
+        Goal::Written(name) => {
+            let rounds = Job::Serve(Until::Written);
+            Next::Ask(Want::Watch { name }, Asking::Begins(rounds))
+        }
+        Goal::Idle => Next::Goto(Job::Serve(Until::Idle)),
+        Goal::Stopped => Next::Goto(Job::Serve(Until::Stopped)),
+        Goal::Pool { .. } => Next::Ask(Want::Ask { request }, Asking::Replied(Awaits::Value)),
+    }
+}
+
+/// A round begins: the goal is tested, and where it isn't met the next event is asked for.
+pub(crate) fn begin_round(alloc: Global, goal: Until, state: &mut State) -> Result<Next, NoMemory>
+    ensures { IfOk result (λ move. events.round goal state.old ≡ plan_of after on_got move state.new) }
+{
+    match goal {
+        Until::Written => Ok(Next::Ask(Want::Seen, Asking::Seen)),
+        Until::Idle | Until::Stopped => {
+            let next = go_on(alloc, goal, state)?;
+            Ok(next)
+        }
+    }
+}
+
+/// The variable that is watched was written, or not.
+pub(crate) fn after_seen(alloc: Global, ending: Ending, state: &mut State) -> Result<Next, NoMemory>
+    ensures { IfOk result (λ move. events.seen ending state.old ≡ plan_of after on_got move state.new) }
+{
+    if ending.into_text().as_bytes() == b"1".as_slice() {
+        Ok(end(Until::Written, Ending::nothing(alloc)))
+    } else {
+        let next = go_on(alloc, Until::Written, state)?;
+        Ok(next)
+    }
+}
+
+// The goal isn't met.
+fn go_on(alloc: Global, goal: Until, state: &mut State) -> Result<Next, NoMemory>
+    ensures { IfOk result (λ move. events.unmet goal state.old ≡ plan_of after on_got move state.new) }
+{
+    if state.counts.stopped {
+        Ok(end(goal, stopping(alloc, goal)?))
+    } else {
+        let next = spend(alloc, goal, state)?;
+        Ok(next)
+    }
+}
+
+// A unit is spent for the next event.
+fn spend(alloc: Global, goal: Until, state: &mut State) -> Result<Next, NoMemory>
+    ensures { IfOk result (λ move. events.next_event goal state.old ≡ plan_of after on_got move state.new) }
+{
+    match state.spend() {
+        Unit::Past => {
+            let ending = Ending::failed_with(alloc, b"unit limit reached")?;
+            Ok(end(goal, ending))
+        }
+        Unit::Pauses => {
+            let request = Boxed::new(alloc, Request::Pause)?;
+            Ok(Next::Ask(Want::Ask { request }, Asking::Begins(Job::Take(goal))))
+        }
+        Unit::Spent => Ok(Next::Goto(Job::Take(goal))),
+    }
+}
+
+// A loop ends so.
+fn end(goal: Until, ending: Ending) -> Next
+    ensures { (state : Counts) → events.over goal ending state ≡ plan_of after on_got result state }
+{
+    match goal {
+        Until::Written => Next::Ask(Want::Unwatch, Asking::Ends(ending)),
+        Until::Idle | Until::Stopped => Next::Done(ending),
+    }
+}
+
+// How a loop ends where the thread is to stop.
+fn stopping(alloc: Global, goal: Until) -> Result<Ending, NoMemory>
+    ensures { IfOk result (λ ending. ending ≡ events.stopping goal) }
+{
+    match goal {
+        Until::Written => {
+            let ending = Ending::failed_with(alloc, b"thread is stopping")?;
+            Ok(ending)
+        }
+        Until::Idle | Until::Stopped => Ok(Ending::nothing(alloc)),
+    }
+}
+
+/// An event is asked for.
+pub(crate) fn ask_event(alloc: Global, goal: Until) -> Result<Next, NoMemory>
+    ensures { IfOk result (λ move. (state : Counts) → events.taking goal state ≡ plan_of after on_got move state) }
+{
+    let request = Boxed::new(alloc, event_request(goal))?;
+    Ok(Next::Ask(Want::Ask { request }, Asking::Taken(goal)))
+}
+
+fn event_request(goal: Until) -> Request
+    ensures { result ≡ events.event_request goal }
+{
+    match goal {
+        Until::Idle => Request::TakeReady,
+        Until::Written | Until::Stopped => Request::Take,
+    }
+}
+
+/// An event was taken, or there was none.
+pub(crate) fn after_taken(alloc: Global, goal: Until, got: Got) -> Next
+    ensures { (state : Counts) → events.taken goal got state ≡ plan_of after on_got result state }
+{
+    match got {
+        Got::Reply(Reply::Event(event)) => {
+            let post = post_of(&event);
+            Next::Call(post, Job::Event(event), Frame::Rounds(goal))
+        }
+        _ => end(goal, Ending::nothing(alloc)),
+    }
+}
+
+// The post that is served with an event.
+fn post_of(event: &Event) -> Option<u64>
+    ensures { result ≡ events.post_of event.now }
+{
+    match event {
+        Event::Script { n, answer, .. } => answered_post(*n, *answer),
+        Event::SetVar { .. } | Event::Moved { .. } | Event::Stop => None,
+    }
+}
+
+fn answered_post(n: u64, answer: bool) -> Option<u64>
+    ensures { result ≡ events.answered_post n answer }
+{
+    if answer { Some(n) } else { None }
+}
