@@ -1,7 +1,6 @@
 -- The commands on arrays have one outcome each (array(n)).
 use Rattle.std.proofs.Common.{◌≡◌, ◌∙◌, ◌++◌, ℕ, Bool, true, false, bytes_eq, codes, is_some, unwrap_or, List, [], ◌∷◌, Option, Some, None, Result, refl, ap, sym, subst}
 use Rattle.std.specs.List.{AllByRecursion}
-use Rattle.tt_calls.specs.declared.outcome.Outcome.{Outcome}
 use Rattle.tt_calls.specs.Outcomes.{fine}
 use Rattle.tt_calls.specs.Usages.{bad_option}
 use Rattle.tt_lists.specs.Messages.{list_message}
@@ -9,12 +8,10 @@ use Rattle.tt_lists.specs.Reading.{split_of}
 use Rattle.tt_lists.specs.Spelling.{list_of}
 use Rattle.tt_lists.specs.declared.items.Split.{Split}
 use Rattle.tt_lists.specs.declared.items.Split.TheVariants as split
-use Rattle.tt_script.specs.Names.{plain_name}
 use Rattle.tt_vars.specs.declared.answers.VarFault.{VarFault}
 use Rattle.tt_vars.specs.Variables.{Name}
-use Rattle.tt_store.specs.declared.answers.Answer.{Answer}
 use Rattle.tt_store.specs.declared.answers.Answer.TheVariants as answers
-use Rattle.tt_store.specs.Held.{Drops, Finds, Held, IsWritten, Meaning}
+use Rattle.tt_store.specs.Held.{Drops, Held, IsWritten, Meaning}
 use Rattle.tt_store.specs.Scalars.{ended_by}
 use Rattle.tt_store.specs.Spots.{spot}
 use Rattle.tt_arrays.specs.Changing as changing

@@ -1,9 +1,8 @@
 -- What is asked next is one request, where each answer is one.
-use Rattle.std.proofs.Common.{◌≡◌, ◌+◌, ◌≤◌, ℕ, List, [], ◌∷◌, refl, ap, sym, subst, ◌∙◌, arith}
+use Rattle.std.proofs.Common.{◌≡◌, ◌+◌, ◌≤◌, ℕ, List, refl, ap, sym, subst, arith}
 use Rattle.tt_calls.specs.declared.reply.Reply.{Reply}
 use Rattle.tt_calls.specs.declared.request.Request.{Request}
 use Rattle.tt_calls.specs.declared.start.Start.{Start}
-use Rattle.tt_endings.specs.Endings.{code_of}
 use Rattle.tt_endings.specs.declared.ending.Ending.{Ending}
 use Rattle.tt_frames.specs.Tcl.{plan}
 use Rattle.tt_frames.specs.Units.{fresh}
@@ -12,7 +11,6 @@ use Rattle.tt_frames.specs.declared.state.Counts.{Counts}
 use Rattle.tt_plans.specs.Evaluation.{eval}
 use Rattle.tt_plans.specs.Plans.{Course, Stop, Fin}
 use Rattle.tt_wants.specs.declared.got.Got.{Got}
-use Rattle.tt_wants.specs.declared.got.Got.TheVariants as gots
 use Rattle.tt_wants.specs.declared.want.Want.{Want}
 use Rattle.tt_wants.specs.declared.want.Want.TheVariants.{Ask}
 use Rattle.tt_interp.specs.Answering.{Answers}
@@ -40,19 +38,19 @@ stop-end : {course : Comes} {want : Want} {serving : List ℕ} {ending : Ending}
 stop-end is its = cc
 
 -- a request is answered by a reply alone
-no-answer : {course : Comes} {want : Want} {request : Request} {serving during : List ℕ} {old new : Kept} {got : Got}
+no-answer : {course : Comes} {want : Want} {request : Request} {serving during : List ℕ} (old new : Kept) (got : Got)
     → course ≡ Stop (Ask request) serving → course ≡ Stop want during → Answers want old got new → ⊥
-no-answer {old = old} {new = new} {got = got} is its gives = subst (λ (w : Want). Answers w old got new) (one-want its is).0 gives
+no-answer old new got is its gives = subst (λ (w : Want). Answers w old got new) (one-want its is).0 gives
 
 asked-once : {coming : Coming} {kept : Kept} {replies : List Reply} {one other : Request} {serving during : List ℕ}
     → AsksNext coming kept replies one serving → AsksNext coming kept replies other during → (one ≡ other) × (serving ≡ during)
 asked-once (asks is) (asks its) = one-asked is its
-asked-once (asks is) (answered got its gives rest) = absurd (no-answer is its gives)
+asked-once {kept = kept} (asks is) (answered {new = new} got its gives rest) = absurd (no-answer kept new got is its gives)
 asked-once (asks is) (ends its) = absurd (stop-end is its)
 asked-once (replied is goes rest) (replied its go more) = asked-once rest more
-asked-once (replied is goes rest) (answered got its gives more) = absurd (no-answer is its gives)
-asked-once (answered got is gives rest) (asks its) = absurd (no-answer its is gives)
-asked-once (answered got is gives rest) (replied its go more) = absurd (no-answer its is gives)
+asked-once {kept = kept} (replied is goes rest) (answered {new = new} got its gives more) = absurd (no-answer kept new got is its gives)
+asked-once {kept = kept} (answered {new = new} got is gives rest) (asks its) = absurd (no-answer kept new got its is gives)
+asked-once {kept = kept} (answered {new = new} got is gives rest) (replied its go more) = absurd (no-answer kept new got its is gives)
 asked-once {coming} {kept} {replies} {one} {other} {serving} {during}
     (answered {new = new} {want = want} got is gives rest) (answered {new = next} {want = wants} gets its give more) =
     let wanted = (one-want is its).0 in

@@ -1,6 +1,5 @@
 -- What words come to is one thing, and so is what is kept then; and so is what an evaluation gets (Tcl(n)).
-use Rattle.std.proofs.Common.{◌≡◌, ◌∙◌, ℕ, Bool, true, false, ◌&&◌, codes, drop, List, [], ◌∷◌, Option, Some, None, Result, Ok, Err, refl, ap, sym, subst}
-use Rattle.tt_calls.specs.declared.outcome.Outcome.{Outcome}
+use Rattle.std.proofs.Common.{◌≡◌, ◌∙◌, ℕ, codes, drop, List, [], ◌∷◌, Option, Some, None, Result, Ok, Err, ap, sym}
 use Rattle.tt_calls.specs.Outcomes.{failed, fine}
 use Rattle.tt_calls.specs.Usages.{wrong_number}
 use Rattle.tt_arrays.specs.Commands as arrays
@@ -13,24 +12,21 @@ use Rattle.tt_procedures.specs.declared.calling.Called.TheVariants as called
 use Rattle.tt_procedures.specs.declared.procedure.Parameter.{Parameter}
 use Rattle.tt_script.specs.Names.{plain_name}
 use Rattle.tt_store.specs.Commands as variables
-use Rattle.tt_store.specs.Held.{Calls, Held, IsRead, IsWritten, ended, entered, is_seen, nothing_held, unwatched, watched}
+use Rattle.tt_store.specs.Held.{Held, ended, entered, is_seen, nothing_held, unwatched, watched}
 use Rattle.tt_store.specs.declared.answers.Answer.{Answer}
 use Rattle.tt_store.specs.declared.answers.Answer.TheVariants as answers
-use Rattle.tt_wants.specs.declared.got.Got.{Got}
 use Rattle.tt_wants.specs.declared.got.Got.TheVariants as gots
-use Rattle.tt_wants.specs.declared.want.Body.TheVariants.{Procedure}
 use Rattle.tt_wants.specs.declared.want.Want.{Want}
 use Rattle.tt_wants.specs.declared.want.Want.TheVariants as want
 use Rattle.tt_interp.specs.Answering.{Answers, got_of, truth}
 use Rattle.tt_interp.specs.Answering as answering
-use Rattle.tt_interp.specs.Beginning.{Begins, globals}
-use Rattle.tt_interp.specs.Commands.{CallsBody, Continues, Either, OnVariables, Runs, RunsBy, RunsOwn, Table, first_word, has_next, names_command, own_of, with_procedures, with_store}
+use Rattle.tt_interp.specs.Beginning.{globals}
+use Rattle.tt_interp.specs.Commands.{CallsBody, Continues, Either, OnVariables, Runs, RunsBy, RunsOwn, Table, own_of, with_procedures, with_store}
 use Rattle.tt_interp.specs.declared.commands.Own.{Own}
 use Rattle.tt_interp.specs.declared.commands.Own.TheVariants as own
 use Rattle.tt_interp.specs.declared.kept.Kept.{Kept}
-use Rattle.tt_interp.specs.declared.setup.Setup.{Setup}
 use Rattle.tt_once.specs.Laws.{AnswersOnceLaw, BeginsOnceLaw, RunsOnceLaw}
-use Rattle.tt_once.proofs.Once.{Once, Only, once-after, once-told}
+use Rattle.tt_once.proofs.Once.{Once, once-after, once-told}
 use Rattle.tt_once.proofs.Arrays as array_commands
 use Rattle.tt_once.proofs.Held.{are_set-once, calls-once, is_read-once, is_written-once}
 use Rattle.tt_once.proofs.Levels as level_commands
@@ -71,21 +67,21 @@ defines-once (word ∷ parameters ∷ body ∷ []) old = defines_by-once (parame
 defines-once (word ∷ parameters ∷ body ∷ more ∷ words) old = fails-once (wrong_number (codes "proc name args body")) old
 
 calls_body-once : (which : Called) (words : List (List ℕ)) (old : Kept) → Once (CallsBody which words old)
-calls_body-once (called.Body arguments body) words old one other new next is its =
+calls_body-once (called.Body arguments body) words old one two new next is its =
     let same = calls-once arguments old.store new.store next.store is.0 its.0 in
     (is.1 ∙ sym its.1, is.2 ∙ ap (with_store old) same ∙ sym its.2)
-calls_body-once (called.Wrong outcome) words old one other new next is its = once-told (answers.Outcome outcome) old one other new next is its
+calls_body-once (called.Wrong outcome) words old one two new next is its = once-told (answers.Outcome outcome) old one two new next is its
 
 -- ---- all commands ----
 
 own-once : (which : Own) (words : List (List ℕ)) (old : Kept) → Once (RunsOwn which words old)
-own-once own.Define words old one other new next is its =
+own-once own.Define words old one two new next is its =
     let same = defines-once (drop 1 words) old.procedures is.0 its.0 new.procedures next.procedures is.1 its.1 in
     (is.2 ∙ ap answers.Outcome same.0 ∙ sym its.2, is.3 ∙ ap (with_procedures old) same.1 ∙ sym its.3)
-own-once own.Names words old one other new next is its =
-    once-told (answers.Outcome (names old.procedures (drop 2 words))) old one other new next is its
-own-once own.Other words old one other new next is its =
-    let same = on_variables-once words old.store one other new.store next.store is.0 its.0 in
+own-once own.Names words old one two new next is its =
+    once-told (answers.Outcome (names old.procedures (drop 2 words))) old one two new next is its
+own-once own.Other words old one two new next is its =
+    let same = on_variables-once words old.store one two new.store next.store is.0 its.0 in
     (same.0, is.1 ∙ ap (with_store old) same.1 ∙ sym its.1)
 
 by-once : (which : Option Called) (words : List (List ℕ)) (old : Kept) → Once (RunsBy which words old)

@@ -1,9 +1,9 @@
 -- What a template and its values come to is one thing (format(n)).
-use Rattle.std.proofs.Common.{◌≡◌, ◌∙◌, ◌<◌, ◌≤◌, ◌++◌, ℕ, List, [], ◌∷◌, length, refl, ap, sym, subst, arith}
-use Rattle.tt_format.specs.Fields.{Piece, Printed, Refused, piece}
+use Rattle.std.proofs.Common.{◌≡◌, ◌<◌, ◌≤◌, ◌++◌, ℕ, List, [], length, refl, ap, sym, subst, arith}
+use Rattle.tt_format.specs.Fields.{Piece, Printed, Refused}
 use Rattle.tt_format.specs.Formatting.{IsFormat, IsFormatted, ended, longest, printed, refused, too_long}
 use Rattle.tt_format.specs.declared.Formatted.{Formatted}
-use Rattle.tt_format.specs.declared.Formatted.TheVariants.{Made, Bad}
+use Rattle.tt_format.specs.declared.Formatted.TheVariants.{Bad}
 use Rattle.tt_once.proofs.Once.{Only}
 
 no-template : {template : List ℕ} → template ≡ [] → 0 < length template → ⊥

@@ -1,7 +1,6 @@
 -- The commands on levels and links have one outcome each (global(n), upvar(n), uplevel(n), info(n)).
-use Rattle.std.proofs.Common.{◌≡◌, ◌∙◌, ◌==◌, ◌||◌, ℕ, zero, suc, Bool, true, false, drop, is_some, bytes_eq, cond, nat_lt, List, [], ◌∷◌, Option, Some, None, length, decimal, codes, refl, ap, sym, subst}
+use Rattle.std.proofs.Common.{◌≡◌, ◌==◌, ◌||◌, ℕ, zero, suc, Bool, true, false, drop, is_some, bytes_eq, cond, nat_lt, List, [], ◌∷◌, Option, Some, None, length, decimal, codes, refl, ap, sym, subst}
 use Rattle.std.specs.List.{AllByRecursion}
-use Rattle.tt_calls.specs.declared.outcome.Outcome.{Outcome}
 use Rattle.tt_calls.specs.Outcomes.{failed, fine}
 use Rattle.tt_calls.specs.Usages.{bad_option, wrong_number}
 use Rattle.tt_list_commands.specs.Concatenating.{concatenation}
@@ -9,7 +8,6 @@ use Rattle.tt_script.specs.Names.{element_of, global_of, plain_name}
 use Rattle.tt_vars.specs.declared.answers.Linked.{Linked}
 use Rattle.tt_vars.specs.Variables.{Name}
 use Rattle.tt_wants.specs.declared.want.Body.TheVariants as body
-use Rattle.tt_store.specs.declared.answers.Answer.{Answer}
 use Rattle.tt_store.specs.declared.answers.Answer.TheVariants as answers
 use Rattle.tt_store.specs.Held.{Held, IsThere, LinksTo, begun_at}
 use Rattle.tt_store.specs.Levels.{HasDepth, Levels, above, caller_of}
@@ -20,7 +18,7 @@ use Rattle.tt_levels.specs.Linking.{Each, GlobalBy, LinksFrom, LinksIn, LinksNam
 use Rattle.tt_levels.specs.Messages.{bad_level, bad_name}
 use Rattle.tt_levels.specs.Telling.{Tells, bit, exists, info, level, topic_of}
 use Rattle.tt_levels.specs.Words.{is_levelled, is_odd, parted}
-use Rattle.tt_once.proofs.Once.{Once, Only, either-way, fails-once, find-each, goes-fails, goes-once, once-by, once-kept, once-made, once-then, once-told, only-made, only-told}
+use Rattle.tt_once.proofs.Once.{Once, Only, either-way, fails-once, find-each, goes-fails, goes-once, once-by, once-made, once-then, once-told, only-made, only-told}
 use Rattle.tt_once.proofs.Held.{is_there-once, links_to-once}
 use Rattle.tt_once.proofs.VariableCommands.{ComesToOne, ends-once, fails_with-once, refuses-once}
 

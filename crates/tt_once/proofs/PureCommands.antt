@@ -1,9 +1,7 @@
 -- The commands that answer by their words alone have one outcome each (string(n), lsort(n), lsearch(n), format(n)).
-use Rattle.std.proofs.Common.{◌≡◌, ◌∙◌, ◌-◌, ◌↔◌, ℕ, ℤ, Bool, true, false, IsTrue, List, [], ◌∷◌, Option, Some, None, Result, Ok, Err, length, take, drop, bytes_eq, codes, refl, ap, sym, subst}
+use Rattle.std.proofs.Common.{◌≡◌, ◌∙◌, ◌-◌, ◌↔◌, ℕ, ℤ, Bool, true, false, IsTrue, List, [], ◌∷◌, Option, Some, None, Result, Ok, Err, length, take, drop, bytes_eq, codes, refl, sym}
 use Rattle.std.specs.List.{AllByRecursion}
-use Rattle.tt_calls.specs.declared.outcome.Outcome.{Outcome}
 use Rattle.tt_format.specs.Formatting.{IsFormat}
-use Rattle.tt_list_commands.specs.SortFunction.{sort_answer}
 use Rattle.tt_list_commands.specs.declared.sorting.Sorting.{Sorting}
 use Rattle.tt_list_commands.proofs.SortLaw.{one_answer}
 use Rattle.tt_lists.specs.Messages.{list_message}
@@ -36,7 +34,7 @@ use Rattle.tt_pure.specs.Searching.{IsLsearch, IsSearchBy, IsSearchOf, IsSearchW
 use Rattle.tt_pure.specs.Sorting as sorting
 use Rattle.tt_pure.specs.Sorting.{IsLsort, IsSortBy, IsSortOf, IsSortWith, plain_sort, sort_flags}
 use Rattle.tt_pure.specs.StringTable.{IsNamedAnswer, IsString, first_subcommand, string_row, subcommands}
-use Rattle.tt_pure.specs.Strings.{IsFirstAnswer, IsLastAnswer, IsMapAnswer, IsMappedBy, IsMappedIf, IsMatchAnswer, IsRepeatAnswer, IsRepeatedBy, IsTimes, compare_answer, equal_answer, index_answer, is_paired, length_answer, lower_answer, place_text, range_answer, repetition_answer, reverse_answer, trim_answer, truth, upper_answer}
+use Rattle.tt_pure.specs.Strings.{IsFirstAnswer, IsLastAnswer, IsMapAnswer, IsMappedBy, IsMappedIf, IsMatchAnswer, IsRepeatAnswer, IsRepeatedBy, compare_answer, equal_answer, index_answer, is_paired, length_answer, lower_answer, place_text, range_answer, repetition_answer, reverse_answer, trim_answer, truth, upper_answer}
 use Rattle.tt_pure.specs.Table.{IsAnswer, IsOutcome, command_of, commands, row_of}
 use Rattle.tt_pure.specs.Texts.{IsSplitAnswer, IsSplitAt, concat, join}
 use Rattle.tt_pure.specs.Usages.{bad_option, outcome_of, wrong_number}

@@ -1,12 +1,12 @@
 -- What is made of the characters of a text is one thing (string(n), split(n)).
-use Rattle.std.proofs.Common.{◌≡◌, ◌∙◌, ◌<◌, ◌≤◌, ◌*◌, ◌++◌, ℕ, zero, suc, Bool, true, false, IsTrue, ℤ, List, [], ◌∷◌, Option, Some, None, length, refl, ap, sym, subst, arith}
+use Rattle.std.proofs.Common.{◌≡◌, ◌∙◌, ◌<◌, ◌≤◌, ◌++◌, ℕ, zero, suc, true, false, ℤ, List, [], ◌∷◌, Some, None, refl, ap, sym, subst, arith}
 use Rattle.std.proofs.lemmas.List.{append_cancel_left}
 use Rattle.tt_text.specs.Characters.{Character, characters}
-use Rattle.tt_strings.specs.Finding.{IsFirstPlace, IsLastPlace, StandsAt}
-use Rattle.tt_strings.specs.Making.{IsRepeated, longest, times}
+use Rattle.tt_strings.specs.Finding.{IsFirstPlace, IsLastPlace}
+use Rattle.tt_strings.specs.Making.{IsRepeated}
 use Rattle.tt_strings.specs.Mapping.{HasNoPair, IsAtFront, IsFirstPair, IsMapped, IsStep, ended, here, kept, later, replaced, step}
 use Rattle.tt_strings.specs.Places.{joined}
-use Rattle.tt_strings.specs.Splitting.{BeginsWithField, HasNone, IsSplit, IsSplitInto, field, last}
+use Rattle.tt_strings.specs.Splitting.{HasNone, IsSplit, IsSplitInto, field, last}
 use Rattle.tt_strings.specs.Trimming.{is_among}
 use Rattle.tt_strings.specs.declared.making.Repetition.{Repetition}
 use Rattle.tt_strings.specs.declared.making.Repetition.TheVariants.{Made, TooLong}

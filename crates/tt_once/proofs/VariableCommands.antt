@@ -1,5 +1,5 @@
 -- The commands on variables have one outcome each (set(n), unset(n), incr(n), append(n), lappend(n), lassign(n)).
-use Rattle.std.proofs.Common.{◌≡◌, ◌∙◌, ℕ, Bool, true, false, bytes_eq, nat_lt, codes, drop, List, [], ◌∷◌, Option, Some, None, Result, Ok, Err, option_map, refl, ap, sym, subst, length}
+use Rattle.std.proofs.Common.{◌≡◌, ℕ, Bool, true, false, bytes_eq, nat_lt, codes, drop, List, [], ◌∷◌, Option, Some, None, Result, option_map, refl, sym, subst, length}
 use Rattle.std.specs.List.{AllByRecursion}
 use Rattle.tt_calls.specs.declared.outcome.Outcome.{Outcome}
 use Rattle.tt_calls.specs.Outcomes.{failed, fine}
@@ -17,10 +17,9 @@ use Rattle.tt_script.specs.Names.{plain_name}
 use Rattle.tt_vars.specs.declared.answers.VarFault.{VarFault}
 use Rattle.tt_vars.specs.declared.answers.Written.{Written}
 use Rattle.tt_wants.specs.declared.want.Body.TheVariants as body
-use Rattle.tt_store.specs.declared.answers.Answer.{Answer}
 use Rattle.tt_store.specs.declared.answers.Answer.TheVariants as answers
 use Rattle.tt_store.specs.Commands.{Coming, IsCommand, IsPure, PackageBy, Runs, commands, ends, eval, first_named, flush, package_require, required, row_of, version_of}
-use Rattle.tt_store.specs.Held.{Drops, Fails, Finds, Gives, Held, Meaning, Reads, Refuses, Sets, with_levels}
+use Rattle.tt_store.specs.Held.{Drops, Fails, Finds, Held, Meaning, Reads, Refuses, Sets, with_levels}
 use Rattle.tt_store.specs.Levels.{begun_in}
 use Rattle.tt_store.specs.Listed as listed
 use Rattle.tt_store.specs.Listed.{Assigns, AssignsItems, AssignsOne, lappend, lassign, message_of, paired, told_rest}

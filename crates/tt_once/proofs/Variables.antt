@@ -1,11 +1,10 @@
 -- What is done to a variable has one outcome (upvar(n), set(n), unset(n)).
-use Rattle.std.proofs.Common.{◌≡◌, ◌∙◌, ℕ, false, true, List, [], ◌∷◌, Option, Some, None, Result, Ok, Err, IsOk, length, refl, ap, sym, subst}
+use Rattle.std.proofs.Common.{◌≡◌, ◌∙◌, ℕ, false, true, List, Option, Some, None, Result, Ok, Err, IsOk, length, refl, ap, sym, subst}
 use Rattle.tt_vars.specs.declared.answers.Linked.{Linked}
 use Rattle.tt_vars.specs.declared.answers.VarFault.{VarFault}
-use Rattle.tt_vars.specs.declared.answers.Written.{Written}
 use Rattle.tt_vars.specs.declared.variable.Place.{Place}
-use Rattle.tt_vars.specs.Variables.{Name, Frame, leads, Puts}
-use Rattle.tt_vars.specs.Links.{AreSame, HasNames, HasSize, Links, Reads, Removed, Removes, StandsFor, Writes, at, elements_at, is_same, itself, link_answer, linked, linked_by, nothing, onward, place_of, read_at, removed_of, written_at}
+use Rattle.tt_vars.specs.Variables.{Name, Frame, Puts}
+use Rattle.tt_vars.specs.Links.{AreSame, HasNames, HasSize, Links, Reads, Removed, Removes, StandsFor, Writes, elements_at, is_same, itself, link_answer, linked, linked_by, nothing, onward, place_of, read_at, removed_of, written_at}
 use Rattle.std.specs.Map.{keys_of}
 use Rattle.std.specs.Option.{option_map}
 use Rattle.tt_once.proofs.Once.{Once, Only, only-made, once-then}
