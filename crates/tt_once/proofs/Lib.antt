@@ -1,0 +1,12 @@
+pub mod Arrays
+pub mod Asked
+pub mod Commands
+pub mod Formats
+pub mod Held
+pub mod Levels
+pub mod Once
+pub mod PureCommands
+pub mod Steps
+pub mod Strings
+pub mod VariableCommands
+pub mod Variables
