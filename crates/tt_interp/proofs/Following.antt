@@ -23,7 +23,7 @@ use Rattle.tt_wants.specs.declared.want.Want.{Want}
 use Rattle.tt_interp.specs.Answering.{Answers}
 use Rattle.tt_interp.specs.Asking.{AsksNext, Coming, goes_on, having, asks, replied, answered, ends}
 use Rattle.tt_interp.specs.Beginning.{Begins}
-use Rattle.tt_interp.specs.Interps.{GoesOnFrom, IsLast, LeadsTo, StandsFor, after_got, coming, halt_of, halted, serving_of, standing_of}
+use Rattle.tt_interp.specs.Interps.{GoesOnFrom, IsLast, LeadsTo, StandsFor, after_got, coming, halt_of, halted, request_of, serving_of, standing_of}
 use Rattle.tt_interp.specs.declared.interp.Standing.{Standing}
 use Rattle.tt_interp.specs.declared.interp.Standing.TheVariants as standing
 use Rattle.tt_interp.specs.declared.kept.Kept.{Kept}
@@ -119,3 +119,12 @@ ends_now kept at stack ending last is over =
     subst (λ s. AsksNext (coming s) kept [] last (serving_of s)) (sym is)
     (subst (λ r. AsksNext (coming (standing.Over stack ending)) kept [] r [])
     (sym (subst (λ s. IsLast s last) is over)) (ends refl))
+
+-- that is the request where it halts
+pub asks_request : (at : Standing) (stack : Stack Counts Frame Asking) (request : Request) → at ≡ standing.Asks stack request → request ≡ request_of at
+asks_request at stack request is = subst (λ (s : Standing). request ≡ request_of s) (sym is) refl
+
+pub ends_request : (at : Standing) (stack : Stack Counts Frame Asking) (ending : Ending) (last : Request)
+    → at ≡ standing.Over stack ending → IsLast at last → last ≡ request_of at
+ends_request at stack ending last is over =
+    subst (λ (s : Standing). last ≡ request_of s) (sym is) (subst (λ (s : Standing). IsLast s last) is over)

@@ -1,7 +1,8 @@
 -- What an interpreter stands for: what its thread asks after further replies (thread(n)).
-use Rattle.std.specs.Prelude.{ℕ, ◌≡◌, Bool, true, false, IsTrue, ⊤, List, [], ◌∷◌, Option, Some, None}
+use Rattle.std.specs.Prelude.{ℕ, pos, ◌≡◌, Bool, true, false, IsTrue, ⊤, List, [], ◌∷◌, Option, Some, None}
 use Rattle.tt_calls.specs.declared.reply.Reply.{Reply}
 use Rattle.tt_calls.specs.declared.request.Request.{Request}
+use Rattle.tt_calls.specs.declared.request.Request.TheVariants as ask
 use Rattle.tt_calls.specs.declared.start.Start.{Start}
 use Rattle.tt_endings.specs.declared.ending.Ending.{Ending}
 use Rattle.tt_frames.specs.Frames.{after, on_got}
@@ -101,6 +102,12 @@ GoesOn new old given = GoesOnFrom (coming new.standing) new.kept (coming old.sta
 abbrev pub serving_of : Standing → List ℕ
 serving_of (standing.Asks stack request) = frames.serving stack
 serving_of other = []
+
+-- what is asked where it halts: a request, or at its end the last one
+abbrev pub request_of : Standing → Request
+request_of (standing.Fresh start me limit) = ask.End (pos 0)
+request_of (standing.Asks stack request) = request
+request_of (standing.Over stack ending) = end_of ending
 
 -- ---- inside ----
 

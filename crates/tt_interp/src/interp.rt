@@ -106,6 +106,7 @@ impl Interp {
     pub fn request(&self) -> &Request
         requires halted { IsTrue (interps.is_halted self.now.standing) }
         ensures asks { interps.Asks self.now [] result.now (interps.serving_of self.now.standing) }
+        ensures is { result.now ≡ interps.request_of self.now.standing }
     {
         match &self.standing {
             Standing::Asks { request, .. } => request.get(),

@@ -1,0 +1,133 @@
+-- The machine that a script runs on: its threads, each with its replies, over what they share (thread(n)).
+use Rattle.std.specs.Prelude.{◌≡◌, ◌-◌, ◌==◌, ℕ, Bool, true, false, IsTrue, IsFalse, List, [], ◌∷◌, ◌++◌, length, drop, map, Option, Some, None, slice_get, slice_set, if◌then◌else◌}
+use Rattle.tt_calls.specs.declared.reply.Reply.{Reply}
+use Rattle.tt_calls.specs.declared.request.Request.{Request}
+use Rattle.tt_calls.specs.declared.start.Start.{Start}
+use Rattle.tt_calls.specs.declared.start.Start.TheVariants as start
+use Rattle.tt_interp.specs.Beginning.{IsNext}
+use Rattle.tt_interp.specs.declared.setup.Setup.{Setup}
+use Rattle.tt_lines.specs.Lines.{IsLine, reads_line}
+use Rattle.tt_shared.specs.Acts.{act}
+use Rattle.tt_shared.specs.Enabled.{enabled}
+use Rattle.tt_shared.specs.State.{Acted, State, start_state}
+use Rattle.tt_shared.specs.declared.applied.Line.{Line}
+use Rattle.tt_shared.specs.declared.applied.Line.TheVariants.{NotRead}
+use Rattle.tt_threads.specs.Rows.{is_living}
+use Rattle.tt_threads.specs.declared.row.Row.{Row}
+
+-- a thread: what it began with, and the replies that it has had
+pub record Thread : Type 0 where
+  pub start : Start
+  pub replies : List Reply
+
+-- the machine: how the run began, what the threads share, the threads by number from 1, what standard input still has,
+-- and what was written on standard output and on standard error
+pub record Machine : Type 0 where
+  pub setup : Setup
+  pub shared : State
+  pub threads : List Thread
+  pub input : List ℕ
+  pub out : List ℕ
+  pub err : List ℕ
+
+-- a thread that was just made
+abbrev pub new_thread : Row → Thread
+new_thread row = record { start = row.start; replies = [] }
+
+-- thread 1 alone, at the start of its script
+abbrev pub start_machine : Setup → (input : List ℕ) → Machine
+start_machine setup input = record {
+  setup = setup;
+  shared = start_state (start.Script setup.script);
+  threads = (record { start = start.Script setup.script; replies = [] }) ∷ [];
+  input = input;
+  out = [];
+  err = [];
+}
+
+-- the thread of a number
+abbrev pub thread_of : List Thread → ℕ → Option Thread
+thread_of threads number = if number == 0 then None else slice_get threads (number - 1)
+
+-- ---- what a thread asks ----
+
+-- a thread that lives asks this next, and serves these posts meanwhile
+pub record Asks (machine : Machine) (number : ℕ) (request : Request) (serving : List ℕ) : Type 0 where
+  pub thread : Thread
+  pub made : thread_of machine.threads number ≡ Some thread
+  pub lives : IsTrue (is_living machine.shared.rows number)
+  pub next : IsNext machine.setup number thread.start thread.replies request serving
+
+-- ---- a step ----
+
+-- the reply is added to those of the thread
+abbrev pub told : Reply → Thread → Thread
+told reply thread = record thread { replies = thread.replies ++ reply ∷ [] }
+
+abbrev pub told_at : List Thread → ℕ → Reply → Option Thread → List Thread
+told_at threads number reply None = threads
+told_at threads number reply (Some thread) = slice_set threads (number - 1) (told reply thread)
+
+abbrev pub replied : List Thread → ℕ → Reply → List Thread
+replied threads number reply = told_at threads number reply (thread_of threads number)
+
+-- threads that were made begin
+abbrev pub joined : List Thread → List Row → List Thread
+joined threads rows = threads ++ map new_thread (drop (length threads) rows)
+
+-- the machine after a request was answered, when standard input has this left
+abbrev pub after_act : Machine → ℕ → Acted → (left : List ℕ) → Machine
+after_act machine number acted left = record machine {
+  shared = acted.state;
+  threads = joined (replied machine.threads number acted.gives.reply) acted.state.rows;
+  input = left;
+  out = machine.out ++ acted.gives.out;
+  err = machine.err ++ acted.gives.err;
+}
+
+-- what is read for a request
+abbrev pub Reads : Bool → (held : List ℕ) → Line → (left : List ℕ) → Type 0
+Reads true held line left = IsLine held line left
+Reads false held line left = (line ≡ NotRead) × (left ≡ held)
+
+-- a thread can take a step: what it asks next can be answered, and the run is not over
+pub record CanStep (machine : Machine) (number : ℕ) : Type 0 where
+  pub request : Request
+  pub serving : List ℕ
+  pub going : machine.shared.over ≡ None
+  pub asks : Asks machine number request serving
+  pub enabled : IsTrue (enabled machine.shared number request)
+
+-- one step of a thread: its next request is answered
+pub record Steps (old : Machine) (number : ℕ) (new : Machine) : Type 0 where
+  pub can : CanStep old number
+  pub line : Line
+  pub left : List ℕ
+  pub read : Reads (reads_line can.request) old.input line left
+  pub becomes : new ≡ after_act old number (act old.shared number can.request line) left
+
+-- a thread can take none: the run is over; it asks nothing, for it has ended or was never made; or it has to wait
+pub data IsBarred (machine : Machine) (number : ℕ) : Type 0 where
+  over : {code : ℕ} → machine.shared.over ≡ Some code → IsBarred machine number
+  silent :
+      ((request : Request) (serving : List ℕ) → ¬ (Asks machine number request serving)) →
+      IsBarred machine number
+  waits : {request : Request} {serving : List ℕ} →
+      Asks machine number request serving →
+      IsFalse (enabled machine.shared number request) →
+      IsBarred machine number
+
+-- ---- a run ----
+
+-- the machine after the steps of a list of threads
+pub data Runs : Machine → (schedule : List ℕ) → Machine → Type 0 where
+  none : {machine : Machine} → Runs machine [] machine
+  more : {old next new : Machine} {number : ℕ} {schedule : List ℕ} →
+      Steps old number next →
+      Runs next schedule new →
+      Runs old (number ∷ schedule) new
+
+-- no thread can take a step, and the run is not over
+pub record IsStuck (machine : Machine) : Type 0 where
+  pub going : machine.shared.over ≡ None
+  pub barred : (number : ℕ) → IsBarred machine number

@@ -1,0 +1,22 @@
+//! What holds of the machine.
+ghost use Rattle.tt_machine.specs.Laws.{BarredLaw, OneMoreLaw, OneRunLaw, OneStepLaw};
+
+/// A step of a thread leads to one machine.
+pub fn one_step()
+    ensures { OneStepLaw }
+{}
+
+/// A thread that is barred takes no step.
+pub fn barred()
+    ensures { BarredLaw }
+{}
+
+/// A schedule leads from a machine to one machine.
+pub fn one_run()
+    ensures { OneRunLaw }
+{}
+
+/// A schedule with one step more leads one step further.
+pub fn one_more()
+    ensures { OneMoreLaw }
+{}
