@@ -223,6 +223,7 @@ impl<S: Source, K: Sink, E: Sink> Desk<S, K, E> {
     /// The fault or the want of memory that was met. It takes no memory.
     pub fn kept(&self) -> Option<StepFault>
         ensures kept { result ≡ self.now.kept }
+        ensures known { result ≢ Some StepFault.NotEnabled }
     {
         self.kept
     }
