@@ -1,14 +1,14 @@
-ghost use Rattle.std.specs.Prelude.{◌≡◌, ◌≢◌, ◌⊎◌, [], map, string_bytes, Some, Err, IfOk, IfErr, IsErrOf};
+ghost use Rattle.std.specs.Prelude.{◌≡◌, ◌≢◌, ◌⊎◌, map, string_bytes, Some, Err, IfOk, IfErr, IsErrOf};
 ghost use Rattle.tt_devices.specs.Faults.{Rises};
 ghost use Rattle.tt_devices.specs.Names.{Tells};
 ghost use Rattle.tclthread.specs.Answer.{AsksFor};
 ghost use Rattle.tclthread.specs.CommandLine.{reads};
-ghost use Rattle.tclthread.specs.Prepared.{IsFileRefusal, IsRefusal, begun_by};
+ghost use Rattle.tclthread.specs.Prepared.{IsFileRefusal, IsRefusal};
 
 use crate::command_line::{Replay, read_words};
 use crate::status::{Place, Status};
 use std::alloc::Global;
-use tt_core::{Setup, plain_form};
+use tt_core::Setup;
 use tt_devices::{Files, ReadAnswer};
 use tt_schedule::{ReadSchedule, Schedule, read};
 use tt_text::{NoMemory, Text, Texts};
@@ -23,7 +23,7 @@ pub(crate) struct Prepared {
     pub(crate) given: Schedule,
 }
 
-/// Reads the words, the script, the schedule and its text, and tests the form of the script, in this order.
+/// Reads the words, the script, the schedule and its text, in this order.
 ///
 /// Else the status that says which of them is wrong.
 pub(crate) fn prepare<F: Files>(
@@ -32,7 +32,7 @@ pub(crate) fn prepare<F: Files>(
     files: &mut F,
 ) -> Result<Prepared, Status>
     ensures ready { IfOk result (λ prepared. AsksFor (reads (map string_bytes words.now)) (F.map files.old)
-        (begun_by prepared.setup) prepared.given.threads) }
+        prepared.setup prepared.given.threads) }
     ensures refused { IfErr result (λ status. IsRefusal status (reads (map string_bytes words.now)) (F.map files.old)) }
     ensures cause { IsErrOf result Status.ReadFault → Rises (F.read_fault_count files.old) (F.read_fault_count files.new) }
     ensures steady { (result ≢ Err Status.ReadFault) → F.read_fault_count files.new ≡ F.read_fault_count files.old }
@@ -57,9 +57,6 @@ pub(crate) fn prepare<F: Files>(
         ReadSchedule::Read(given) => given,
         ReadSchedule::Bad(fault) => return Err(Status::BadSchedule(Place::Byte(fault.place))),
     };
-    if !plain_form(&script) {
-        return Err(Status::BadScript);
-    }
     let Ok(setup) = setup_of(alloc, replay, &script) else {
         return Err(Status::NoMemory);
     };
@@ -70,15 +67,26 @@ pub(crate) fn prepare<F: Files>(
 fn setup_of(alloc: Global, replay: Replay<'_>, script: &[u8]) -> Result<Setup, NoMemory>
     ensures script { IfOk result (λ setup. setup.script ≡ script.now) }
     ensures name { IfOk result (λ setup. setup.name ≡ replay.entry.script.now) }
-    ensures arguments { IfOk result (λ setup. setup.arguments ≡ []) }
+    ensures arguments { IfOk result (λ setup. setup.arguments ≡ map string_bytes replay.entry.arguments.now) }
     ensures limit { IfOk result (λ setup. setup.limit ≡ DEFAULT_LIMIT) }
 {
     Ok(Setup {
         script: Text::from_bytes(alloc, script)?,
         name: Text::from_bytes(alloc, replay.script.as_bytes())?,
-        arguments: Texts::new(alloc),
+        arguments: texts(alloc, replay.arguments)?,
         limit: DEFAULT_LIMIT,
     })
+}
+
+/// The words as texts.
+fn texts(alloc: Global, words: &[String]) -> Result<Texts, NoMemory>
+    ensures { IfOk result (λ texts. texts ≡ map string_bytes words.now) }
+{
+    let mut texts = Texts::new(alloc);
+    for word in words {
+        texts.push(Text::from_bytes(alloc, word.as_bytes())?)?;
+    }
+    Ok(texts)
 }
 
 /// The bytes of a file.

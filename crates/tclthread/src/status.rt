@@ -17,7 +17,7 @@ pub enum Place {
 pub enum Status {
     /// The run is over, with this code.
     Done(u8),
-    /// The words are not `--replay FILE SCRIPT`, or FILE or SCRIPT is empty.
+    /// The words are not `--replay FILE SCRIPT [ARG ...]`, or FILE or SCRIPT is empty.
     Usage,
     /// There is no file of this name.
     NoFile(Text),
@@ -25,11 +25,9 @@ pub enum Status {
     BadSchedule(Place),
     /// All steps of the schedule were taken, and the run isn't over.
     ScheduleEnded,
-    /// The script isn't plain.
-    BadScript,
-    /// A file could not be read.
+    /// A file or standard input could not be read.
     ReadFault,
-    /// Standard output could not be written.
+    /// Standard output or standard error could not be written.
     WriteFault,
     /// Memory was refused.
     NoMemory,
@@ -46,7 +44,6 @@ impl Status {
             Status::NoFile(_) => 107,
             Status::BadSchedule(_) => 108,
             Status::ScheduleEnded => 109,
-            Status::BadScript => 110,
             Status::ReadFault => 104,
             Status::WriteFault => 105,
             Status::NoMemory => 103,

@@ -5,6 +5,7 @@ use crate::status::{Place, Status};
 use crate::words::words;
 use std::alloc::Global;
 use std::env::{Env, FillError};
+use std::process::Abort;
 use std::sync::Wait;
 use std::test::Fail;
 use std::thread::Threads;
@@ -19,7 +20,25 @@ struct Left {
     steps: u64,
     schedule: Schedule,
     output: Vec<u8>,
+    errors: Vec<u8>,
 }
+
+/// Which calls fail, counted from 1: reads of files, takes of the input, puts to the output and to standard error. None
+/// has the number 0.
+#[derive(Clone, Copy)]
+struct Fails {
+    reads: u64,
+    takes: u64,
+    puts: u64,
+    error_puts: u64,
+}
+
+const NEVER: Fails = Fails {
+    reads: 0,
+    takes: 0,
+    puts: 0,
+    error_puts: 0,
+};
 
 /// The words of a status.
 fn status_words(alloc: Global, status: &Status) -> Result<String, Fail> {
@@ -30,43 +49,60 @@ fn status_words(alloc: Global, status: &Status) -> Result<String, Fail> {
         Status::BadSchedule(Place::Byte(offset)) => format!(in alloc; "bad schedule at {offset}")?,
         Status::BadSchedule(Place::Entry(number)) => format!(in alloc; "bad entry {number}")?,
         Status::ScheduleEnded => format!(in alloc; "schedule ended")?,
-        Status::BadScript => format!(in alloc; "bad script")?,
         Status::ReadFault => format!(in alloc; "read fault")?,
         Status::WriteFault => format!(in alloc; "write fault")?,
         Status::NoMemory => format!(in alloc; "no memory")?,
     })
 }
 
-/// Calls the program over devices in memory: the files `script` and `schedule`, and these calls that fail.
+/// Calls the program over devices in memory: the files `script` and `schedule`, this input, and these calls that fail.
 fn call<R: Threads + Wait + Sync + AllocGlobal>(
     rt: &R,
     words: &[&str],
     script: &[u8],
     schedule: &[u8],
-    fail_reads: &[u64],
-    fail_puts: &[u64],
+    input: &[u8],
+    fails: Fails,
 ) -> Result<Left, Fail> {
     let alloc = rt.alloc();
+    let words = owned(alloc, words)?;
+    let mut files = MemoryFiles::new(
+        alloc,
+        Vec::from_slice(alloc, &[fails.reads])?,
+        Vec::new(alloc),
+    );
+    files.add("script", script)?;
+    files.add("schedule", schedule)?;
+    let input = MemorySource::new(
+        Vec::from_slice(alloc, input)?,
+        Vec::from_slice(alloc, &[fails.takes])?,
+    );
+    let output = MemorySink::new(alloc, Vec::from_slice(alloc, &[fails.puts])?);
+    let errors = MemorySink::new(alloc, Vec::from_slice(alloc, &[fails.error_puts])?);
+    let ended = session(
+        rt, alloc, &words, &mut files, input, output, errors, &OpenGate,
+    );
+    left_of(alloc, ended)
+}
+
+fn owned(alloc: Global, words: &[&str]) -> Result<Vec<String>, Fail> {
     let mut owned = Vec::new(alloc);
     for word in words {
         owned.push(String::from_str(alloc, word)?)?;
     }
-    let fail_reads = Vec::from_slice(alloc, fail_reads)?;
-    let fail_puts = Vec::from_slice(alloc, fail_puts)?;
-    let mut files = MemoryFiles::new(alloc, fail_reads, Vec::new(alloc));
-    files.add("script", script)?;
-    files.add("schedule", schedule)?;
-    let input = MemorySource::new(Vec::new(alloc), Vec::new(alloc));
-    let output = MemorySink::new(alloc, fail_puts);
-    let errors = MemorySink::new(alloc, Vec::new(alloc));
-    let ended = session(
-        rt, alloc, &owned, &mut files, input, output, errors, &OpenGate,
-    );
+    Ok(owned)
+}
+
+fn left_of(
+    alloc: Global,
+    ended: Ended<MemorySource, MemorySink, MemorySink>,
+) -> Result<Left, Fail> {
     let Ended {
         status,
         schedule,
+        input: _,
         output,
-        ..
+        errors,
     } = ended;
     Ok(Left {
         status: status_words(alloc, &status)?,
@@ -74,79 +110,142 @@ fn call<R: Threads + Wait + Sync + AllocGlobal>(
         steps: schedule.len(),
         schedule,
         output: Vec::from_slice(alloc, output.bytes())?,
+        errors: Vec::from_slice(alloc, errors.bytes())?,
     })
 }
 
 const WORDS: [&str; 3] = ["--replay", "schedule", "script"];
 
+/// A script, its schedule, and what the run comes to: status, steps, output and standard error.
+type Row<'a> = (&'a [u8], &'a [u8], &'a str, u64, &'a [u8], &'a [u8]);
+
+/// Rows hold.
+fn hold<R: Threads + Wait + Sync + AllocGlobal + Abort>(rt: &R, rows: &[Row]) -> Result<(), Fail> {
+    for (script, schedule, status, steps, output, errors) in rows {
+        let left = call(rt, &WORDS, script, schedule, b"", NEVER)?;
+        assert_eq!(rt; left.status.as_str(), *status);
+        assert_eq!(rt; left.steps, *steps);
+        assert_eq!(rt; left.output.as_slice(), *output);
+        assert_eq!(rt; left.errors.as_slice(), *errors);
+    }
+    Ok(())
+}
+
 #[test]
 fn scripts_are_replayed_as_far_as_their_schedules_go(rt: HostRuntime) -> Result<(), Fail> {
-    let rows: [(&[u8], &[u8], &str, u8, u64, &[u8]); 14] = [
-        (b"puts hi", b"schedule 1\n1 2\n", "done 0", 0, 2, b"hi\n"),
-        (b"", b"schedule 1\n1 1\n", "done 0", 0, 1, b""),
+    let rows: [Row; 13] = [
+        (b"puts hi", b"schedule 1\n1 2\n", "done 0", 2, b"hi\n", b""),
+        (b"", b"schedule 1\n1 1\n", "done 0", 1, b"", b""),
         (
             b" \n puts  a\n\n puts {b c} \n",
             b"schedule 1\n1 3\n",
             "done 0",
-            0,
             3,
             b"a\nb c\n",
+            b"",
         ),
-        (b"puts {}", b"schedule 1\n1 2\n", "done 0", 0, 2, b"\n"),
-        (b"puts hi", b"schedule 1\n2 1\n", "bad entry 1", 108, 0, b""),
-        (b"", b"schedule 1\n1 2\n", "bad entry 2", 108, 1, b""),
-        (b"", b"schedule 1\n", "schedule ended", 109, 0, b""),
+        (b"puts {}", b"schedule 1\n1 2\n", "done 0", 2, b"\n", b""),
+        (
+            b"puts {-a}\nexit 300",
+            b"schedule 1\n1 2\n",
+            "done 44",
+            2,
+            b"-a\n",
+            b"",
+        ),
+        (b"puts hi", b"schedule 1\n2 1\n", "bad entry 1", 0, b"", b""),
+        (b"", b"schedule 1\n1 2\n", "bad entry 2", 1, b"", b""),
+        (b"", b"schedule 1\n", "schedule ended", 0, b"", b""),
         (
             b"puts a\nputs b",
             b"schedule 1\n1 1\n",
             "schedule ended",
-            109,
             1,
             b"a\n",
-        ),
-        (b"puts $x", b"schedule 1\n1 1\n", "bad script", 110, 0, b""),
-        (
-            b"puts {-a}",
-            b"schedule 1\n1 1\n",
-            "bad script",
-            110,
-            0,
-            b"",
-        ),
-        (
-            b"puts a puts b",
-            b"schedule 1\n1 1\n",
-            "bad script",
-            110,
-            0,
             b"",
         ),
         (
             b"puts $x",
             b"schedule 1\n1 2",
             "bad schedule at 11",
-            108,
             0,
+            b"",
             b"",
         ),
         (
             b"puts a",
             b"schedule 1\n1 2\n1 1\n",
             "bad schedule at 15",
-            108,
             0,
             b"",
+            b"",
         ),
-        (b"puts a", b"", "bad schedule at 0", 108, 0, b""),
+        (b"puts a", b"", "bad schedule at 0", 0, b"", b""),
+        (
+            b"puts \xFF\x00\x80",
+            b"schedule 1\n1 2\n",
+            "done 0",
+            2,
+            b"\xFF\x00\x80\n",
+            b"",
+        ),
     ];
-    for (script, schedule, status, exit, steps, output) in rows {
-        let left = call(&rt, &WORDS, script, schedule, &[], &[])?;
-        assert_eq!(rt; left.status.as_str(), status);
-        assert_eq!(rt; left.exit, exit);
-        assert_eq!(rt; left.steps, steps);
-        assert_eq!(rt; left.output.as_slice(), output);
-    }
-    Ok(())
+    hold(&rt, &rows)
+}
+
+#[test]
+fn errors_that_nobody_catches_are_told_with_their_traces(rt: HostRuntime) -> Result<(), Fail> {
+    let rows: [Row; 6] = [
+        (
+            b"puts $x",
+            b"schedule 1\n1 2\n",
+            "done 1",
+            2,
+            b"",
+            b"can't read \"x\": no such variable\n    while executing\n\"puts $x\"\n",
+        ),
+        (
+            b"puts a\nputs {abc",
+            b"schedule 1\n1 3\n",
+            "done 1",
+            3,
+            b"a\n",
+            b"missing close-brace\n    while executing\n\"puts {abc\"\n",
+        ),
+        (
+            b"puts $x",
+            b"schedule 1\n1 1\n",
+            "schedule ended",
+            1,
+            b"",
+            b"can't read \"x\": no such variable\n    while executing\n\"puts $x\"\n",
+        ),
+        (
+            b"thread::send -async tid2 {puts a}",
+            b"schedule 1\n1 3\n",
+            "done 1",
+            3,
+            b"",
+            b"thread \"tid2\" does not exist\n    while executing\n\"thread::send -async tid2 {puts a}\"\n",
+        ),
+        (
+            b"thread::create\nthread::send -async tid2 {error oops}",
+            b"schedule 1\n1 2\n2 2\n1 1\n",
+            "done 0",
+            5,
+            b"",
+            b"Error from thread tid2\noops\n    while executing\n\"error oops\"\n",
+        ),
+        (
+            b"\xFF \x00",
+            b"schedule 1\n1 2\n",
+            "done 1",
+            2,
+            b"",
+            b"invalid command name \"\xFF\"\n    while executing\n\"\xFF \x00\"\n",
+        ),
+    ];
+    hold(&rt, &rows)
 }
 
 /// A script of a thread that is sent two scripts.
@@ -160,21 +259,23 @@ const TWO_THREADS: &[u8] = b"thread::create\nthread::create\n\
 
 #[test]
 fn threads_take_what_they_are_sent_when_their_schedule_says(rt: HostRuntime) -> Result<(), Fail> {
-    let rows: [(&[u8], &[u8], &str, u64, &[u8]); 14] = [
+    let rows: [Row; 13] = [
         (
             TWO_SENDS,
             b"schedule 1\n1 3\n2 4\n1 1\n",
             "done 0",
             8,
             b"a\nb c\n",
+            b"",
         ),
-        (TWO_SENDS, b"schedule 1\n1 4\n", "done 0", 4, b""),
+        (TWO_SENDS, b"schedule 1\n1 4\n", "done 0", 4, b"", b""),
         (
             TWO_SENDS,
             b"schedule 1\n1 3\n2 3\n1 1\n",
             "done 0",
             7,
             b"a\n",
+            b"",
         ),
         (
             TWO_SENDS,
@@ -182,12 +283,14 @@ fn threads_take_what_they_are_sent_when_their_schedule_says(rt: HostRuntime) -> 
             "bad entry 5",
             4,
             b"a\n",
+            b"",
         ),
         (
             b"thread::create",
             b"schedule 1\n1 1\n2 1\n",
             "bad entry 2",
             1,
+            b"",
             b"",
         ),
         (
@@ -196,12 +299,14 @@ fn threads_take_what_they_are_sent_when_their_schedule_says(rt: HostRuntime) -> 
             "done 0",
             3,
             b"x\n",
+            b"",
         ),
         (
             b"thread::create",
             b"schedule 1\n1 1\n3 1\n",
             "bad entry 2",
             1,
+            b"",
             b"",
         ),
         (
@@ -210,6 +315,7 @@ fn threads_take_what_they_are_sent_when_their_schedule_says(rt: HostRuntime) -> 
             "bad entry 3",
             2,
             b"",
+            b"",
         ),
         (
             TWO_THREADS,
@@ -217,6 +323,7 @@ fn threads_take_what_they_are_sent_when_their_schedule_says(rt: HostRuntime) -> 
             "done 0",
             13,
             b"a\nc\nb\nd\n",
+            b"",
         ),
         (
             TWO_THREADS,
@@ -224,6 +331,7 @@ fn threads_take_what_they_are_sent_when_their_schedule_says(rt: HostRuntime) -> 
             "done 0",
             13,
             b"c\na\nb\nd\n",
+            b"",
         ),
         (
             TWO_THREADS,
@@ -231,36 +339,26 @@ fn threads_take_what_they_are_sent_when_their_schedule_says(rt: HostRuntime) -> 
             "schedule ended",
             6,
             b"",
-        ),
-        (
-            b"thread::send -async tid2 {puts a}",
-            b"schedule 1\n1 1\n",
-            "bad script",
-            0,
             b"",
         ),
         (
             b"thread::create\nthread::send -async tid1 {puts a}",
-            b"schedule 1\n1 1\n",
-            "bad script",
-            0,
+            b"schedule 1\n1 3\n",
+            "done 0",
+            3,
+            b"",
             b"",
         ),
         (
-            b"thread::create\nthread::send -async tid2 {thread::create}",
-            b"schedule 1\n1 1\n",
-            "bad script",
-            0,
+            b"thread::create\nthread::send -async tid2 {thread::create {puts x}}",
+            b"schedule 1\n1 2\n2 2\n3 1\n1 1\n",
+            "done 0",
+            6,
+            b"x\n",
             b"",
         ),
     ];
-    for (script, schedule, status, steps, output) in rows {
-        let left = call(&rt, &WORDS, script, schedule, &[], &[])?;
-        assert_eq!(rt; left.status.as_str(), status);
-        assert_eq!(rt; left.steps, steps);
-        assert_eq!(rt; left.output.as_slice(), output);
-    }
-    Ok(())
+    hold(&rt, &rows)
 }
 
 /// A script that makes so many threads.
@@ -275,14 +373,19 @@ fn creates(alloc: Global, count: usize) -> Result<Vec<u8>, Fail> {
 #[test]
 fn a_script_makes_999_threads_and_no_more(rt: HostRuntime) -> Result<(), Fail> {
     let most = creates(rt.alloc(), 999)?;
-    let left = call(&rt, &WORDS, &most, b"schedule 1\n1 1000\n", &[], &[])?;
-    assert_eq!(rt; left.status.as_str(), "done 0");
-    assert_eq!(rt; left.steps, 1000);
-    assert_eq!(rt; left.output.len(), 0);
     let more = creates(rt.alloc(), 1000)?;
-    let left = call(&rt, &WORDS, &more, b"schedule 1\n1 1001\n", &[], &[])?;
-    assert_eq!(rt; left.status.as_str(), "bad script");
-    Ok(())
+    let rows: [Row; 2] = [
+        (&most, b"schedule 1\n1 1000\n", "done 0", 1000, b"", b""),
+        (
+            &more,
+            b"schedule 1\n1 1002\n",
+            "done 1",
+            1002,
+            b"",
+            b"too many threads\n    while executing\n\"thread::create\"\n",
+        ),
+    ];
+    hold(&rt, &rows)
 }
 
 #[test]
@@ -305,10 +408,11 @@ fn a_thousand_threads_are_stepped_in_reverse_order(rt: HostRuntime) -> Result<()
         output.extend_from_slice(line.as_bytes())?;
     }
     schedule.extend_from_slice(b"1 1\n")?;
-    let left = call(&rt, &WORDS, &script, &schedule, &[], &[])?;
+    let left = call(&rt, &WORDS, &script, &schedule, b"", NEVER)?;
     assert_eq!(rt; left.status.as_str(), "done 0");
     assert_eq!(rt; left.steps, 3997);
     assert_eq!(rt; left.output.as_slice(), output.as_slice());
+    assert_eq!(rt; left.errors.len(), 0);
     Ok(())
 }
 
@@ -317,7 +421,7 @@ fn wrong_words_and_missing_files_have_their_answers(rt: HostRuntime) -> Result<(
     let rows: [(&[&str], &str, u8); 8] = [
         (&[], "usage", 106),
         (&["--replay", "schedule"], "usage", 106),
-        (&["--replay", "schedule", "script", "more"], "usage", 106),
+        (&["script", "--replay", "schedule"], "usage", 106),
         (&["--replay", "", "script"], "usage", 106),
         (&["--replay", "schedule", ""], "usage", 106),
         (&["--record", "schedule", "script"], "usage", 106),
@@ -329,36 +433,94 @@ fn wrong_words_and_missing_files_have_their_answers(rt: HostRuntime) -> Result<(
         (&["--replay", "none", "script"], "no file of 4 bytes", 107),
     ];
     for (words, status, exit) in rows {
-        let left = call(&rt, words, b"puts hi", b"schedule 1\n1 2\n", &[], &[])?;
+        let left = call(&rt, words, b"puts hi", b"schedule 1\n1 2\n", b"", NEVER)?;
         assert_eq!(rt; left.status.as_str(), status);
         assert_eq!(rt; left.exit, exit);
         assert_eq!(rt; left.steps, 0);
+        assert_eq!(rt; left.output.len(), 0);
+        assert_eq!(rt; left.errors.len(), 0);
     }
     Ok(())
 }
 
 #[test]
-fn faults_end_the_run_where_they_come(rt: HostRuntime) -> Result<(), Fail> {
-    let rows: [(&[u64], &[u64], &str, u8, u64, &[u8]); 4] = [
-        (&[1], &[], "read fault", 104, 0, b""),
-        (&[2], &[], "read fault", 104, 0, b""),
-        (&[], &[1], "write fault", 105, 1, b"a"),
-        (&[], &[2], "write fault", 105, 2, b"a\nb"),
+fn words_after_the_script_are_its_arguments(rt: HostRuntime) -> Result<(), Fail> {
+    let rows: [(&[&str], &[u8]); 4] = [
+        (&["--replay", "schedule", "script"], b"script 0 <>\n"),
+        (
+            &["--replay", "schedule", "script", "b", "a"],
+            b"script 2 <b a>\n",
+        ),
+        (
+            &["--replay", "schedule", "script", "", "b c"],
+            b"script 2 <{} {b c}>\n",
+        ),
+        (
+            &["--replay", "schedule", "script", "--replay", "x"],
+            b"script 2 <--replay x>\n",
+        ),
     ];
-    for (fail_reads, fail_puts, status, exit, steps, output) in rows {
-        let schedule = b"schedule 1\n1 3\n";
-        let left = call(
-            &rt,
-            &WORDS,
-            b"puts a\nputs b",
-            schedule,
-            fail_reads,
-            fail_puts,
-        )?;
+    for (words, output) in rows {
+        let script = b"puts \"$argv0 $argc <$argv>\"";
+        let left = call(&rt, words, script, b"schedule 1\n1 2\n", b"", NEVER)?;
+        assert_eq!(rt; left.status.as_str(), "done 0");
+        assert_eq!(rt; left.output.as_slice(), output);
+    }
+    Ok(())
+}
+
+#[test]
+fn lines_come_from_the_input(rt: HostRuntime) -> Result<(), Fail> {
+    let script = b"while {[gets stdin line] >= 0} {puts <$line>}; puts [eof stdin]";
+    let left = call(&rt, &WORDS, script, b"schedule 1\n1 8\n", b"a\n\xFF", NEVER)?;
+    assert_eq!(rt; left.status.as_str(), "done 0");
+    assert_eq!(rt; left.output.as_slice(), b"<a>\n<\xFF>\n1\n".as_slice());
+    Ok(())
+}
+
+#[test]
+fn faults_end_the_run_where_they_come(rt: HostRuntime) -> Result<(), Fail> {
+    let rows: [(Fails, &str, u8, u64, &[u8], &[u8]); 6] = [
+        (Fails { reads: 1, ..NEVER }, "read fault", 104, 0, b"", b""),
+        (Fails { reads: 2, ..NEVER }, "read fault", 104, 0, b"", b""),
+        (
+            Fails { takes: 1, ..NEVER },
+            "read fault",
+            104,
+            2,
+            b"a\n",
+            b"b\n",
+        ),
+        (Fails { puts: 1, ..NEVER }, "write fault", 105, 1, b"a", b""),
+        (
+            Fails {
+                error_puts: 1,
+                ..NEVER
+            },
+            "write fault",
+            105,
+            2,
+            b"a\n",
+            b"b",
+        ),
+        (
+            Fails { puts: 2, ..NEVER },
+            "write fault",
+            105,
+            4,
+            b"a\nc",
+            b"b\n",
+        ),
+    ];
+    for (fails, status, exit, steps, output, errors) in rows {
+        let script = b"puts a\nputs stderr b\nputs [gets stdin]";
+        let schedule = b"schedule 1\n1 5\n";
+        let left = call(&rt, &WORDS, script, schedule, b"c\n", fails)?;
         assert_eq!(rt; left.status.as_str(), status);
         assert_eq!(rt; left.exit, exit);
         assert_eq!(rt; left.steps, steps);
         assert_eq!(rt; left.output.as_slice(), output);
+        assert_eq!(rt; left.errors.as_slice(), errors);
     }
     Ok(())
 }
@@ -367,7 +529,8 @@ fn faults_end_the_run_where_they_come(rt: HostRuntime) -> Result<(), Fail> {
 fn a_failed_put_leaves_the_first_of_the_given_steps(rt: HostRuntime) -> Result<(), Fail> {
     let script = b"thread::create\nthread::send -async tid2 {puts a\nputs b}\nputs c\n";
     let schedule = b"schedule 1\n1 2\n2 3\n1 2\n";
-    let left = call(&rt, &WORDS, script, schedule, &[], &[2])?;
+    let fails = Fails { puts: 2, ..NEVER };
+    let left = call(&rt, &WORDS, script, schedule, b"", fails)?;
     let mut threads = Vec::new(rt.alloc());
     for place in 0..left.schedule.len() {
         threads.push(left.schedule.at(place))?;
@@ -425,5 +588,5 @@ fn a_word_that_is_no_text_is_wrong_words(rt: HostRuntime) {
 
 #[test]
 fn the_answer_is_one(_rt: HostRuntime) {
-    one_answer::<(), ()>();
+    one_answer::<(), (), ()>();
 }

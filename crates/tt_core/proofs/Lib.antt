@@ -1,11 +1,2 @@
-pub mod StepLemmas
 pub mod CrewLemmas
 pub mod StandLemmas
-pub mod ListLemmas
-pub mod PlainLemmas
-pub mod AskingLemmas
-pub mod PlainStanding
-pub mod StateLemmas
-pub mod PlainSteps
-pub mod RefusalLemmas
-pub mod WorkedRunLemmas

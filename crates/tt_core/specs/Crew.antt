@@ -1,87 +1,119 @@
--- The threads over what they share, as the code has them: what each is at stands for the replies that it has had.
-use Rattle.std.specs.Prelude.{ℕ, ◌-◌, ◌==◌, Bool, List, ◌++◌, length, drop, map, Option, Some, None, slice_get, slice_set, if◌then◌else◌, option_and_then}
+-- The interpreters of the threads, and the threads of the machine that they stand for.
+use Rattle.std.specs.Prelude.{◌≡◌, ◌<◌, ◌≤◌, ◌⊎◌, ◌-◌, ◌==◌, ⊤, ℕ, suc, Bool, false, IsTrue, IsFalse, List, [], ◌∷◌, ◌++◌, drop, length, map, Option, Some, None, slice_get, slice_set, if◌then◌else◌}
+use Rattle.std.specs.Option.{option_map}
 use Rattle.tt_calls.specs.declared.reply.Reply.{Reply}
 use Rattle.tt_calls.specs.declared.request.Request.{Request}
-use Rattle.tt_core.specs.Asking.{Doing, Evaluates, Serves, after_reply, doing_of, first_doing, request_of}
-use Rattle.tt_core.specs.Machine.{Machine, Thread, is_last}
-use Rattle.tt_core.specs.declared.asker.Doing as asker
-use Rattle.tt_core.specs.declared.asker.Doing.TheVariants as code
-use Rattle.tt_shared.specs.Acts.{act}
-use Rattle.tt_shared.specs.Enabled.{enabled}
-use Rattle.tt_shared.specs.State.{Acted, State}
-use Rattle.tt_shared.specs.declared.applied.Line.TheVariants.{NotRead}
-use Rattle.tt_threads.specs.Rows.{is_living}
+use Rattle.tt_desk.specs.Desk.{Ground, can_act}
+use Rattle.tt_interp.specs.Beginning.{IsNext}
+use Rattle.tt_interp.specs.Interps as interps
+use Rattle.tt_interp.specs.Interps.{Interpreter}
+use Rattle.tt_interp.specs.declared.setup.Setup.{Setup}
+use Rattle.tt_machine.specs.Machine.{Thread, new_thread}
 use Rattle.tt_threads.specs.declared.row.Row.{Row}
 
--- what a thread is at, as the code has it
-abbrev pub meaning : asker.Doing → Option Doing
-meaning (code.Evaluates left) = Some (Evaluates left)
-meaning (code.Serves left) = Some (Serves left)
-meaning code.Other = None
+-- an interpreter for each thread that has not ended, by number from 1
+abbrev pub Places : Type 0
+Places = List (Option Interpreter)
 
--- what the threads share, and what each is at, by number from 1
-pub record Crew : Type 0 where
-  pub shared : State
-  pub doings : List (Option Doing)
+-- that of a thread
+abbrev pub placed : Option (Option Interpreter) → Option Interpreter
+placed None = None
+placed (Some place) = place
 
--- what a machine's thread is at
-abbrev pub is_at : Thread → Option Doing
-is_at thread = doing_of thread.start thread.replies
+abbrev pub interp_of : Places → ℕ → Option Interpreter
+interp_of places number = if number == 0 then None else placed (slice_get places (number - 1))
 
-abbrev pub crew_of : Machine → Crew
-crew_of machine = record { shared = machine.shared; doings = map is_at machine.threads }
+-- an interpreter in its place halts at what it asks
+abbrev pub IsHalted : Option Interpreter → Type 0
+IsHalted None = ⊤
+IsHalted (Some interp) = IsTrue (interps.is_halted interp.standing)
 
--- ---- what a thread asks ----
+-- what the thread of a place asks
+abbrev pub asked_by : Places → ℕ → Option Request
+asked_by places number = option_map (λ interp. interps.request_of interp.standing) (interp_of places number)
 
--- what the thread of a number is at
-abbrev pub doing_of_number : List (Option Doing) → ℕ → Option (Option Doing)
-doing_of_number doings number = if number == 0 then None else slice_get doings (number - 1)
+-- ---- what stands for what ----
 
-abbrev pub asked_at : Option Doing → Option Request
-asked_at doing = option_and_then request_of doing
+-- it halts at what its thread asks next, and asks later what the thread does
+pub record StandsIn (interp : Interpreter) (setup : Setup) (number : ℕ) (thread : Thread) : Type 0 where
+  pub halted : IsTrue (interps.is_halted interp.standing)
+  pub later : (replies : List Reply) (request : Request) (serving : List ℕ) →
+      interps.Asks interp replies request serving →
+      IsNext setup number thread.start (thread.replies ++ replies) request serving
 
-abbrev pub asked_by : List (Option Doing) → ℕ → Option Request
-asked_by doings number = option_and_then asked_at (doing_of_number doings number)
+-- a thread that asks nothing
+abbrev pub IsSilent : Setup → (number : ℕ) → Thread → Type 0
+IsSilent setup number thread =
+    (request : Request) (serving : List ℕ) → ¬ (IsNext setup number thread.start thread.replies request serving)
 
-abbrev pub if_enabled : State → ℕ → Option Request → Option Request
-if_enabled shared number None = None
-if_enabled shared number (Some request) = if enabled shared number request then Some request else None
+abbrev pub IsPlaced : Setup → (number : ℕ) → Thread → Option Interpreter → Type 0
+IsPlaced setup number thread (Some interp) = StandsIn interp setup number thread
+IsPlaced setup number thread None = IsSilent setup number thread
 
--- the request of a thread that lives, where it is enabled
-abbrev pub ready : Crew → ℕ → Option Request
-ready crew number =
-    if is_living crew.shared.rows number then if_enabled crew.shared number (asked_by crew.doings number) else None
+-- each thread has its place, from a number on
+abbrev pub ArePlaced : Setup → (number : ℕ) → List Thread → Places → Type 0
+ArePlaced setup number [] [] = ⊤
+ArePlaced setup number (thread ∷ threads) (place ∷ places) =
+    IsPlaced setup number thread place × ArePlaced setup (suc number) threads places
+ArePlaced setup number [] (place ∷ places) = ⊥
+ArePlaced setup number (thread ∷ threads) [] = ⊥
 
--- ---- a step ----
+-- ---- what becomes of them ----
 
--- one thread is told a reply
-abbrev pub told_at : List (Option Doing) → ℕ → Reply → Option (Option Doing) → List (Option Doing)
-told_at doings number reply None = doings
-told_at doings number reply (Some doing) = slice_set doings (number - 1) (option_and_then (after_reply reply) doing)
+-- a thread that was made begins
+pub record Begins (setup : Setup) (start : Thread) (old new : Places) : Type 0 where
+  pub interp : Interpreter
+  pub pushed : new ≡ old ++ Some interp ∷ []
+  pub stands : StandsIn interp setup (suc (length old)) start
 
--- a thread has no reply after its end
-abbrev pub told_unless : Bool → List (Option Doing) → ℕ → Reply → List (Option Doing)
-told_unless last doings number reply =
-    if last then doings else told_at doings number reply (doing_of_number doings number)
+-- all of them begin
+pub record AllBegin (setup : Setup) (rows : List Row) (old new : Places) : Type 0 where
+  pub more : Places
+  pub pushed : new ≡ old ++ more
+  pub placed : ArePlaced setup (suc (length old)) (map new_thread (drop (length old) rows)) more
 
--- threads that were made begin
-abbrev pub begins : Row → Option Doing
-begins row = first_doing row.start
+-- an interpreter goes on with a reply, or has ended
+abbrev pub GoesOn : Interpreter → Reply → Option Interpreter → Type 0
+GoesOn interp reply (Some later) =
+    interps.GoesOn later interp (Some reply) × IsTrue (interps.is_halted later.standing)
+GoesOn interp reply None = IsFalse (interps.fits interp.standing (Some reply))
 
-abbrev pub all_begun : List (Option Doing) → List Row → List (Option Doing)
-all_begun doings rows = doings ++ map begins (drop (length doings) rows)
+abbrev pub Resumes : (goes : Bool) → Interpreter → Reply → Interpreter → Type 0
+Resumes goes interp reply later = GoesOn interp reply (if goes then Some later else None)
 
-abbrev pub after_act : Crew → ℕ → Request → Acted → Crew
-after_act crew number request acted = record {
-  shared = acted.state;
-  doings = all_begun (told_unless (is_last request) crew.doings number acted.gives.reply) acted.state.rows;
-}
+-- a thread gets its reply
+pub record IsReplied (number : ℕ) (reply : Reply) (old new : Places) : Type 0 where
+  pub interp : Interpreter
+  pub found : interp_of old number ≡ Some interp
+  pub place : Option Interpreter
+  pub goes : GoesOn interp reply place
+  pub put : new ≡ slice_set old (number - 1) place
 
--- what a request writes on standard output, and the crew after it
-abbrev pub written_by : Crew → ℕ → Option Request → Option (List ℕ)
-written_by crew number None = None
-written_by crew number (Some request) = Some (act crew.shared number request NotRead).gives.out
+-- ---- what can be done ----
 
-abbrev pub crew_after : Crew → ℕ → Option Request → Crew
-crew_after crew number None = crew
-crew_after crew number (Some request) = after_act crew number request (act crew.shared number request NotRead)
+-- whether the thread's request can be answered
+abbrev pub can_act_at : {S K E : Type 0} → Ground S K E → ℕ → Option Interpreter → Bool
+can_act_at desk number None = false
+can_act_at desk number (Some interp) = can_act desk number (interps.request_of interp.standing)
+
+abbrev pub is_ready : {S K E : Type 0} → Ground S K E → Places → (number : ℕ) → Bool
+is_ready desk places number = can_act_at desk number (interp_of places number)
+
+-- the first that is ready above a number, and else the first up to it
+abbrev pub IsReadyAfter : (ready : ℕ → Bool) → (after : ℕ) → Option ℕ → Type 0
+IsReadyAfter ready after None = (number : ℕ) → IsFalse (ready number)
+IsReadyAfter ready after (Some next) =
+    IsTrue (ready next)
+    × (((after < next) × ((number : ℕ) → after < number → number < next → IsFalse (ready number)))
+    ⊎ ((next ≤ after)
+    × ((number : ℕ) → after < number → IsFalse (ready number))
+    × ((number : ℕ) → number < next → IsFalse (ready number))))
+
+-- the first of a range
+abbrev pub IsFirstReady : (ready : ℕ → Bool) → (from to : ℕ) → Option ℕ → Type 0
+IsFirstReady ready from to None = (number : ℕ) → from ≤ number → number ≤ to → IsFalse (ready number)
+IsFirstReady ready from to (Some next) =
+    IsTrue (ready next)
+    × (from ≤ next)
+    × (next ≤ to)
+    × ((number : ℕ) → from ≤ number → number < next → IsFalse (ready number))

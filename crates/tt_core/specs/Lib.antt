@@ -1,6 +1,4 @@
-pub mod Asking
 pub mod Crew
-pub mod Machine
-pub mod PlainRuns
+pub mod Faithful
 pub mod Stage
 pub mod Standing

@@ -1,22 +1,42 @@
--- Where a system stands in its run: what ties its fields to the machine.
-use Rattle.std.specs.Prelude.{◌≡◌, ◌≢◌, ℕ, List, Option, Some, None}
-use Rattle.tt_core.specs.Crew.{Crew, crew_of}
-use Rattle.tt_core.specs.Machine.{Beginning, Machine, run}
-use Rattle.tt_core.specs.Stage.{HasWritten}
-use Rattle.tt_core.specs.declared.fault.StepFault.{StepFault}
-use Rattle.tt_core.specs.declared.fault.StepFault.TheVariants.{NotEnabled}
+-- Where a system stands in its run: what ties its parts to the machine.
+use Rattle.std.specs.Prelude.{◌≡◌, ◌≢◌, ℕ, List, Option, Some, None, IfSome}
+use Rattle.tt_desk.specs.Desk.{unread}
+use Rattle.tt_desk.specs.declared.fault.StepFault.{StepFault}
+use Rattle.tt_desk.specs.declared.fault.StepFault.TheVariants.{NotEnabled}
+use Rattle.tt_machine.specs.Machine.{Machine, Runs, start_machine}
+use Rattle.tt_shared.specs.State.{State}
+use Rattle.tt_core.specs.Crew.{ArePlaced, Places}
+use Rattle.tt_core.specs.Faithful.{IsFaithful, is_cut}
+use Rattle.tt_core.specs.Stage.{Stage}
 
--- the threads are where the machine has them, until a fault or want of memory
-abbrev pub IsAt : Option StepFault → Machine → Crew → Type 0
-IsAt None machine crew = crew ≡ crew_of machine
-IsAt (Some fault) machine crew = fault ≢ NotEnabled
+-- what the threads share, what standard input still has, and the interpreters are the machine's
+pub record IsIts (shared : State) (left : Option (List ℕ)) (places : Places) (machine : Machine) : Type 0 where
+  pub is_shared : shared ≡ machine.shared
+  pub is_left : left ≡ Some machine.input
+  pub are_placed : ArePlaced machine.setup 1 machine.threads places
+
+-- they are, until a fault or want of memory
+abbrev pub IsAt : Option StepFault → State → Option (List ℕ) → Places → Machine → Type 0
+IsAt None shared left places machine = IsIts shared left places machine
+IsAt (Some fault) shared left places machine = fault ≢ NotEnabled
 
 -- the machine after the steps of the schedule, where its threads are, and what the sinks got of it
-pub record IsStanding (beginning : Beginning) (schedule : List ℕ) (crew : Crew) (over : Option ℕ)
-    (kept : Option StepFault) (old_out new_out old_err new_err : Option (List ℕ)) : Type 0 where
-  pub machine : Machine
-  pub ran : run beginning schedule ≡ Some machine
-  pub at : IsAt kept machine crew
-  pub over_is : over ≡ machine.shared.over
-  pub out : HasWritten kept beginning schedule old_out new_out (λ m. m.out) machine
-  pub err : HasWritten kept beginning schedule old_err new_err (λ m. m.err) machine
+pub record Stands {S K E : Type 0}
+    (held : S → Option (List ℕ)) (got_out : K → Option (List ℕ)) (got_err : E → Option (List ℕ))
+    (stage : Stage S K E) (places : Places) (begun machine : Machine) : Type 0 where
+  pub setup : machine.setup ≡ stage.setup
+  pub ran : Runs begun stage.desk.schedule machine
+  pub at : IsAt stage.desk.kept stage.desk.shared (unread held stage.desk.devices) places machine
+  pub faithful :
+      IsFaithful (is_cut stage.desk.kept) begun stage.desk.schedule
+      (got_out stage.began.output) (got_out stage.desk.devices.output)
+      (got_err stage.began.errors) (got_err stage.desk.devices.errors) machine
+
+-- where standard input told its bytes
+abbrev pub IsStanding :
+    {S K E : Type 0} →
+    (held : S → Option (List ℕ)) → (got_out : K → Option (List ℕ)) → (got_err : E → Option (List ℕ)) →
+    Stage S K E → Places → Type 0
+IsStanding held got_out got_err stage places =
+    IfSome (held stage.began.input) (λ input.
+    (machine : Machine) × Stands held got_out got_err stage places (start_machine stage.setup input) machine)

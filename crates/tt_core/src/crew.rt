@@ -1,136 +1,147 @@
-ghost use Rattle.std.specs.Prelude.{◌≡◌, ◌∷◌, [], IfOk, IsErr, IsSome, IsTrue, OnOk, is_some, option_copied};
-ghost use Rattle.tt_calls.specs.declared.start.Start.TheVariants as start;
-ghost use Rattle.tt_core.specs.Asking.{first_doing};
-ghost use Rattle.tt_core.specs.Crew.{all_begun, asked_by, crew_after, ready, told_unless, written_by};
-ghost use Rattle.tt_core.specs.Machine.{is_last};
-ghost use Rattle.tt_shared.specs.State.{start_state};
-ghost use Rattle.tt_threads.specs.Rows.{is_living};
+//! The interpreters of the threads.
+ghost use Rattle.std.specs.Prelude.{◌≡◌, ◌+◌, [], Some, IfOk, IfSome, IsSome, OnOk, OnErr, length};
+ghost use Rattle.std.specs.Option.{option_copied};
+ghost use Rattle.tt_core.specs.Crew.{AllBegin, Begins, GoesOn, IsHalted, IsReplied, Resumes, asked_by, interp_of};
 
-use crate::asker::Asker;
 use std::alloc::Global;
 use std::marker::Model;
 use tt_calls::{Reply, Request, Start};
-use tt_shared::{Applied, Line, Shared};
-use tt_text::{NoMemory, Text};
+use tt_desk::Desk;
+use tt_devices::{Sink, Source};
+use tt_interp::{Interp, Setup};
+use tt_text::NoMemory;
 
-/// The threads of a run over what they share. Contracts see what each is at.
+/// The interpreters of the threads, by number from 1, each at what its thread asks; a thread that has ended has none.
 #[derive(Drop)]
 pub(crate) struct Crew {
-    shared: Shared,
-    askers: Vec<Asker>,
+    interps: Vec<Option<Interp>>,
 }
 
 impl Model for Crew {
-    ghost use Rattle.tt_core.specs.Crew.{Crew as AnyCrew};
+    ghost use Rattle.std.specs.List.{AllByRecursion};
+    ghost use Rattle.std.specs.Prelude.{◌≤◌, length};
+    ghost use Rattle.tt_core.specs.Crew.{IsHalted, Places};
 
-    ghost Value = { AnyCrew };
+    ghost Value = { Places };
 
-    ghost view = { λ crew. record { shared = crew.shared; doings = crew.askers.items } };
+    ghost view = { λ crew. crew.interps.items };
+
+    ghost invariant = { λ crew. AllByRecursion IsHalted crew.interps.items × (length crew.interps.items ≤ 4294967295) };
 }
 
 impl Crew {
-    /// Main alone, at the start of its script.
-    pub(crate) fn new(alloc: Global, script: Text) -> Result<Crew, NoMemory>
-        ensures { IfOk result (λ crew. crew ≡ record { shared = start_state (start.Script script); doings = first_doing (start.Script script) ∷ [] }) }
+    /// No threads.
+    pub(crate) fn new(alloc: Global) -> Self
+        ensures { result ≡ [] }
     {
-        let shared = Shared::new(alloc, Start::Script(script))?;
-        let main = Asker::begin(alloc, shared.start_of(1))?;
-        let mut askers = Vec::new(alloc);
-        askers.push(main)?;
-        Ok(Crew { shared, askers })
+        Crew {
+            interps: Vec::new(alloc),
+        }
     }
 
-    /// The exit code of the run, where it is over.
-    pub(crate) fn over(&self) -> Option<u8>
-        ensures { result ≡ self.now.shared.over }
+    /// How many threads there were.
+    pub(crate) fn len(&self) -> u32
+        ensures { result ≡ length self.now }
     {
-        self.shared.over()
+        self.interps.as_slice().len() as u32
     }
 
-    /// Whether the thread lives and its request is enabled. It takes no memory.
-    pub(crate) fn is_ready(&self, thread: u32) -> bool
-        ensures { result ≡ is_some (ready self.now thread) }
+    /// The thread after the last begins, with this number.
+    pub(crate) fn begin(
+        &mut self,
+        alloc: Global,
+        start: &Start,
+        number: u32,
+        setup: &Setup,
+    ) -> Result<(), NoMemory>
+        requires next { number ≡ length self.old + 1 }
+        ensures begins { OnOk result (Begins setup.now (record { start = start.now; replies = [] }) self.old self.new) }
     {
-        ready(&self.shared, self.askers.as_slice(), thread).is_some()
+        let mut interp = Interp::new(alloc, start, number, setup)?;
+        interp.resume(None)?;
+        self.interps.push(Some(interp))?;
+        Ok(())
     }
 
-    /// Does the thread's request, and answers what it writes on standard output; `None` exactly where the thread doesn't
-    /// live or its request isn't enabled, and then nothing changes.
+    /// What a thread asks that has not ended. It takes no memory.
+    pub(crate) fn request(&self, number: u32) -> Option<&Request>
+        ensures asks { option_copied result ≡ asked_by self.now number }
+    {
+        if number == 0 {
+            return None;
+        }
+        match self.interps.get(number as usize - 1) {
+            Some(Some(interp)) => Some(interp.request()),
+            Some(None) | None => None,
+        }
+    }
+
+    /// A thread that has not ended gets the reply to what it asks.
     ///
-    /// `NoMemory` where memory is refused; then nothing is said of the threads.
-    pub(crate) fn step(&mut self, alloc: Global, thread: u32) -> Result<Option<Text>, NoMemory>
-        ensures written { IfOk result (λ written. written ≡ written_by self.old thread (ready self.old thread)) }
-        ensures crew { OnOk result (self.new ≡ crew_after self.old thread (ready self.old thread)) }
-        ensures was_ready { IsErr result → IsSome (ready self.old thread) }
+    /// `NoMemory` where memory is refused; then nothing is said of the thread.
+    pub(crate) fn reply(&mut self, number: u32, reply: Reply) -> Result<(), NoMemory>
+        requires there { IsSome (interp_of self.old number) }
+        ensures replied { OnOk result (IsReplied number reply self.old self.new) }
     {
-        let Some(request) = ready(&self.shared, self.askers.as_slice(), thread) else {
-            return Ok(None);
-        };
-        let last = is_last(request);
-        let gives = self.shared.apply(thread, request, Line::NotRead)?;
-        let Applied { reply, out, .. } = gives;
-        self.tell(alloc, thread, last, reply)?;
-        self.begin_all(alloc)?;
-        Ok(Some(out))
-    }
-
-    /// The thread goes on with the reply, unless it has ended.
-    fn tell(&mut self, alloc: Global, thread: u32, last: bool, reply: Reply) -> Result<(), NoMemory>
-        ensures { OnOk result (self.new ≡ record self.old { doings = told_unless last self.old.doings thread reply }) }
-    {
-        if last || thread == 0 {
+        if number == 0 {
             return Ok(());
         }
-        let Some(asker) = self.askers.get_mut(thread as usize - 1) else {
+        let Some(place) = self.interps.get_mut(number as usize - 1) else {
             return Ok(());
         };
-        asker.reply(alloc, reply)?;
-        Ok(())
+        go_on(place, reply)
     }
 
     /// Threads that were made begin.
-    fn begin_all(&mut self, alloc: Global) -> Result<(), NoMemory>
-        ensures { OnOk result (self.new ≡ record self.old { doings = all_begun self.old.doings self.old.shared.rows }) }
+    ///
+    /// `NoMemory` where memory is refused.
+    pub(crate) fn begin_all<S: Source, K: Sink, E: Sink>(
+        &mut self,
+        alloc: Global,
+        desk: &Desk<S, K, E>,
+        setup: &Setup,
+    ) -> Result<(), NoMemory>
+        ensures begin { OnOk result (AllBegin setup.now desk.now.shared.rows self.old self.new) }
     {
-        let made = self.shared.made() as usize;
-        while self.askers.as_slice().len() < made {
-            let begun = self.askers.as_slice().len();
-            let asker = Asker::begin(alloc, self.shared.start_of(begun as u32 + 1))?;
-            self.askers.push(asker)?;
+        while self.len() < desk.made() {
+            let number = self.len() + 1;
+            self.begin(alloc, desk.start_of(number), number, setup)?;
         }
         Ok(())
     }
 }
 
-/// The request of a thread that lives, where it is enabled.
-fn ready<'a>(shared: &Shared, askers: &'a [Asker], thread: u32) -> Option<&'a Request>
-    ensures request { option_copied result ≡ ready (record { shared = shared.now; doings = askers.now }) thread }
-    ensures lives { IsSome result → IsTrue (is_living shared.now.rows thread) }
+/// An interpreter goes on with a reply; where its thread has ended, or memory is refused, there is none any more.
+fn go_on(place: &mut Option<Interp>, reply: Reply) -> Result<(), NoMemory>
+    requires there { IsSome place.old }
+    ensures goes { OnOk result (IfSome place.old (λ interp. GoesOn interp reply place.new)) }
+    ensures halts { IsHalted place.new }
 {
-    if !shared.lives(thread) {
-        return None;
+    let resumed = match place {
+        Some(interp) => resume(interp, reply),
+        None => Ok(false),
+    };
+    match resumed {
+        Ok(true) => Ok(()),
+        Ok(false) => {
+            *place = None;
+            Ok(())
+        }
+        Err(error) => {
+            *place = None;
+            Err(error)
+        }
     }
-    let request = asked(askers, thread)?;
-    if !shared.enabled(thread, request) {
-        return None;
-    }
-    Some(request)
 }
 
-/// What a thread asks next.
-fn asked(askers: &[Asker], thread: u32) -> Option<&Request>
-    ensures { option_copied result ≡ asked_by askers.now thread }
+/// An interpreter goes on with a reply, unless its thread has ended.
+fn resume(interp: &mut Interp, reply: Reply) -> Result<bool, NoMemory>
+    ensures goes { IfOk result (λ goes. Resumes goes interp.old reply interp.new) }
 {
-    if thread == 0 {
-        return None;
+    let reply = Some(reply);
+    if !interp.can_resume(&reply) {
+        return Ok(false);
     }
-    let asker = askers.get(thread as usize - 1)?;
-    asker.request()
-}
-
-/// Whether a thread has no reply to this.
-fn is_last(request: &Request) -> bool
-    ensures { result ≡ is_last request.now }
-{
-    matches!(request, Request::End { .. } | Request::Exit { .. })
+    interp.resume(reply)?;
+    Ok(true)
 }

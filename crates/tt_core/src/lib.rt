@@ -1,15 +1,11 @@
-//! The machine of threads, stepped one action at a time after a schedule.
+//! A run of a script, stepped one action at a time: its interpreters over what they share and its devices (thread(n)).
 #![tactic(auto)]
 
-mod asker;
+mod began;
 mod crew;
-mod fault;
-pub mod laws;
-mod rest;
-mod setup;
 mod system;
 
-pub use fault::{NewFault, StepFault};
-pub use setup::Setup;
+pub use began::Began;
 pub use system::System;
-pub use tt_plain::{plain_form, plain_grammar};
+pub use tt_desk::{NewFault, StepFault};
+pub use tt_interp::Setup;

@@ -1,73 +1,46 @@
-ghost use Rattle.std.specs.Prelude.{◌≡◌, ◌≢◌, ◌<◌, ◌++◌, ◌∷◌, [], ◌↔◌, ◌⊎◌, Option, Some, None, Err, IsTrue, IfOk, IfErr, OnOk, IsErrOf, IsNone, IfSome, length};
+ghost use Rattle.std.specs.Prelude.{◌≡◌, ◌≢◌, ◌<◌, ◌≤◌, ◌+◌, ◌++◌, ◌∷◌, [], ◌⊎◌, ℕ, Option, Some, None, Err, IsSome, IsTrue, IsFalse, IfOk, IfErr, OnOk, IsErrOf, IfSome, length};
+ghost use Rattle.tt_calls.specs.declared.start.Start.TheVariants as start;
+ghost use Rattle.tt_core.specs.Crew.{AllBegin, Begins, IsFirstReady, IsReadyAfter, IsReplied, Places, interp_of, is_ready};
 ghost use Rattle.tt_devices.specs.Faults.{Rises};
+ghost use Rattle.tt_machine.specs.Machine.{CanStep, IsBarred};
 ghost use Rattle.tt_schedule.specs.ScheduleText.{most_steps};
 
+use crate::began::Began;
 use crate::crew::Crew;
-use crate::fault::{NewFault, StepFault};
-use crate::setup::Setup;
 use std::alloc::Global;
 use std::marker::Model;
-use std::snapshot::Snapshot;
+use tt_calls::{Reply, Start};
+use tt_desk::{Desk, NewFault, StepFault};
 use tt_devices::{Sink, Source};
+use tt_interp::Setup;
 use tt_schedule::Schedule;
-
-/// The greatest number of a thread in a schedule.
-const MOST_NUMBER: u32 = 16_777_216;
+use tt_text::NoMemory;
 
 /// A run of a script, stepped one action at a time.
 #[derive(Drop)]
 pub struct System<S: Source, K: Sink, E: Sink> {
-    began_input: Snapshot<S>,
-    began_output: Snapshot<K>,
-    began_errors: Snapshot<E>,
-    began: Snapshot<Setup>,
+    setup: Setup,
+    began: Began<S, K, E>,
+    desk: Desk<S, K, E>,
     crew: Crew,
-    over: Option<u8>,
-    kept: Option<StepFault>,
-    schedule: Schedule,
-    input: S,
-    output: K,
-    errors: E,
     alloc: Global,
 }
 
 impl<S: Source, K: Sink, E: Sink> Model for System<S, K, E> {
     ghost use Rattle.tt_core.specs.Stage.{Stage};
+    ghost use Rattle.tt_core.specs.Standing.{IsStanding};
 
     ghost Value = { Stage S K E };
 
-    ghost use Rattle.tt_core.specs.Standing.{IsStanding};
+    ghost view = { λ system. record { setup = system.setup; began = system.began; desk = system.desk } };
 
-    ghost view = { λ system. record {
-      beginning = record {
-        script = system.began.value.script;
-        name = system.began.value.name;
-        arguments = system.began.value.arguments;
-        limit = system.began.value.limit;
-      };
-      began_input = system.began_input.value;
-      began_output = system.began_output.value;
-      began_errors = system.began_errors.value;
-      schedule = system.schedule.threads;
-      input = system.input;
-      output = system.output;
-      errors = system.errors;
-      kept = system.kept;
-    } };
-
-    ghost invariant = { λ system. IsStanding (record {
-      script = system.began.value.script;
-      name = system.began.value.name;
-      arguments = system.began.value.arguments;
-      limit = system.began.value.limit;
-    })
-        system.schedule.threads system.crew system.over system.kept
-        (K.got system.began_output.value) (K.got system.output)
-        (E.got system.began_errors.value) (E.got system.errors) };
+    ghost invariant = { λ system. IsStanding S.held K.got E.got
+        (record { setup = system.setup; began = system.began; desk = system.desk }) system.crew };
 }
 
 impl<S: Source, K: Sink, E: Sink> System<S, K, E> {
-    ghost use Rattle.tt_core.specs.Stage.{Stage, CanStep, SameBeginning, IsFaithful, over_of, next_of, machine_of, WritesOut};
+    ghost use Rattle.tt_core.specs.Faithful.{AreFaithful};
+    ghost use Rattle.tt_core.specs.Stage.{IsNextAfter, OfMachine, SameBeginning};
 
     /// A run of this script over these devices, with no step taken.
     ///
@@ -79,162 +52,240 @@ impl<S: Source, K: Sink, E: Sink> System<S, K, E> {
         output: K,
         errors: E,
     ) -> Result<Self, NewFault<S, K, E>>
-        ensures script { IfOk result (λ system. system.beginning ≡ record {
-          script = setup.script;
-          name = setup.name;
-          arguments = setup.arguments;
-          limit = setup.limit;
-        }) }
-        ensures given { IfOk result (λ system. (system.began_input ≡ input) × (system.began_output ≡ output) × (system.began_errors ≡ errors)) }
-        ensures untouched { IfOk result (λ system. (system.input ≡ input) × (system.output ≡ output) × (system.errors ≡ errors)) }
-        ensures no_step { IfOk result (λ system. (system.schedule ≡ []) × (system.kept ≡ None)) }
+        ensures setup { IfOk result (λ system. system.setup ≡ setup) }
+        ensures given { IfOk result (λ system. system.began ≡ record { input = input; output = output; errors = errors }) }
+        ensures untouched { IfOk result (λ system. system.desk.devices ≡ record { input = input; ahead = []; output = output; errors = errors }) }
+        ensures no_step { IfOk result (λ system. (system.desk.schedule ≡ []) × (system.desk.kept ≡ None)) }
         ensures handed_back { IfErr result (λ fault. fault ≡ record { input = input; output = output; errors = errors }) }
     {
-        let began = Snapshot::of(&setup);
-        let Setup {
-            script,
-            name: _,
-            arguments: _,
-            limit: _,
-        } = setup;
-        let Ok(crew) = Crew::new(alloc, script) else {
-            return Err(NewFault {
+        let began = Began::of(&input, &output, &errors);
+        match begun(alloc, &setup) {
+            Ok((crew, start)) => match Desk::new(alloc, start, input, output, errors) {
+                Ok(desk) => Ok(System {
+                    setup,
+                    began,
+                    desk,
+                    crew,
+                    alloc,
+                }),
+                Err(fault) => Err(fault),
+            },
+            Err(_) => Err(NewFault {
                 input,
                 output,
                 errors,
-            });
-        };
-        Ok(System {
-            began_input: Snapshot::of(&input),
-            began_output: Snapshot::of(&output),
-            began_errors: Snapshot::of(&errors),
-            began,
-            crew,
-            over: None,
-            kept: None,
-            schedule: Schedule::new(alloc),
-            input,
-            output,
-            errors,
-            alloc,
-        })
+            }),
+        }
     }
 
     /// Whether the thread can take a step: whether it lives, its request is enabled, the run isn't over, and no fault
-    /// and no want of memory was met.
+    /// and no want of memory was met. It takes no memory.
     pub fn enabled(&self, thread: u32) -> bool
-        ensures { IsTrue result ↔ CanStep self.now thread }
+        ensures going { IsTrue result → self.now.desk.kept ≡ None }
+        ensures can { IsTrue result → OfMachine S.held self.now (λ machine. CanStep machine thread) }
+        ensures barred { IsFalse result → self.now.desk.kept ≡ None → OfMachine S.held self.now (λ machine. IsBarred machine thread) }
     {
-        match self.kept {
-            Some(_) => false,
-            None => match self.over {
-                Some(_) => false,
-                None => self.crew.is_ready(thread),
-            },
-        }
+        is_ready(&self.desk, &self.crew, thread)
     }
 
-    /// Does the thread's request, adds the thread to the schedule, and puts what the request writes.
+    /// Answers the thread's request, adds the thread to the schedule, and puts what the request writes.
     ///
-    /// `NotEnabled` exactly where the machine can't step the thread and no fault is kept; then nothing changes.
-    /// `WriteFault` only where standard output's count of faults rose in this step; then the entry was added, and a
-    /// first part of the piece was put. `NoMemory` where memory is refused; then no entry was added and nothing was put.
-    /// After these two the system does nothing more, and each later step answers the same.
+    /// `NotEnabled` exactly where the machine can't step the thread and nothing was met before; then nothing changes.
+    /// `ReadFault` only where the source's count of faults rose in this step; then no entry was added. `WriteFault` only
+    /// where a sink's count rose in this step; then the entry was added, and a first part of what it writes was put.
+    /// `NoMemory` where memory is refused. After these three the system does nothing more, and each later step answers the
+    /// same.
     pub fn step(&mut self, thread: u32) -> Result<(), StepFault>
-        requires { length self.old.schedule < most_steps }
+        requires { length self.old.desk.schedule < most_steps }
 
-        ensures stepped { OnOk result (self.new.schedule ≡ self.old.schedule ++ thread ∷ []) }
-        ensures could { OnOk result (CanStep self.old thread) }
-        ensures goes_on { OnOk result (self.new.kept ≡ None) }
-        ensures not_enabled { IsErrOf result StepFault.NotEnabled → (self.old.kept ≡ None) × IsNone (next_of self.old thread) }
-        ensures refused { self.old.kept ≡ None → IsNone (next_of self.old thread) → IsErrOf result StepFault.NotEnabled }
+        ensures stepped { OnOk result (self.new.desk.schedule ≡ self.old.desk.schedule ++ thread ∷ []) }
+        ensures could { OnOk result (OfMachine S.held self.old (λ machine. CanStep machine thread)) }
+        ensures goes_on { OnOk result (self.new.desk.kept ≡ None) }
+        ensures not_enabled { IsErrOf result StepFault.NotEnabled →
+            (self.old.desk.kept ≡ None) × OfMachine S.held self.old (λ machine. IsBarred machine thread) }
         ensures unchanged { IsErrOf result StepFault.NotEnabled → self.new ≡ self.old }
 
         // Faults and want of memory are kept.
-        ensures again { IfSome self.old.kept (λ fault. (result ≡ Err fault) × (self.new ≡ self.old)) }
-        ensures kept { IfErr result (λ fault. (fault ≡ StepFault.NotEnabled) ⊎ (self.new.kept ≡ Some fault)) }
-        ensures read_fault { IsErrOf result StepFault.ReadFault → self.old.kept ≡ Some StepFault.ReadFault }
-        ensures write_fault { IsErrOf result StepFault.WriteFault → self.old.kept ≡ None →
-            Rises (K.fault_count self.old.output) (K.fault_count self.new.output) }
-        ensures had_a_piece { IsErrOf result StepFault.WriteFault → self.old.kept ≡ None →
-            WritesOut (machine_of self.old) (next_of self.old thread) }
-        ensures entry_added { IsErrOf result StepFault.WriteFault → self.old.kept ≡ None →
-            self.new.schedule ≡ self.old.schedule ++ thread ∷ [] }
-        ensures no_entry { IsErrOf result StepFault.NoMemory → self.new.schedule ≡ self.old.schedule }
-        ensures no_piece { IsErrOf result StepFault.NoMemory → self.new.output ≡ self.old.output }
+        ensures again { IfSome self.old.desk.kept (λ fault. (result ≡ Err fault) × (self.new ≡ self.old)) }
+        ensures kept { IfErr result (λ fault. (fault ≡ StepFault.NotEnabled) ⊎ (self.new.desk.kept ≡ Some fault)) }
+        ensures entry_added { IsErrOf result StepFault.WriteFault → self.old.desk.kept ≡ None →
+            self.new.desk.schedule ≡ self.old.desk.schedule ++ thread ∷ [] }
+        ensures no_entry { IsErrOf result StepFault.ReadFault → self.new.desk.schedule ≡ self.old.desk.schedule }
+        ensures at_most_one { IsErrOf result StepFault.NoMemory →
+            (self.new.desk.schedule ≡ self.old.desk.schedule) ⊎ (self.new.desk.schedule ≡ self.old.desk.schedule ++ thread ∷ []) }
+        ensures tried { IfErr result (λ fault. (fault ≢ StepFault.NotEnabled) → self.old.desk.kept ≡ None →
+            OfMachine S.held self.old (λ machine. CanStep machine thread)) }
+        ensures read_fault { IsErrOf result StepFault.ReadFault → self.old.desk.kept ≡ None →
+            Rises (S.fault_count self.old.desk.devices.input) (S.fault_count self.new.desk.devices.input) }
+        ensures write_fault { IsErrOf result StepFault.WriteFault → self.old.desk.kept ≡ None →
+            Rises (K.fault_count self.old.desk.devices.output) (K.fault_count self.new.desk.devices.output)
+            ⊎ Rises (E.fault_count self.old.desk.devices.errors) (E.fault_count self.new.desk.devices.errors) }
 
         // What stays.
         ensures same_beginning { SameBeginning self.old self.new }
-        ensures same_devices { (self.new.input ≡ self.old.input) × (self.new.errors ≡ self.old.errors) }
-        ensures steady { (result ≢ Err StepFault.WriteFault) → K.fault_count self.new.output ≡ K.fault_count self.old.output }
+        ensures no_output { self.new.desk.schedule ≡ self.old.desk.schedule →
+            self.new.desk.devices.output ≡ self.old.desk.devices.output }
+        ensures no_errors { self.new.desk.schedule ≡ self.old.desk.schedule →
+            self.new.desk.devices.errors ≡ self.old.desk.devices.errors }
+        ensures reads_steady { (result ≢ Err StepFault.ReadFault) →
+            S.fault_count self.new.desk.devices.input ≡ S.fault_count self.old.desk.devices.input }
+        ensures writes_steady { (result ≢ Err StepFault.WriteFault) →
+            (K.fault_count self.new.desk.devices.output ≡ K.fault_count self.old.desk.devices.output)
+            × (E.fault_count self.new.desk.devices.errors ≡ E.fault_count self.old.desk.devices.errors) }
     {
-        if let Some(fault) = self.kept {
+        if let Some(fault) = self.desk.kept() {
             return Err(fault);
         }
-        if self.over.is_some() {
+        let Some(request) = self.crew.request(thread) else {
             return Err(StepFault::NotEnabled);
-        }
-        let written = match self.crew.step(self.alloc, thread) {
-            Ok(Some(written)) => written,
-            Ok(None) => return Err(StepFault::NotEnabled),
-            Err(_) => {
-                self.kept = Some(StepFault::NoMemory);
-                return Err(StepFault::NoMemory);
-            }
         };
-        if thread > MOST_NUMBER || self.schedule.reserve().is_err() {
-            self.kept = Some(StepFault::NoMemory);
-            return Err(StepFault::NoMemory);
-        }
-        self.schedule.push_reserved(thread);
-        self.over = self.crew.over();
-        if written.is_empty() {
-            return Ok(());
-        }
-        match self.output.put(written.as_bytes()) {
-            Ok(()) => Ok(()),
-            Err(_) => {
-                self.kept = Some(StepFault::WriteFault);
-                Err(StepFault::WriteFault)
+        match self.desk.act(thread, request) {
+            Err(fault) => Err(fault),
+            Ok(acted) => {
+                let gone_on = go_on(
+                    self.alloc,
+                    &mut self.crew,
+                    &self.desk,
+                    &self.setup,
+                    thread,
+                    acted.reply,
+                );
+                if gone_on.is_err() {
+                    self.desk.run_out();
+                    return Err(StepFault::NoMemory);
+                }
+                Ok(())
             }
         }
     }
 
-    /// The code with which the run ended, from 0 to 255, or `None` exactly where it isn't over.
-    pub fn ended(&self) -> Option<u8>
-        ensures { result ≡ over_of self.now }
+    /// The thread that is next in turn after one: of those that can take a step the first above it, and else the first
+    /// up to it. `None` exactly where no thread can, or a fault or want of memory was met. It takes no memory.
+    pub fn next_enabled(&self, after: u32) -> Option<u32>
+        ensures next { self.now.desk.kept ≡ None → OfMachine S.held self.now (IsNextAfter after result) }
+        ensures met { IsSome self.now.desk.kept → result ≡ None }
     {
-        self.over
+        next_ready(&self.desk, &self.crew, after)
+    }
+
+    /// The code with which the run ended, from 0 to 255, or `None` exactly where it isn't over. It takes no memory.
+    pub fn ended(&self) -> Option<u8>
+        ensures is { result ≡ self.now.desk.shared.over }
+        ensures ended { self.now.desk.kept ≡ None → OfMachine S.held self.now (λ machine. machine.shared.over ≡ result) }
+    {
+        self.desk.over()
     }
 
     /// The steps that were taken.
     pub fn schedule(&self) -> &Schedule
-        ensures { result.now.threads ≡ self.now.schedule }
+        ensures { result.now.threads ≡ self.now.desk.schedule }
     {
-        &self.schedule
+        self.desk.schedule()
     }
 
     /// Gives the schedule and the devices back.
     pub fn finish(self) -> (Schedule, S, K, E)
-        ensures schedule { result.0.threads ≡ self.schedule }
-        ensures devices { (result.1 ≡ self.input) × (result.2 ≡ self.output) × (result.3 ≡ self.errors) }
-        ensures faithful { IsFaithful self.beginning self.schedule self.kept
-            (K.got self.began_output) (K.got self.output) (E.got self.began_errors) (E.got self.errors) }
+        ensures schedule { result.0.threads ≡ self.desk.schedule }
+        ensures devices { (result.1 ≡ self.desk.devices.input) × (result.2 ≡ self.desk.devices.output) × (result.3 ≡ self.desk.devices.errors) }
+        ensures faithful { AreFaithful S.held K.got E.got self }
     {
         let System {
-            began_input: _,
-            began_output: _,
-            began_errors: _,
+            setup: _,
             began: _,
+            desk,
             crew: _,
-            over: _,
-            kept: _,
-            schedule,
-            input,
-            output,
-            errors,
             alloc: _,
         } = self;
-        (schedule, input, output, errors)
+        desk.finish()
     }
+}
+
+/// Whether a thread's request can be answered.
+fn is_ready<S: Source, K: Sink, E: Sink>(desk: &Desk<S, K, E>, crew: &Crew, thread: u32) -> bool
+    ensures { result ≡ is_ready desk.now crew.now thread }
+{
+    match crew.request(thread) {
+        Some(request) => desk.enabled(thread, request),
+        None => false,
+    }
+}
+
+/// The thread that is next in turn after one, of those whose requests can be answered.
+fn next_ready<S: Source, K: Sink, E: Sink>(
+    desk: &Desk<S, K, E>,
+    crew: &Crew,
+    after: u32,
+) -> Option<u32>
+    ensures { IsReadyAfter (is_ready desk.now crew.now) after result }
+{
+    let last = crew.len();
+    match first_above(desk, crew, after, last) {
+        Some(next) => Some(next),
+        None => first_ready(desk, crew, 1, least(after, last)),
+    }
+}
+
+fn first_above<S: Source, K: Sink, E: Sink>(
+    desk: &Desk<S, K, E>,
+    crew: &Crew,
+    after: u32,
+    last: u32,
+) -> Option<u32>
+    ensures { IsFirstReady (is_ready desk.now crew.now) (after + 1) last result }
+{
+    match after.checked_add(1) {
+        Some(from) => first_ready(desk, crew, from, last),
+        None => None,
+    }
+}
+
+fn least(one: u32, other: u32) -> u32
+    ensures { (result ≤ one) × (result ≤ other) × ((number : ℕ) → number ≤ one → number ≤ other → number ≤ result) }
+{
+    if one <= other { one } else { other }
+}
+
+/// The first thread of a range whose request can be answered.
+fn first_ready<S: Source, K: Sink, E: Sink>(
+    desk: &Desk<S, K, E>,
+    crew: &Crew,
+    from: u32,
+    to: u32,
+) -> Option<u32>
+    ensures { IsFirstReady (is_ready desk.now crew.now) from to result }
+{
+    for number in from..=to {
+        if is_ready(desk, crew, number) {
+            return Some(number);
+        }
+    }
+    None
+}
+
+/// A thread goes on with its reply, and threads that were made begin.
+fn go_on<S: Source, K: Sink, E: Sink>(
+    alloc: Global,
+    crew: &mut Crew,
+    desk: &Desk<S, K, E>,
+    setup: &Setup,
+    thread: u32,
+    reply: Reply,
+) -> Result<(), NoMemory>
+    requires there { IsSome (interp_of crew.old thread) }
+    ensures goes { OnOk result ((mid : Places) × IsReplied thread reply crew.old mid × AllBegin setup.now desk.now.shared.rows mid crew.new) }
+{
+    crew.reply(thread, reply)?;
+    crew.begin_all(alloc, desk, setup)?;
+    Ok(())
+}
+
+/// The main thread begins.
+fn begun(alloc: Global, setup: &Setup) -> Result<(Crew, Start), NoMemory>
+    ensures start { IfOk result (λ begun. begun.1 ≡ start.Script setup.now.script) }
+    ensures begins { IfOk result (λ begun. Begins setup.now (record { start = start.Script setup.now.script; replies = [] }) [] begun.0) }
+{
+    let start = Start::Script(setup.script.copy()?);
+    let mut crew = Crew::new(alloc);
+    crew.begin(alloc, &start, 1, setup)?;
+    Ok((crew, start))
 }

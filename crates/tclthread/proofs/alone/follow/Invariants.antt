@@ -2,4 +2,5 @@ use Rattle.tclthread.proofs.FollowLemmas.{IsFollowing}
 use Rattle.tclthread.proofs.alone.follow.Given as goal
 
 abbrev pub invariant-loop-place : goal.invariant-loop-place
-invariant-loop-place g l = IsFollowing g.K.Sink.fault_count l.fn.system l.system l.given.threads l.place
+invariant-loop-place g l =
+    IsFollowing g.S.Source.fault_count g.K.Sink.fault_count g.E.Sink.fault_count l.fn.system l.system l.given.threads l.place

@@ -1,12 +1,9 @@
-use Rattle.std.proofs.Common.{◌∙◌, ◌+◌, List, Option, ap, length}
-use Rattle.tt_core.specs.Asking.{Doing}
-use Rattle.tt_core.proofs.CrewLemmas.{begun-more}
+use Rattle.std.proofs.Common.{◌≡◌, ◌+◌, length, refl}
+use Rattle.tt_core.proofs.CrewLemmas.{one-begun}
 use Rattle.tt_core.proofs.crew.Crew.begin_all.Goals as goal
 
 pub loop-alloc-preserved : goal.loop-alloc-preserved
-loop-alloc-preserved c =
-    let before = c.loop-alloc.invariant in
-    let started = rw before.0 at c.start_of.ensures.start in
-    let counted = ap (λ (doings : List (Option Doing)). length doings + 1) c.as_slice-begun.ensures.value in
-    let begun = begun-more c.loop-alloc.self-inside.askers.items c.args.self.now.shared.rows _ c.start_of.result.now counted started in
-    (before.0, rw (c.in_ok-push.ensures.items, c.in_ok-asker.ensures) (begun ∙ before.1))
+loop-alloc-preserved g c =
+    let next : c.len-number.result + 1 ≡ length c.loop-alloc.self + 1 = rw c.len-number.ensures refl in
+    one-begun c.args.setup.now c.args.desk.now.shared.rows c.args.self.now c.loop-alloc.self c.begin.new.self (c.len-number.result + 1) c.start_of.result.now
+    c.loop-alloc.invariant next c.start_of.ensures.start c.in_ok-begin.ensures.begins

@@ -1,20 +1,14 @@
-use Rattle.std.proofs.Common.{◌∙◌, refl, sym, IsNone}
-use Rattle.tt_core.specs.Stage.{next_of}
-use Rattle.tt_core.proofs.StandLemmas.{next-over, next-ready, next-some, some-cannot}
+use Rattle.std.proofs.Common.{IsTrue, IsFalse}
+use Rattle.tt_core.specs.Crew.{is_ready}
+use Rattle.tt_core.proofs.StandLemmas.{barred, ready}
 use Rattle.tt_core.proofs.system.System.enabled.Goals as goal
 
-pub returns-in-Some-over : goal.returns-in-Some-over
-returns-in-Some-over g c =
-    let at = rw (c.in-None.is, c.in-Some-over.is) at c.self.invariant in
-    let none : IsNone (next_of c.args.self.now c.args.thread) = rw (← c.self.view_is) (next-over _ _ _ c.args.thread _ _ _ _ _ at refl) in
-    ((λ no. cc), (λ can. absurd (some-cannot _ can.possible none)))
+pub returns-clause-can : goal.returns-clause-can
+returns-clause-can g c can =
+    let is : IsTrue (is_ready c.self.inside.desk c.self.inside.crew c.args.thread) = rw (← c.is_ready.ensures) can in
+    rw (← c.self.view_is) (ready g.S.Source.held g.K.Sink.got g.E.Sink.got c.self.inside.setup c.self.inside.began c.self.inside.desk c.args.thread c.self.inside.crew is c.self.invariant)
 
-pub returns-in-None-over : goal.returns-in-None-over
-returns-in-None-over g c =
-    let at = rw (c.in-None.is, c.in-None-over.is) at c.self.invariant in (
-      (λ yes. record {
-        going = rw (← c.self.view_is) c.in-None.is;
-        possible = rw (← c.self.view_is) (next-some _ _ _ c.args.thread _ _ _ _ at (sym c.is_ready.ensures ∙ yes));
-      }),
-      (λ can. c.is_ready.ensures ∙ next-ready _ _ _ c.args.thread _ _ _ _ at (rw (← c.self.view_is) at can.possible)),
-    )
+pub returns-clause-barred : goal.returns-clause-barred
+returns-clause-barred g c unable =
+    let is : IsFalse (is_ready c.self.inside.desk c.self.inside.crew c.args.thread) = rw (← c.is_ready.ensures) unable in
+    rw (← c.self.view_is) (λ kept. barred g.S.Source.held g.K.Sink.got g.E.Sink.got c.self.inside.setup c.self.inside.began c.self.inside.desk c.args.thread c.self.inside.crew kept is c.self.invariant)

@@ -1,96 +1,68 @@
-use Rattle.std.proofs.Common.{◌≢◌, ◌∙◌, [], refl, sym, IsSome}
-use Rattle.tt_core.specs.Stage.{machine_of, next_of, WritesOut}
-use Rattle.tt_core.proofs.StandLemmas.{Writes, going, next-none, next-over, next-some, next-writes, some-cannot, stands-cut, stands-wrote, writes-ready}
+use Rattle.std.proofs.Common.{◌≡◌, ◌∙◌, false, None, Some, Err, ap, is_err, sym}
+use Rattle.tt_core.specs.Crew.{AllBegin, IsReplied, Places, asked_by}
+use Rattle.tt_core.proofs.StandLemmas.{asked-could, could-be, failed, on-ok, ran-out, unable, unasked, went-on}
 use Rattle.tt_core.proofs.system.System.step.Goals as goal
-use Rattle.tt_devices.proofs.StreamLemmas.{Grows-same}
+use Rattle.tt_desk.specs.declared.fault.StepFault.TheVariants as fault
 
-pub returns-then-is_some-clause-not_enabled : goal.returns-then-is_some-clause-not_enabled
-returns-then-is_some-clause-not_enabled g c same =
-    let at = rw c.in_default.is at c.self.invariant in
-    (rw (← c.self.view_is) c.in_default.is, rw (← c.self.view_is) (next-over _ _ _ c.args.thread _ _ _ _ _ at c.if-is_some.ensures))
+pub returns-in_default-request-clause-not_enabled : goal.returns-in_default-request-clause-not_enabled
+returns-in_default-request-clause-not_enabled g c e =
+    let kept : c.self.inside.desk.kept ≡ None = sym c.kept.ensures.kept ∙ c.in_default.is in
+    let asks : None ≡ asked_by c.self.inside.crew c.args.thread = c.in_default-request.ensures.asks in
+    (rw (← c.self.view_is) kept, rw (← c.self.view_is) (unasked g.S.Source.held g.K.Sink.got g.E.Sink.got c.self.inside.setup c.self.inside.began c.self.inside.desk c.args.thread c.self.inside.crew kept asks c.self.invariant))
 
-pub returns-in-Ok-None-clause-not_enabled : goal.returns-in-Ok-None-clause-not_enabled
-returns-in-Ok-None-clause-not_enabled g c same =
-    let at = going _ _ _ _ _ _ _ _ _ c.self.invariant c.in_default.is c.if-is_some.ensures in
-    (rw (← c.self.view_is) c.in_default.is, rw (← c.self.view_is) (next-none _ _ _ c.args.thread _ _ _ _ at (sym c.in-Ok-None.field-0-is ∙ c.in-Ok-None.ensures.written)))
+pub invariant_of-self : goal.invariant_of-self
+invariant_of-self g c =
+    let kept : c.self.inside.desk.kept ≡ None = sym c.kept.ensures.kept ∙ c.in_default.is in
+    failed g.S.Source.held g.K.Sink.got g.E.Sink.got c.self.inside.setup c.self.inside.began c.self.inside.desk c.act.new.self c.args.thread c.in-Some-request.request.now c.self.inside.crew c.act.result c.in-Err.fault
+    c.in-Some-request.ensures.asks c.in-Err.is (record {
+      nothing_met = kept;
+      refused = c.act.ensures.refused;
+      unchanged = c.act.ensures.unchanged;
+      kept = c.act.ensures.kept;
+      read_nothing = c.act.ensures.read_nothing;
+      cut = c.act.ensures.cut;
+      no_entry = c.act.ensures.no_entry;
+      no_piece = c.act.ensures.no_piece;
+    }) c.self.invariant
 
-pub returns-in-Err-clause-refused : goal.returns-in-Err-clause-refused
-returns-in-Err-clause-refused g c kept none =
-    let at = going _ _ _ _ _ _ _ _ _ c.self.invariant c.in_default.is c.if-is_some.ensures in
-    let some : IsSome (next_of c.args.self.now c.args.thread) = rw (← c.self.view_is) (next-some _ _ _ c.args.thread _ _ _ _ at (c.in-Err.ensures.was_ready refl)) in
-    absurd (some-cannot _ some none)
+pub invariant_of-self-then-is_err : goal.invariant_of-self-then-is_err
+invariant_of-self-then-is_err g c =
+    ran-out g.S.Source.held g.K.Sink.got g.E.Sink.got c.self.inside.setup c.self.inside.began c.self.inside.desk c.act.new.self c.run_out.new.self c.args.thread c.in-Some-request.request.now c.in-Ok.acted c.self.inside.crew c.go_on-gone_on.new.crew
+    c.in-Ok.ensures.able c.in-Some-request.ensures.asks c.in-Ok.ensures.acts c.run_out.ensures.kept c.self.invariant
 
-pub returns-then-thread-gt-MOST_NUMBER-clause-refused : goal.returns-then-thread-gt-MOST_NUMBER-clause-refused
-returns-then-thread-gt-MOST_NUMBER-clause-refused g c kept none =
-    let at = going _ _ _ _ _ _ _ _ _ c.self.invariant c.in_default.is c.if-is_some.ensures in
-    let writes : Writes c.self.inside.crew c.args.thread c.in-Ok-Some.written = sym c.in-Ok-Some.field-0-is ∙ c.in-Ok-Some.ensures.written in
-    let some : IsSome (next_of c.args.self.now c.args.thread) = rw (← c.self.view_is) (next-some _ _ _ c.args.thread _ _ _ _ at (writes-ready c.self.inside.crew c.args.thread c.in-Ok-Some.written writes)) in
-    absurd (some-cannot _ some none)
+pub returns-then-is_err-clause-tried : goal.returns-then-is_err-clause-tried
+returns-then-is_err-clause-tried g c = λ other was_none.
+    rw (← c.self.view_is) (asked-could g.S.Source.held g.K.Sink.got g.E.Sink.got c.self.inside.setup c.self.inside.began c.self.inside.desk c.args.thread c.in-Some-request.request.now c.self.inside.crew
+    c.in-Some-request.ensures.asks c.in-Ok.ensures.able c.self.invariant)
 
-pub returns-then-is_empty-clause-refused : goal.returns-then-is_empty-clause-refused
-returns-then-is_empty-clause-refused g c kept none =
-    let at = going _ _ _ _ _ _ _ _ _ c.self.invariant c.in_default.is c.if-is_some.ensures in
-    let writes : Writes c.self.inside.crew c.args.thread c.in-Ok-Some.written = sym c.in-Ok-Some.field-0-is ∙ c.in-Ok-Some.ensures.written in
-    let some : IsSome (next_of c.args.self.now c.args.thread) = rw (← c.self.view_is) (next-some _ _ _ c.args.thread _ _ _ _ at (writes-ready c.self.inside.crew c.args.thread c.in-Ok-Some.written writes)) in
-    absurd (some-cannot _ some none)
+pub invariant_of-self-else-is_err : goal.invariant_of-self-else-is_err
+invariant_of-self-else-is_err g c =
+    let value = c.is_err.ensures.value in
+    let test = c.if-is_err.false in
+    let fine : is_err c.go_on-gone_on.result ≡ false = cc in
+    let goes = on-ok ((mid : Places) × IsReplied c.args.thread c.in-Ok.acted.reply c.self.inside.crew mid × AllBegin c.self.inside.setup c.act.new.self.shared.rows mid c.go_on-gone_on.new.crew) c.go_on-gone_on.result fine c.go_on-gone_on.ensures.goes in
+    went-on g.S.Source.held g.K.Sink.got g.E.Sink.got c.self.inside.setup c.self.inside.began c.self.inside.desk c.act.new.self c.args.thread c.in-Some-request.request.now c.in-Ok.acted c.self.inside.crew c.go_on-gone_on.new.crew
+    c.in-Ok.ensures.able c.in-Some-request.ensures.asks c.in-Ok.ensures.acts c.in-Ok.ensures.goes_on goes c.self.invariant
 
-pub returns-in-Ok-clause-refused : goal.returns-in-Ok-clause-refused
-returns-in-Ok-clause-refused g c kept none =
-    let at = going _ _ _ _ _ _ _ _ _ c.self.invariant c.in_default.is c.if-is_some.ensures in
-    let writes : Writes c.self.inside.crew c.args.thread c.in-Ok-Some.written = sym c.in-Ok-Some.field-0-is ∙ c.in-Ok-Some.ensures.written in
-    let some : IsSome (next_of c.args.self.now c.args.thread) = rw (← c.self.view_is) (next-some _ _ _ c.args.thread _ _ _ _ at (writes-ready c.self.inside.crew c.args.thread c.in-Ok-Some.written writes)) in
-    absurd (some-cannot _ some none)
+pub returns-in-Err-clause-not_enabled : goal.returns-in-Err-clause-not_enabled
+returns-in-Err-clause-not_enabled g c e =
+    let same : c.in-Err.fault ≡ fault.NotEnabled = cc e in
+    let was : c.act.result ≡ Err fault.NotEnabled = c.in-Err.is ∙ ap Err same in
+    let not = c.act.ensures.not_enabled was in (
+      rw (← c.self.view_is) not.0,
+      rw (← c.self.view_is) (unable g.S.Source.held g.K.Sink.got g.E.Sink.got c.self.inside.setup c.self.inside.began c.self.inside.desk c.args.thread c.in-Some-request.request.now c.self.inside.crew
+          not.0 c.in-Some-request.ensures.asks not.1 c.self.invariant),
+    )
 
-pub returns-clause-refused : goal.returns-clause-refused
-returns-clause-refused g c kept none =
-    let at = going _ _ _ _ _ _ _ _ _ c.self.invariant c.in_default.is c.if-is_some.ensures in
-    let writes : Writes c.self.inside.crew c.args.thread c.in-Ok-Some.written = sym c.in-Ok-Some.field-0-is ∙ c.in-Ok-Some.ensures.written in
-    let some : IsSome (next_of c.args.self.now c.args.thread) = rw (← c.self.view_is) (next-some _ _ _ c.args.thread _ _ _ _ at (writes-ready c.self.inside.crew c.args.thread c.in-Ok-Some.written writes)) in
-    absurd (some-cannot _ some none)
+pub returns-in-Err-clause-tried : goal.returns-in-Err-clause-tried
+returns-in-Err-clause-tried g c = λ other was_none.
+    let kept : c.self.inside.desk.kept ≡ None = sym c.kept.ensures.kept ∙ c.in_default.is in
+    rw (← c.self.view_is) (asked-could g.S.Source.held g.K.Sink.got g.E.Sink.got c.self.inside.setup c.self.inside.began c.self.inside.desk c.args.thread c.in-Some-request.request.now c.self.inside.crew
+    c.in-Some-request.ensures.asks
+    (could-be g.S.Source.held g.K.Sink.got g.E.Sink.got c.self.inside.desk c.args.thread c.in-Some-request.request.now c.act.result c.in-Err.fault kept c.act.ensures.refused c.in-Err.is other)
+    c.self.invariant)
 
-pub returns-then-is_empty-clause-could : goal.returns-then-is_empty-clause-could
-returns-then-is_empty-clause-could g c =
-    let at = going _ _ _ _ _ _ _ _ _ c.self.invariant c.in_default.is c.if-is_some.ensures in
-    let writes : Writes c.self.inside.crew c.args.thread c.in-Ok-Some.written = sym c.in-Ok-Some.field-0-is ∙ c.in-Ok-Some.ensures.written in
-    record {
-      going = rw (← c.self.view_is) c.in_default.is;
-      possible = rw (← c.self.view_is) (next-some _ _ _ c.args.thread _ _ _ _ at (writes-ready c.self.inside.crew c.args.thread c.in-Ok-Some.written writes));
-    }
-
-pub returns-in-Ok-clause-could : goal.returns-in-Ok-clause-could
-returns-in-Ok-clause-could g c =
-    let at = going _ _ _ _ _ _ _ _ _ c.self.invariant c.in_default.is c.if-is_some.ensures in
-    let writes : Writes c.self.inside.crew c.args.thread c.in-Ok-Some.written = sym c.in-Ok-Some.field-0-is ∙ c.in-Ok-Some.ensures.written in
-    record {
-      going = rw (← c.self.view_is) c.in_default.is;
-      possible = rw (← c.self.view_is) (next-some _ _ _ c.args.thread _ _ _ _ at (writes-ready c.self.inside.crew c.args.thread c.in-Ok-Some.written writes));
-    }
-
-pub invariant_of-self-then-is_empty : goal.invariant_of-self-then-is_empty
-invariant_of-self-then-is_empty g c =
-    let at = going _ _ _ _ _ _ _ _ _ c.self.invariant c.in_default.is c.if-is_some.ensures in
-    let writes : Writes c.self.inside.crew c.args.thread c.in-Ok-Some.written = sym c.in-Ok-Some.field-0-is ∙ c.in-Ok-Some.ensures.written in
-    let none = c.is_empty.ensures.empty.0 c.if-is_empty.true in
-    rw (c.push_reserved.ensures.pushed, c.reserve.ensures.same, c.in_default.is) (stands-wrote _ _ c.args.thread _ _ _ _ _ _ _ _ _ at writes c.in-Ok-Some.ensures.crew c.over-self-inside.ensures (rw none (Grows-same _)))
-
-pub invariant_of-self-in-Ok : goal.invariant_of-self-in-Ok
-invariant_of-self-in-Ok g c =
-    let at = going _ _ _ _ _ _ _ _ _ c.self.invariant c.in_default.is c.if-is_some.ensures in
-    let writes : Writes c.self.inside.crew c.args.thread c.in-Ok-Some.written = sym c.in-Ok-Some.field-0-is ∙ c.in-Ok-Some.ensures.written in
-    let grew = rw c.as_bytes.ensures.bytes at c.in-Ok.ensures.put in
-    rw (c.push_reserved.ensures.pushed, c.reserve.ensures.same, c.in_default.is) (stands-wrote _ _ c.args.thread _ _ _ _ _ _ _ _ _ at writes c.in-Ok-Some.ensures.crew c.over-self-inside.ensures grew)
-
-pub invariant_of-self-in-Err-put : goal.invariant_of-self-in-Err-put
-invariant_of-self-in-Err-put g c =
-    let at = going _ _ _ _ _ _ _ _ _ c.self.invariant c.in_default.is c.if-is_some.ensures in
-    let writes : Writes c.self.inside.crew c.args.thread c.in-Ok-Some.written = sym c.in-Ok-Some.field-0-is ∙ c.in-Ok-Some.ensures.written in
-    let grew = rw c.as_bytes.ensures.bytes at c.in-Err-put.ensures.part in
-    rw (c.push_reserved.ensures.pushed, c.reserve.ensures.same) (stands-cut _ _ c.args.thread _ _ _ _ _ _ _ _ _ at writes c.in-Ok-Some.ensures.crew c.over-self-inside.ensures grew)
-
-pub returns-clause-had_a_piece : goal.returns-clause-had_a_piece
-returns-clause-had_a_piece g c failed kept =
-    let at = going _ _ _ _ _ _ _ _ _ c.self.invariant c.in_default.is c.if-is_some.ensures in
-    let writes : Writes c.self.inside.crew c.args.thread c.in-Ok-Some.written = sym c.in-Ok-Some.field-0-is ∙ c.in-Ok-Some.ensures.written in
-    let some : c.in-Ok-Some.written ≢ [] = λ none. (let yes = c.is_empty.ensures.empty.1 none in let no = c.if-is_empty.false in cc) in
-    let more : WritesOut (machine_of c.args.self.now) (next_of c.args.self.now c.args.thread) = rw (← c.self.view_is) (next-writes _ _ c.args.thread _ _ _ _ _ _ _ at writes c.in-Ok-Some.ensures.crew some) in
-    more
+pub returns-else-is_err-clause-could : goal.returns-else-is_err-clause-could
+returns-else-is_err-clause-could g c =
+    rw (← c.self.view_is) (asked-could g.S.Source.held g.K.Sink.got g.E.Sink.got c.self.inside.setup c.self.inside.began c.self.inside.desk c.args.thread c.in-Some-request.request.now c.self.inside.crew
+    c.in-Some-request.ensures.asks c.in-Ok.ensures.able c.self.invariant)

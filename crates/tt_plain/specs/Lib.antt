@@ -1,4 +1,0 @@
-pub mod Counting
-pub mod PlainCode
-pub mod PlainGrammar
-pub mod PlainScript
