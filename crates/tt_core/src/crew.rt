@@ -117,20 +117,19 @@ fn go_on(place: &mut Option<Interp>, reply: Reply) -> Result<(), NoMemory>
     ensures goes { OnOk result (IfSome place.old (λ interp. GoesOn interp reply place.new)) }
     ensures halts { IsHalted place.new }
 {
-    let resumed = match place {
-        Some(interp) => resume(interp, reply),
-        None => Ok(false),
-    };
-    match resumed {
-        Ok(true) => Ok(()),
-        Ok(false) => {
-            *place = None;
-            Ok(())
-        }
-        Err(error) => {
-            *place = None;
-            Err(error)
-        }
+    match place {
+        Some(interp) => match resume(interp, reply) {
+            Ok(true) => Ok(()),
+            Ok(false) => {
+                *place = None;
+                Ok(())
+            }
+            Err(error) => {
+                *place = None;
+                Err(error)
+            }
+        },
+        None => Ok(()),
     }
 }
 
