@@ -14,8 +14,9 @@ use Rattle.tt_devices.specs.Streams.{Grows, GrowsByPart}
 use Rattle.tt_interp.specs.Interps.{Interpreter, request_of, serving_of}
 use Rattle.tt_interp.specs.declared.setup.Setup.{Setup}
 use Rattle.tt_lines.specs.Lines.{IsLine, ReadsKnown, reads_line}
-use Rattle.tt_machine.proofs.Steps.{one_more}
-use Rattle.tt_machine.specs.Machine.{Asks, CanStep, IsBarred, Machine, Reads, Runs, Steps, Thread, after_act, joined, none, replied, start_machine, thread_of, over, silent, waits}
+use Rattle.std.proofs.lemmas.List.{append_cancel_left}
+use Rattle.tt_machine.proofs.Steps.{not_barred, one_more}
+use Rattle.tt_machine.specs.Machine.{Asks, CanStep, IsBarred, IsStuck, Machine, Reads, Runs, Steps, Thread, after_act, joined, none, replied, start_machine, thread_of, over, silent, waits}
 use Rattle.tt_shared.specs.Acts.{act}
 use Rattle.tt_shared.specs.Enabled.{enabled}
 use Rattle.tt_shared.specs.State.{State, start_state}
@@ -25,8 +26,8 @@ use Rattle.tt_threads.specs.Rows.{is_living}
 use Rattle.tt_threads.specs.declared.row.Row.{Row}
 use Rattle.tt_core.proofs.CrewLemmas as crew
 use Rattle.tt_core.proofs.CrewLemmas.{joined-placed, replied-placed, stands-asking, stands-for}
-use Rattle.tt_core.specs.Crew.{AllBegin, ArePlaced, Begins, IsReadyAfter, IsReplied, Places, StandsIn, asked_by, can_act_at, interp_of, is_ready}
-use Rattle.tt_core.specs.Faithful.{HasWritten, IsCutShort, IsFaithful, is_cut}
+use Rattle.tt_core.specs.Crew.{AllBegin, AreBusy, AreIdle, ArePlaced, Begins, able as can_be, ended, IsReadyAfter, IsReplied, Places, StandsIn, asked_by, can_act_at, interp_of, is_ready}
+use Rattle.tt_core.specs.Faithful.{AsksLine, HasWritten, IsCutShort, IsFaithful, StepWrites, is_cut}
 use Rattle.tt_core.specs.Stage.{Began, IsNextAfter, OfMachine, Stage}
 use Rattle.tt_core.specs.Standing.{IsAt, IsIts, IsStanding, Stands}
 
@@ -624,3 +625,74 @@ module _ {S K E : Type 0} (held : S → Option (List ℕ)) (got_out : K → Opti
             (λ number unready. barred-at desk number places machine (interp_of places number) its kept refl unready)
             (λ number ready. ready-at desk number places machine its ready),
       ))
+
+  -- ---- what a fault is met at ----
+
+  -- it asks for a line
+  pub asked-line : (setup : Setup) (began : Began S K E) (desk : Ground S K E) (number : ℕ) (request : Request) (places : Places)
+      → Some request ≡ asked_by places number → IsTrue (can_act desk number request) → reads_line request ≡ true
+      → Stood setup began desk places
+      → OfMachine held (record { setup = setup; began = began; desk = desk }) (AsksLine number)
+  asked-line setup began desk number request places is can line stood =
+      let one = asked-in (interp_of places number) request is in
+      told-map (held began.input) _ _ stood (λ input standing.
+      let machine = standing.0 in
+      let has = able desk number request can in
+      let its = going desk.kept desk.shared (unread held desk.devices) places machine has.nothing_met standing.1.at in
+      let asks = asks-it machine number request places one.0 its.are_placed one.1 one.2 (rw (← its.is_shared) has.lives) in
+      (machine, standing.1.ran, record { request = request; serving = serving_of one.0.standing; asks = asks; line = line }))
+
+  longer : (before piece after : List ℕ) → after ≡ before ++ piece → piece ≢ [] → after ≢ before
+  longer before piece after is some = λ same. some (append_cancel_left before piece [] (sym is ∙ (same ∙ sym (append-nil before))))
+
+  -- its step writes something
+  pub wrote : (setup : Setup) (began : Began S K E) (old new : Ground S K E) (number : ℕ) (request : Request) (places : Places)
+      → Some request ≡ asked_by places number → IsTrue (can_act old number request)
+      → ((line : Line) × Happens held got_out got_err GrowsByPart old number request line new × Writes (act old.shared number request line).gives)
+      → Stood setup began old places
+      → OfMachine held (record { setup = setup; began = began; desk = old }) (StepWrites number)
+  wrote setup began old new number request places is can cut stood =
+      let one = asked-in (interp_of places number) request is in
+      told-map (held began.input) _ _ stood (λ input standing.
+      let machine = standing.0 in
+      let has = able old number request can in
+      let its = going old.kept old.shared (unread held old.devices) places machine has.nothing_met standing.1.at in
+      let went = goes held old new number request cut.0 machine places one.0 its one.1 one.2 has cut.1.read cut.1.shared in
+      (machine, standing.1.ran, record { next = went.next; steps = went.steps; writes = grown cut.0 machine went cut.2 }))
+    where
+      grown : (line : Line) (machine : Machine) → (went : Goes held old new number request line machine) → Writes (act old.shared number request line).gives
+          → (went.next.out ≢ machine.out) ⊎ (went.next.err ≢ machine.err)
+      grown line machine went (inl some) = inl (longer machine.out (act old.shared number request line).gives.out went.next.out went.out some)
+      grown line machine went (inr some) = inr (longer machine.err (act old.shared number request line).gives.err went.next.err went.err some)
+
+  -- ---- when nobody can go on ----
+
+  pub stuck : (setup : Setup) (began : Began S K E) (desk : Ground S K E) (places : Places)
+      → AreIdle desk places → Stood setup began desk places
+      → OfMachine held (record { setup = setup; began = began; desk = desk }) IsStuck
+  stuck setup began desk places idle stood =
+      told-map (held began.input) _ _ stood (λ input standing.
+      let machine = standing.0 in
+      let its = going desk.kept desk.shared (unread held desk.devices) places machine idle.unmet standing.1.at in (
+        machine,
+        standing.1.ran,
+        record {
+          going = rw (← its.is_shared) idle.going;
+          barred = λ number. barred-at desk number places machine (interp_of places number) its idle.unmet refl (idle.unready number);
+        },
+      ))
+
+  busy-goes : (desk : Ground S K E) (places : Places) (machine : Machine)
+      → IsIts desk.shared (unread held desk.devices) places machine → AreBusy desk places → IsStuck machine → ⊥
+  busy-goes desk places machine its (ended over_is) stuck = some-none (sym over_is ∙ rw its.is_shared stuck.going)
+  busy-goes desk places machine its (can_be {number = number} is) stuck =
+      not_barred machine number (ready-at desk number places machine its is) (stuck.barred number)
+
+  pub not-stuck : (setup : Setup) (began : Began S K E) (desk : Ground S K E) (places : Places)
+      → desk.kept ≡ None → AreBusy desk places → Stood setup began desk places
+      → OfMachine held (record { setup = setup; began = began; desk = desk }) (λ machine. ¬ (IsStuck machine))
+  not-stuck setup began desk places kept busy stood =
+      told-map (held began.input) _ _ stood (λ input standing.
+      let machine = standing.0 in
+      let its = going desk.kept desk.shared (unread held desk.devices) places machine kept standing.1.at in
+      (machine, standing.1.ran, λ is. busy-goes desk places machine its busy is))

@@ -99,6 +99,17 @@ can_act_at desk number (Some interp) = can_act desk number (interps.request_of i
 abbrev pub is_ready : {S K E : Type 0} → Ground S K E → Places → (number : ℕ) → Bool
 is_ready desk places number = can_act_at desk number (interp_of places number)
 
+-- nothing was met, the run isn't over, and nobody's request can be answered
+pub record AreIdle {S K E : Type 0} (desk : Ground S K E) (places : Places) : Type 0 where
+  pub unmet : desk.kept ≡ None
+  pub going : desk.shared.over ≡ None
+  pub unready : (number : ℕ) → IsFalse (is_ready desk places number)
+
+-- the run is over, or somebody's request can be answered
+pub data AreBusy {S K E : Type 0} (desk : Ground S K E) (places : Places) : Type 0 where
+  ended : {code : ℕ} → desk.shared.over ≡ Some code → AreBusy desk places
+  able : {number : ℕ} → IsTrue (is_ready desk places number) → AreBusy desk places
+
 -- the first that is ready above a number, and else the first up to it
 abbrev pub IsReadyAfter : (ready : ℕ → Bool) → (after : ℕ) → Option ℕ → Type 0
 IsReadyAfter ready after None = (number : ℕ) → IsFalse (ready number)

@@ -1,9 +1,11 @@
 -- What sinks got of what the machine wrote.
-use Rattle.std.specs.Prelude.{◌≡◌, ℕ, Bool, true, false, List, [], ◌∷◌, ◌++◌, Option, Some, None, IfSome}
+use Rattle.std.specs.Prelude.{◌≡◌, ◌≢◌, ◌⊎◌, ℕ, Bool, true, false, List, [], ◌∷◌, ◌++◌, Option, Some, None, IfSome}
 use Rattle.tt_desk.specs.declared.fault.StepFault.{StepFault}
 use Rattle.tt_desk.specs.declared.fault.StepFault.TheVariants as fault
 use Rattle.tt_devices.specs.Streams.{Grows}
-use Rattle.tt_machine.specs.Machine.{Machine, Runs, start_machine}
+use Rattle.tt_lines.specs.Lines.{reads_line}
+use Rattle.tt_calls.specs.declared.request.Request.{Request}
+use Rattle.tt_machine.specs.Machine.{Asks, Machine, Runs, Steps, start_machine}
 use Rattle.tt_core.specs.Stage.{Stage}
 
 -- a failed write may have cut a piece short
@@ -52,3 +54,18 @@ AreFaithful held got_out got_err stage =
     × IsFaithful (is_cut stage.desk.kept) (start_machine stage.setup input) stage.desk.schedule
     (got_out stage.began.output) (got_out stage.desk.devices.output)
     (got_err stage.began.errors) (got_err stage.desk.devices.errors) machine)
+
+-- ---- what a fault is met at ----
+
+-- a thread that asks for a line of standard input
+pub record AsksLine (number : ℕ) (machine : Machine) : Type 0 where
+  pub request : Request
+  pub serving : List ℕ
+  pub asks : Asks machine number request serving
+  pub line : reads_line request ≡ true
+
+-- a thread whose step writes something
+pub record StepWrites (number : ℕ) (machine : Machine) : Type 0 where
+  pub next : Machine
+  pub steps : Steps machine number next
+  pub writes : (next.out ≢ machine.out) ⊎ (next.err ≢ machine.err)

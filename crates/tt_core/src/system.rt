@@ -1,8 +1,8 @@
 ghost use Rattle.std.specs.Prelude.{◌≡◌, ◌≢◌, ◌<◌, ◌≤◌, ◌+◌, ◌++◌, ◌∷◌, [], ◌⊎◌, ℕ, Option, Some, None, Err, IsSome, IsTrue, IsFalse, IfOk, IfErr, OnOk, IsErrOf, IfSome, length};
 ghost use Rattle.tt_calls.specs.declared.start.Start.TheVariants as start;
-ghost use Rattle.tt_core.specs.Crew.{AllBegin, Begins, IsFirstReady, IsReadyAfter, IsReplied, Places, interp_of, is_ready};
+ghost use Rattle.tt_core.specs.Crew.{AllBegin, AreBusy, AreIdle, Begins, IsFirstReady, IsReadyAfter, IsReplied, Places, interp_of, is_ready};
 ghost use Rattle.tt_devices.specs.Faults.{Rises};
-ghost use Rattle.tt_machine.specs.Machine.{CanStep, IsBarred};
+ghost use Rattle.tt_machine.specs.Machine.{CanStep, IsBarred, IsStuck};
 ghost use Rattle.tt_schedule.specs.ScheduleText.{most_steps};
 
 use crate::began::Began;
@@ -39,7 +39,7 @@ impl<S: Source, K: Sink, E: Sink> Model for System<S, K, E> {
 }
 
 impl<S: Source, K: Sink, E: Sink> System<S, K, E> {
-    ghost use Rattle.tt_core.specs.Faithful.{AreFaithful};
+    ghost use Rattle.tt_core.specs.Faithful.{AreFaithful, AsksLine, StepWrites};
     ghost use Rattle.tt_core.specs.Stage.{IsNextAfter, OfMachine, SameBeginning};
 
     /// A run of this script over these devices, with no step taken.
@@ -91,8 +91,9 @@ impl<S: Source, K: Sink, E: Sink> System<S, K, E> {
     /// Answers the thread's request, adds the thread to the schedule, and puts what the request writes.
     ///
     /// `NotEnabled` exactly where the machine can't step the thread and nothing was met before; then nothing changes.
-    /// `ReadFault` only where the source's count of faults rose in this step; then no entry was added. `WriteFault` only
-    /// where a sink's count rose in this step; then the entry was added, and a first part of what it writes was put.
+    /// `ReadFault` only where the thread asks for a line and the source's count of faults rose in this step; then no entry
+    /// was added. `WriteFault` only where the step writes something and a sink's count rose in this step; then the entry was
+    /// added, and a first part of what it writes was put.
     /// `NoMemory` where memory is refused. After these three the system does nothing more, and each later step answers the
     /// same.
     pub fn step(&mut self, thread: u32) -> Result<(), StepFault>
@@ -117,9 +118,13 @@ impl<S: Source, K: Sink, E: Sink> System<S, K, E> {
             OfMachine S.held self.old (λ machine. CanStep machine thread)) }
         ensures read_fault { IsErrOf result StepFault.ReadFault → self.old.desk.kept ≡ None →
             Rises (S.fault_count self.old.desk.devices.input) (S.fault_count self.new.desk.devices.input) }
+        ensures a_line { IsErrOf result StepFault.ReadFault → self.old.desk.kept ≡ None →
+            OfMachine S.held self.old (AsksLine thread) }
         ensures write_fault { IsErrOf result StepFault.WriteFault → self.old.desk.kept ≡ None →
             Rises (K.fault_count self.old.desk.devices.output) (K.fault_count self.new.desk.devices.output)
             ⊎ Rises (E.fault_count self.old.desk.devices.errors) (E.fault_count self.new.desk.devices.errors) }
+        ensures a_piece { IsErrOf result StepFault.WriteFault → self.old.desk.kept ≡ None →
+            OfMachine S.held self.old (StepWrites thread) }
 
         // What stays.
         ensures same_beginning { SameBeginning self.old self.new }
@@ -168,6 +173,15 @@ impl<S: Source, K: Sink, E: Sink> System<S, K, E> {
         next_ready(&self.desk, &self.crew, after)
     }
 
+    /// Whether no thread can take a step though the run isn't over, and no fault and no want of memory was met. It takes no
+    /// memory.
+    pub fn stuck(&self) -> bool
+        ensures stuck { IsTrue result → (self.now.desk.kept ≡ None) × OfMachine S.held self.now IsStuck }
+        ensures not_stuck { IsFalse result → self.now.desk.kept ≡ None → OfMachine S.held self.now (λ machine. ¬ (IsStuck machine)) }
+    {
+        are_idle(&self.desk, &self.crew)
+    }
+
     /// The code with which the run ended, from 0 to 255, or `None` exactly where it isn't over. It takes no memory.
     pub fn ended(&self) -> Option<u8>
         ensures is { result ≡ self.now.desk.shared.over }
@@ -208,6 +222,20 @@ fn is_ready<S: Source, K: Sink, E: Sink>(desk: &Desk<S, K, E>, crew: &Crew, thre
         Some(request) => desk.enabled(thread, request),
         None => false,
     }
+}
+
+/// Whether nothing was met, the run isn't over, and nobody's request can be answered.
+fn are_idle<S: Source, K: Sink, E: Sink>(desk: &Desk<S, K, E>, crew: &Crew) -> bool
+    ensures idle { IsTrue result → AreIdle desk.now crew.now }
+    ensures busy { IsFalse result → desk.now.kept ≡ None → AreBusy desk.now crew.now }
+{
+    if desk.kept().is_some() {
+        return false;
+    }
+    if desk.over().is_some() {
+        return false;
+    }
+    next_ready(desk, crew, 0).is_none()
 }
 
 /// The thread that is next in turn after one, of those whose requests can be answered.

@@ -1,6 +1,6 @@
 use Rattle.std.proofs.Common.{◌≡◌, ◌∙◌, false, None, Some, Err, ap, is_err, sym}
 use Rattle.tt_core.specs.Crew.{AllBegin, IsReplied, Places, asked_by}
-use Rattle.tt_core.proofs.StandLemmas.{asked-could, could-be, failed, on-ok, ran-out, unable, unasked, went-on}
+use Rattle.tt_core.proofs.StandLemmas.{asked-could, asked-line, could-be, failed, on-ok, ran-out, unable, unasked, went-on, wrote}
 use Rattle.tt_core.proofs.system.System.step.Goals as goal
 use Rattle.tt_desk.specs.declared.fault.StepFault.TheVariants as fault
 
@@ -66,3 +66,23 @@ pub returns-else-is_err-clause-could : goal.returns-else-is_err-clause-could
 returns-else-is_err-clause-could g c =
     rw (← c.self.view_is) (asked-could g.S.Source.held g.K.Sink.got g.E.Sink.got c.self.inside.setup c.self.inside.began c.self.inside.desk c.args.thread c.in-Some-request.request.now c.self.inside.crew
     c.in-Some-request.ensures.asks c.in-Ok.ensures.able c.self.invariant)
+
+pub returns-in-Err-clause-a_line : goal.returns-in-Err-clause-a_line
+returns-in-Err-clause-a_line g c e = λ was_none.
+    let same : c.in-Err.fault ≡ fault.ReadFault = cc e in
+    let was : c.act.result ≡ Err fault.ReadFault = c.in-Err.is ∙ ap Err same in
+    let kept : c.self.inside.desk.kept ≡ None = sym c.kept.ensures.kept ∙ c.in_default.is in
+    rw (← c.self.view_is) (asked-line g.S.Source.held g.K.Sink.got g.E.Sink.got c.self.inside.setup c.self.inside.began c.self.inside.desk c.args.thread c.in-Some-request.request.now c.self.inside.crew
+    c.in-Some-request.ensures.asks
+    (could-be g.S.Source.held g.K.Sink.got g.E.Sink.got c.self.inside.desk c.args.thread c.in-Some-request.request.now c.act.result fault.ReadFault kept c.act.ensures.refused was (λ is. cc))
+    (c.act.ensures.read_fault was kept).1 c.self.invariant)
+
+pub returns-in-Err-clause-a_piece : goal.returns-in-Err-clause-a_piece
+returns-in-Err-clause-a_piece g c e = λ was_none.
+    let same : c.in-Err.fault ≡ fault.WriteFault = cc e in
+    let was : c.act.result ≡ Err fault.WriteFault = c.in-Err.is ∙ ap Err same in
+    let kept : c.self.inside.desk.kept ≡ None = sym c.kept.ensures.kept ∙ c.in_default.is in
+    rw (← c.self.view_is) (wrote g.S.Source.held g.K.Sink.got g.E.Sink.got c.self.inside.setup c.self.inside.began c.self.inside.desk c.act.new.self c.args.thread c.in-Some-request.request.now c.self.inside.crew
+    c.in-Some-request.ensures.asks
+    (could-be g.S.Source.held g.K.Sink.got g.E.Sink.got c.self.inside.desk c.args.thread c.in-Some-request.request.now c.act.result fault.WriteFault kept c.act.ensures.refused was (λ is. cc))
+    (c.act.ensures.cut was kept) c.self.invariant)
