@@ -1,2 +1,3 @@
 pub mod OneRequest
 pub mod Steps
+pub mod RunActionLemmas

@@ -1,5 +1,6 @@
 //! What holds of the machine.
 ghost use Rattle.tt_machine.specs.Laws.{BarredLaw, OneMoreLaw, OneRunLaw, OneStepLaw};
+ghost use Rattle.tt_machine.specs.RunActions.{RunActionsLaw};
 
 /// A step of a thread leads to one machine.
 pub fn one_step()
@@ -19,4 +20,9 @@ pub fn one_run()
 /// A schedule with one step more leads one step further.
 pub fn one_more()
     ensures { OneMoreLaw }
+{}
+
+/// A run is a list of actions on what the threads share.
+pub fn runs_are_actions()
+    ensures { RunActionsLaw }
 {}
