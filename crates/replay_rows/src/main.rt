@@ -24,7 +24,7 @@ mod words;
 use std::fs;
 use table::Tally;
 
-const TABLES: [&str; 12] = [
+const TABLES: [&str; 17] = [
     "worked.rows",
     "events.rows",
     "sends.rows",
@@ -34,6 +34,11 @@ const TABLES: [&str; 12] = [
     "ends.rows",
     "counts.rows",
     "streams.rows",
+    "arrays.rows",
+    "held.rows",
+    "locks.rows",
+    "pools.rows",
+    "channels.rows",
     "scripts.rows",
     "schedules.rows",
     "examples.rows",
