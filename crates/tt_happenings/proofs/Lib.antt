@@ -1,0 +1,5 @@
+pub mod ArraysAlone
+pub mod Families
+pub mod HeldAlone
+pub mod HeldStays
+pub mod Tables

@@ -1,0 +1,4 @@
+pub mod Actions
+pub mod ArrayCalls
+pub mod HeldArrays
+pub mod Laws
