@@ -1,13 +1,20 @@
 -- What holds of every list of actions of threads.
-use Rattle.std.specs.Prelude.{◌≡◌, ◌≢◌, ℕ, IsFalse, List, Some, map}
+use Rattle.std.specs.Prelude.{◌≡◌, ◌≢◌, ℕ, IsTrue, IsFalse, List, Some, map}
 use Rattle.std.specs.List.{All}
+use Rattle.tt_calls.specs.declared.chan_call.ChanCall.{ChanCall}
 use Rattle.tt_calls.specs.declared.reply.Step.TheVariants as step
 use Rattle.tt_calls.specs.declared.request.Request.{Request}
+use Rattle.tt_calls.specs.declared.request.Request.TheVariants as ask
+use Rattle.tt_chans.specs.Answers.{id_of}
+use Rattle.tt_chans.specs.Channels.{is_standard}
 use Rattle.tt_happenings.specs.Actions.{Action, Acts, moments}
 use Rattle.tt_happenings.specs.ArrayCalls.{array_calls, array_replies, array_steps, arrays_after}
 use Rattle.tt_happenings.specs.HeldArrays.{EndsHold, HoldsArray, IsOn, array_named}
+use Rattle.tt_happenings.specs.Owners.{OwnsChannel, asks_owner, no_channel}
+use Rattle.tt_shared.specs.Acts.{act}
 use Rattle.tt_shared.specs.Enabled.{enabled}
-use Rattle.tt_shared.specs.State.{State}
+use Rattle.tt_shared.specs.State.{State, refuses}
+use Rattle.tt_shared.specs.declared.applied.Line.{Line}
 
 -- ---- shared variables ----
 
@@ -42,3 +49,18 @@ HeldAloneLaw =
     HoldsArray old t name →
     All (λ moment. ¬ (EndsHold t name moment)) (moments old actions) →
     IsHeldAlone old actions new t name
+
+-- ---- channels ----
+
+-- what a thread asks of a channel that it does not own is refused at once, and changes nothing
+pub record IsNotFound (state : State) (t : ℕ) (call : ChanCall) (line : Line) : Type 0 where
+  pub enabled : IsTrue (enabled state t (ask.Chan call))
+  pub refused : act state t (ask.Chan call) line ≡ refuses state (no_channel (id_of call))
+
+abbrev pub NotOwnedLaw : Type 0
+NotOwnedLaw =
+    (state : State) (t : ℕ) (call : ChanCall) (line : Line) →
+    IsTrue (asks_owner call) →
+    IsFalse (is_standard (id_of call)) →
+    ¬ (OwnsChannel state t (id_of call)) →
+    IsNotFound state t call line

@@ -2,3 +2,4 @@ pub mod Actions
 pub mod ArrayCalls
 pub mod HeldArrays
 pub mod Laws
+pub mod Owners
