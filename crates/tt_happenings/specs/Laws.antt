@@ -1,0 +1,66 @@
+-- What holds of every list of actions of threads.
+use Rattle.std.specs.Prelude.{◌≡◌, ◌≢◌, ℕ, IsTrue, IsFalse, List, Some, map}
+use Rattle.std.specs.List.{All}
+use Rattle.tt_calls.specs.declared.chan_call.ChanCall.{ChanCall}
+use Rattle.tt_calls.specs.declared.reply.Step.TheVariants as step
+use Rattle.tt_calls.specs.declared.request.Request.{Request}
+use Rattle.tt_calls.specs.declared.request.Request.TheVariants as ask
+use Rattle.tt_chans.specs.Answers.{id_of}
+use Rattle.tt_chans.specs.Channels.{is_standard}
+use Rattle.tt_happenings.specs.Actions.{Action, Acts, moments}
+use Rattle.tt_happenings.specs.ArrayCalls.{array_calls, array_replies, array_steps, arrays_after}
+use Rattle.tt_happenings.specs.HeldArrays.{EndsHold, HoldsArray, IsOn, array_named}
+use Rattle.tt_happenings.specs.Owners.{OwnsChannel, asks_owner, no_channel}
+use Rattle.tt_shared.specs.Acts.{act}
+use Rattle.tt_shared.specs.Enabled.{enabled}
+use Rattle.tt_shared.specs.State.{State, refuses}
+use Rattle.tt_shared.specs.declared.applied.Line.{Line}
+
+-- ---- shared variables ----
+
+-- The arrays are what the calls on shared variables alone make of them, and each of these calls is answered what it is
+-- alone: it never waits, and nothing else that threads do touches an array.
+pub record ArraysStandAlone (old : State) (actions : List Action) (new : State) : Type 0 where
+  pub arrays : new.arrays ≡ arrays_after old.arrays (array_calls actions)
+  pub replies : map step.Reply (array_replies old actions) ≡ array_steps old.arrays (array_calls actions)
+
+abbrev pub ArraysAloneLaw : Type 0
+ArraysAloneLaw = (old new : State) (actions : List Action) → Acts old actions new → ArraysStandAlone old actions new
+
+-- a thread that asks what is on an array waits while another holds it
+abbrev pub OthersWaitLaw : Type 0
+OthersWaitLaw =
+    (state : State) (t other : ℕ) (name : List ℕ) (request : Request) →
+    HoldsArray state t name →
+    array_named request ≡ Some name →
+    other ≢ t →
+    IsFalse (enabled state other request)
+
+-- From a hold of an array to the end of the last one, whatever threads do, what is done on the array is done by the
+-- thread that holds it, and it goes on holding it.
+pub record IsHeldAlone (old : State) (actions : List Action) (new : State) (t : ℕ) (name : List ℕ) : Type 0 where
+  pub alone : All (λ moment. IsOn moment.action name → moment.action.thread ≡ t) (moments old actions)
+  pub held : HoldsArray new t name
+
+abbrev pub HeldAloneLaw : Type 0
+HeldAloneLaw =
+    (old new : State) (actions : List Action) (t : ℕ) (name : List ℕ) →
+    Acts old actions new →
+    HoldsArray old t name →
+    All (λ moment. ¬ (EndsHold t name moment)) (moments old actions) →
+    IsHeldAlone old actions new t name
+
+-- ---- channels ----
+
+-- what a thread asks of a channel that it does not own is refused at once, and changes nothing
+pub record IsNotFound (state : State) (t : ℕ) (call : ChanCall) (line : Line) : Type 0 where
+  pub enabled : IsTrue (enabled state t (ask.Chan call))
+  pub refused : act state t (ask.Chan call) line ≡ refuses state (no_channel (id_of call))
+
+abbrev pub NotOwnedLaw : Type 0
+NotOwnedLaw =
+    (state : State) (t : ℕ) (call : ChanCall) (line : Line) →
+    IsTrue (asks_owner call) →
+    IsFalse (is_standard (id_of call)) →
+    ¬ (OwnsChannel state t (id_of call)) →
+    IsNotFound state t call line

@@ -1,0 +1,5 @@
+pub mod Actions
+pub mod ArrayCalls
+pub mod HeldArrays
+pub mod Laws
+pub mod Owners

@@ -1,0 +1,22 @@
+//! Laws about the definitions, each proved as the contract of a function that does nothing.
+ghost use Rattle.tt_happenings.specs.Laws.{ArraysAloneLaw, HeldAloneLaw, NotOwnedLaw, OthersWaitLaw};
+
+/// What threads do to arrays is what their calls on shared variables alone come to.
+pub fn arrays_stand_alone()
+    ensures { ArraysAloneLaw }
+{}
+
+/// Who asks what is on an array that another thread holds waits.
+pub fn others_wait_for_held_arrays()
+    ensures { OthersWaitLaw }
+{}
+
+/// What is done on a held array is done by its holder, until the end of its last hold.
+pub fn held_arrays_are_alone()
+    ensures { HeldAloneLaw }
+{}
+
+/// What a thread asks of a channel that it does not own is refused.
+pub fn channels_answer_their_owner()
+    ensures { NotOwnedLaw }
+{}
