@@ -6,10 +6,14 @@ use Rattle.tt_calls.specs.declared.chan_call.ChanCall.TheVariants as chan
 use Rattle.tt_calls.specs.declared.lock_call.LockCall.{LockCall}
 use Rattle.tt_calls.specs.declared.lock_call.LockCall.TheVariants as lock
 use Rattle.tt_calls.specs.declared.outcome.Outcome.{Outcome}
+use Rattle.tt_calls.specs.declared.pool_call.PoolCall.{PoolCall}
+use Rattle.tt_calls.specs.declared.pool_call.PoolCall.TheVariants as pool
 use Rattle.tt_calls.specs.declared.reply.Reply.{Reply}
 use Rattle.tt_calls.specs.declared.reply.Reply.TheVariants as reply
 use Rattle.tt_calls.specs.declared.request.Request.{Request}
 use Rattle.tt_calls.specs.declared.request.Request.TheVariants as ask
+use Rattle.tt_calls.specs.declared.tsv_call.TsvCall.{TsvCall}
+use Rattle.tt_calls.specs.declared.tsv_call.TsvCall.TheVariants as tsv
 use Rattle.tt_commands.specs.declared.call.Call.{Call}
 use Rattle.tt_commands.specs.declared.call.Call.TheVariants as call
 use Rattle.tt_commands.specs.declared.call.Goal.{Goal}
@@ -27,7 +31,9 @@ use Rattle.tt_wants.specs.declared.want.Want.TheVariants.{Ask, Watch}
 use Rattle.tt_frames.specs.Vocabulary.{OnEnding, Then, passed, stored}
 use Rattle.tt_frames.specs.declared.job.Awaits.{Awaits}
 use Rattle.tt_frames.specs.declared.job.Awaits.TheVariants as awaits
+use Rattle.tt_frames.specs.declared.job.Hold.TheVariants as hold
 use Rattle.tt_frames.specs.declared.job.Job.TheVariants as job
+use Rattle.tt_frames.specs.declared.job.JobsWait.{JobsWait}
 use Rattle.tt_frames.specs.declared.job.Until.TheVariants as until
 
 -- ---- replies ----
@@ -36,12 +42,13 @@ use Rattle.tt_frames.specs.declared.job.Until.TheVariants as until
 abbrev pub died : List ℕ
 died = codes "target thread died"
 
--- the answer that a reply is
+-- the answer that a reply is: of tpool::cancel the jobs that are removed
 abbrev pub answer : Reply → Ending
 answer (reply.Refused message) = failed message
 answer (reply.Value value) = fine value
 answer (reply.Line line) = fine line
 answer (reply.Answer outcome) = of_outcome outcome
+answer (reply.Lists removed left) = fine removed
 answer reply.Died = failed died
 answer reply = fine []
 
@@ -92,6 +99,7 @@ following (awaits.End thread) (reply.Value count) =
 following awaits.NamedEnd (reply.Waits thread) = asking (ask.AwaitEnd thread) answering
 following (awaits.Move name) reply.Go = asking (ask.Chan (chan.AwaitMove name)) answering
 following (awaits.Retake condition mutex) reply.Go = asking (ask.Lock (lock.CondTake condition mutex)) answering
+following (awaits.Held hold script) reply.Go = Goes (job.Held hold script)
 following awaits reply = answering reply
 
 -- the channel that is moved, and the condition that is waited for (thread(n), thread::transfer, thread::cond)
@@ -103,6 +111,12 @@ abbrev pub retaking : Request → Awaits
 retaking (ask.Lock (lock.CondWait condition mutex)) = awaits.Retake condition mutex
 retaking request = awaits.Value
 
+-- what is held while a script is evaluated (tsv(n), tsv::lock; thread(n), thread::eval)
+abbrev pub holding : (script : List ℕ) → Request → Awaits
+holding script (ask.Tsv (tsv.Hold array)) = awaits.Held (hold.Array array) script
+holding script (ask.Lock (lock.Lock id)) = awaits.Held (hold.Mutex id) script
+holding script request = awaits.Value
+
 abbrev pub awaits_of : Request → After → Awaits
 awaits_of request after.Value = awaits.Value
 awaits_of request (after.Store name) = awaits.Store name
@@ -111,9 +125,18 @@ awaits_of request (after.AwaitEnd (Some thread)) = awaits.End thread
 awaits_of request (after.AwaitEnd None) = awaits.NamedEnd
 awaits_of request after.AwaitMove = moving request
 awaits_of request after.Retake = retaking request
-awaits_of request after = awaits.Value
+awaits_of request (after.Held script) = holding script request
+awaits_of request (after.Serve goal) = awaits.Value
 
 -- ---- event loops ----
+
+abbrev pub wait_for : (pool : List ℕ) → (jobs : List (List ℕ)) → Option (List ℕ) → JobsWait
+wait_for pool jobs variable = record { pool = pool; jobs = jobs; variable = variable }
+
+-- a wait for the jobs that are asked for (tpool(n), tpool::wait)
+abbrev pub waiting : Request → Option (List ℕ) → Then
+waiting (ask.Pool (pool.Look pool jobs)) variable = Goes (job.Serve (until.Jobs (wait_for pool jobs variable)))
+waiting request variable = asking request answering
 
 -- a command that serves events up to its goal: a variable is watched from there on (vwait(n), update(n), thread(n),
 -- thread::wait)
@@ -121,7 +144,7 @@ abbrev pub serving : Request → Goal → Then
 serving request (goal.Written name) state = Asks (Watch name) state (λ got. Goes (job.Serve until.Written))
 serving request goal.Idle state = Goes (job.Serve until.Idle) state
 serving request goal.Stopped state = Goes (job.Serve until.Stopped) state
-serving request (goal.Pool variable) state = asking request answering state
+serving request (goal.Pool variable) state = waiting request variable state
 
 -- a command that asks
 abbrev pub requested : Request → After → Then

@@ -1,4 +1,5 @@
--- Event loops: events are taken and served, one after the other (vwait(n), update(n), thread(n), thread::wait).
+-- Event loops: events are taken and served, one after the other (vwait(n), update(n), thread(n), thread::wait; tpool(n),
+-- tpool::wait).
 use Rattle.std.specs.Prelude.{ℕ, Bool, true, false, bytes_eq, if◌then◌else◌, List, [], codes, Option, Some, None}
 use Rattle.tt_calls.specs.declared.event.Event.{Event}
 use Rattle.tt_calls.specs.declared.event.Event.TheVariants as event
@@ -18,6 +19,7 @@ use Rattle.tt_wants.specs.declared.want.Body.TheVariants as body
 use Rattle.tt_wants.specs.declared.want.Want.TheVariants.{Ask, Enter, Leave, Seen, Unwatch}
 use Rattle.tt_frames.specs.Units.{past_limit, spending}
 use Rattle.tt_frames.specs.Vocabulary.{OnEnding, Then, ending_of, passed, setting, told}
+use Rattle.tt_frames.specs.Waiting.{known, look_of}
 use Rattle.tt_frames.specs.declared.job.Job.TheVariants as job
 use Rattle.tt_frames.specs.declared.job.Until.{Until}
 use Rattle.tt_frames.specs.declared.job.Until.TheVariants as until
@@ -30,12 +32,14 @@ abbrev pub over : Until → Ending → Then
 over until.Written ending state = Asks Unwatch state (λ got. passed ending)
 over until.Idle ending state = passed ending state
 over until.Stopped ending state = passed ending state
+over (until.Jobs wait) ending state = passed ending state
 
 -- how it ends where the thread is to stop
 abbrev pub stopping : Until → Ending
 stopping until.Written = failed (codes "thread is stopping")
 stopping until.Idle = fine []
 stopping until.Stopped = fine []
+stopping (until.Jobs wait) = failed (codes "thread is stopping")
 
 -- a unit, and then an event is asked for
 abbrev pub next_event : Until → Then
@@ -55,6 +59,7 @@ abbrev pub round : Until → Then
 round until.Written state = Asks Seen state (λ got. seen (ending_of got))
 round until.Idle state = unmet until.Idle state
 round until.Stopped state = unmet until.Stopped state
+round (until.Jobs wait) state = unmet (until.Jobs wait) state
 
 -- ---- an event is taken ----
 
@@ -63,6 +68,7 @@ abbrev pub event_request : Until → Request
 event_request until.Written = ask.Take
 event_request until.Idle = ask.TakeReady
 event_request until.Stopped = ask.Take
+event_request (until.Jobs wait) = look_of wait
 
 -- the post that is served with it: that of a script whose sender gets an answer
 abbrev pub answered_post : (n : ℕ) → (answer : Bool) → Option ℕ
@@ -73,11 +79,16 @@ abbrev pub post_of : Event → Option ℕ
 post_of (event.Script n script answer plain) = answered_post n answer
 post_of other = None
 
--- an event is served, and then the next round begins; where there was none the loop ends
+-- where there was no event the loop ends
+abbrev pub without_event : Until → Reply → Then
+without_event (until.Jobs wait) reply = known wait reply
+without_event goal reply = over goal (fine [])
+
+-- an event is served, and then the next round begins
 abbrev pub on_event : Until → Reply → Then
 on_event goal (reply.Event event) state =
     Calls (post_of event) (job.Event event) state (λ ending. Goes (job.Serve goal))
-on_event goal other state = over goal (fine []) state
+on_event goal other state = without_event goal other state
 
 abbrev pub taken : Until → Got → Then
 taken goal (got.Reply reply) = on_event goal reply

@@ -4,7 +4,7 @@ use Rattle.std.specs.Arc.{arc_value}
 use Rattle.tt_code.specs.Running.{given, needs}
 use Rattle.tt_code.specs.declared.running.Running.{Running}
 use Rattle.tt_endings.specs.declared.ending.Ending.{Ending}
-use Rattle.tt_endings.specs.declared.ending.Ending.TheVariants.{Fine}
+use Rattle.tt_endings.specs.declared.ending.Ending.TheVariants.{Failed, Fine}
 use Rattle.tt_plans.specs.Frames.{After, OnGot}
 use Rattle.tt_plans.specs.Plans.{Goes}
 use Rattle.tt_wants.specs.declared.got.Got.{Got}
@@ -13,12 +13,14 @@ use Rattle.tt_frames.specs.Asking.{following, on_reply, sent}
 use Rattle.tt_frames.specs.Control.{caught, clauses}
 use Rattle.tt_frames.specs.Events as events
 use Rattle.tt_frames.specs.Expressions.{computed}
+use Rattle.tt_frames.specs.Held.{let_go}
 use Rattle.tt_frames.specs.Loops as loops
 use Rattle.tt_frames.specs.Nesting.{left}
 use Rattle.tt_frames.specs.Programs.{PlainStep, end_of, start_of, steps_of}
 use Rattle.tt_frames.specs.Scripts.{commands, ended, needing, ran, running}
 use Rattle.tt_frames.specs.Starts.{finished, reporting}
 use Rattle.tt_frames.specs.Vocabulary.{OnEnding, Then, ending_of, on_fine, on_truth, passed, stored}
+use Rattle.tt_frames.specs.Workers as workers
 use Rattle.tt_frames.specs.declared.job.Asking.{Asking}
 use Rattle.tt_frames.specs.declared.job.Asking.TheVariants as asking
 use Rattle.tt_frames.specs.declared.job.CommandFrame.{CommandFrame}
@@ -29,6 +31,10 @@ use Rattle.tt_frames.specs.declared.job.Job.TheVariants as job
 use Rattle.tt_frames.specs.declared.job.Loop.{Loop}
 use Rattle.tt_frames.specs.declared.job.Loop.TheVariants as loop
 use Rattle.tt_frames.specs.declared.job.Purpose.{Purpose}
+use Rattle.tt_frames.specs.declared.job.WorkerAsking.{WorkerAsking}
+use Rattle.tt_frames.specs.declared.job.WorkerAsking.TheVariants as worker_asking
+use Rattle.tt_frames.specs.declared.job.WorkerFrame.{WorkerFrame}
+use Rattle.tt_frames.specs.declared.job.WorkerFrame.TheVariants as worker_frame
 use Rattle.tt_frames.specs.declared.state.Counts.{Counts}
 
 -- ---- a command of a script ----
@@ -65,6 +71,11 @@ abbrev pub assigns : (left : List (List ℕ)) → Loop → Then
 assigns left (loop.Foreach names values body) = loops.assigning names left values body
 assigns left other = passed (Fine [])
 
+-- a script of a worker
+abbrev pub after_worker : WorkerFrame → OnEnding
+after_worker (worker_frame.Aside next) = workers.aside next
+after_worker (worker_frame.Runs begun) = workers.job_ended begun
+
 abbrev pub after : After Job Want Got Ending Counts Frame
 after (frame.Needs command) = command_given command
 after (frame.Does command) = command_ended command
@@ -83,8 +94,17 @@ after frame.Reports = finished
 after (frame.Rounds goal) = λ ending. Goes (job.Serve goal)
 after (frame.Serves n answer plain) = events.script_served n answer plain
 after frame.Sets = events.was_set
+after (frame.Held hold) = let_go hold
+after (frame.Works frame) = after_worker frame
 
 -- ---- askings ----
+
+-- what a worker waits for
+abbrev pub on_worker_got : WorkerAsking → Got → Then
+on_worker_got (worker_asking.Takes worker) got = workers.given worker got
+on_worker_got (worker_asking.Told trace next) got = workers.reporting trace next
+on_worker_got (worker_asking.JobTold begun fault) got = workers.handing_in begun (Failed fault)
+on_worker_got (worker_asking.Done worker trace) got = workers.after_job worker trace
 
 abbrev pub on_got : OnGot Job Want Got Ending Counts Asking
 on_got (asking.Wanted frame) got = after frame (ending_of got)
@@ -101,3 +121,4 @@ on_got (asking.Sets name value) got = events.sets name value
 on_got (asking.Left ending) got = events.set_reported ending
 on_got (asking.Told n answer plain fault) got = events.handing (events.error_request n answer plain fault)
 on_got asking.Handed got = events.handed got
+on_got (asking.Works asking) got = on_worker_got asking got

@@ -3,6 +3,7 @@ pub mod Control
 pub mod Events
 pub mod Expressions
 pub mod Frames
+pub mod Held
 pub mod Loops
 pub mod Nesting
 pub mod Programs
@@ -12,3 +13,5 @@ pub mod Starts
 pub mod Tcl
 pub mod Units
 pub mod Vocabulary
+pub mod Waiting
+pub mod Workers

@@ -4,13 +4,13 @@ use Rattle.tt_calls.specs.declared.request.Request.{Request}
 use Rattle.tt_calls.specs.declared.request.Request.TheVariants.{Report, WriteErr}
 use Rattle.tt_calls.specs.declared.start.Start.{Start}
 use Rattle.tt_calls.specs.declared.start.Start.TheVariants.{Script, Worker}
-use Rattle.tt_endings.specs.Endings.{fine}
 use Rattle.tt_endings.specs.Places.{of_script}
 use Rattle.tt_endings.specs.declared.ending.Ending.{Ending}
 use Rattle.tt_endings.specs.declared.ending.Ending.TheVariants.{Failed}
 use Rattle.tt_plans.specs.Plans.{Asks, Calls}
 use Rattle.tt_wants.specs.declared.want.Want.TheVariants.{Ask}
 use Rattle.tt_frames.specs.Vocabulary.{OnEnding, Then, passed, told}
+use Rattle.tt_frames.specs.Workers.{begins, worker_of}
 use Rattle.tt_frames.specs.declared.job.Job.TheVariants as job
 
 -- the main thread writes the trace of the error that it ends with, another one reports it
@@ -31,4 +31,4 @@ finished ending = reported (of_script ending)
 
 abbrev pub starting : Start → Then
 starting (Script text) state = Calls None (job.Script text) state finished
-starting (Worker pool init exit) state = passed (fine []) state
+starting (Worker pool init exit) state = begins init (worker_of pool exit) state

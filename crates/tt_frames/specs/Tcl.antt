@@ -6,10 +6,12 @@ use Rattle.tt_wants.specs.declared.want.Want.{Want}
 use Rattle.tt_frames.specs.Control.{own}
 use Rattle.tt_frames.specs.Events.{happens, round, taking}
 use Rattle.tt_frames.specs.Expressions.{expression}
+use Rattle.tt_frames.specs.Held.{held}
 use Rattle.tt_frames.specs.Loops.{looping, turning}
 use Rattle.tt_frames.specs.Nesting.{global, nested}
 use Rattle.tt_frames.specs.Scripts.{script}
 use Rattle.tt_frames.specs.Starts.{starting}
+use Rattle.tt_frames.specs.Workers.{working}
 use Rattle.tt_frames.specs.declared.job.Job.{Job}
 use Rattle.tt_frames.specs.declared.job.Job.TheVariants as job
 use Rattle.tt_frames.specs.declared.state.Counts.{Counts}
@@ -26,3 +28,5 @@ plan (job.Turn loop) = turning loop
 plan (job.Serve goal) = round goal
 plan (job.Take goal) = taking goal
 plan (job.Event event) = happens event
+plan (job.Held hold text) = held hold text
+plan (job.Work work) = working work

@@ -12,12 +12,12 @@ ghost use Rattle.tt_frames.specs.declared.state.Counts.{Counts};
 ghost use Rattle.tt_plans.specs.Frames.{plan_of};
 
 use crate::events::begin_serving;
-use crate::job::{Asking, Awaits, Frame, Job};
+use crate::job::{Asking, Awaits, Frame, Hold, Job};
 use crate::language::Next;
 use crate::storing::store;
 use itoa::Buffer;
 use std::alloc::Global;
-use tt_calls::{Boxed, ChanCall, LockCall, Outcome, Reply, Request};
+use tt_calls::{Boxed, ChanCall, LockCall, Outcome, Reply, Request, TsvCall};
 use tt_commands::{Call, Here, Then, read_call};
 use tt_endings::{Ending, code_number};
 use tt_text::{NoMemory, Text, Texts, char_count};
@@ -38,19 +38,22 @@ pub(crate) fn begin_call(alloc: Global, words: &Texts, me: u32) -> Result<Next, 
             Frame::Sends(variable),
         )),
         Call::Ask { request, then } => {
-            let next = begin_request(request, then)?;
+            let next = begin_request(alloc, request, then)?;
             Ok(next)
         }
     }
 }
 
 // A command begins that asks.
-fn begin_request(request: Boxed<Request>, then: Then) -> Result<Next, NoMemory>
+fn begin_request(alloc: Global, request: Boxed<Request>, then: Then) -> Result<Next, NoMemory>
     ensures { IfOk result (λ move. (state : Counts)
         → table.requested request then state ≡ plan_of after on_got move state) }
 {
     match then {
-        Then::Serve(goal) => Ok(begin_serving(request, goal)),
+        Then::Serve(goal) => {
+            let next = begin_serving(alloc, request, goal)?;
+            Ok(next)
+        }
         then => {
             let awaits = awaits_of(request.get(), then)?;
             Ok(Next::Ask(Want::Ask { request }, Asking::Replied(awaits)))
@@ -79,13 +82,14 @@ fn awaits_of(request: &Request, then: Then) -> Result<Awaits, NoMemory>
     ensures { IfOk result (λ awaits. awaits ≡ table.awaits_of request.now then) }
 {
     match then {
-        Then::Value | Then::Held(_) | Then::Serve(_) => Ok(Awaits::Value),
+        Then::Value | Then::Serve(_) => Ok(Awaits::Value),
         Then::Store(name) => Ok(Awaits::Store(name)),
         Then::AwaitResult(variable) => Ok(Awaits::Result(variable)),
         Then::AwaitEnd(Some(thread)) => Ok(Awaits::End(thread)),
         Then::AwaitEnd(None) => Ok(Awaits::NamedEnd),
         Then::AwaitMove => moving(request),
         Then::Retake => retaking(request),
+        Then::Held(script) => holding(script, request),
     }
 }
 
@@ -107,6 +111,22 @@ fn retaking(request: &Request) -> Result<Awaits, NoMemory>
     match request {
         Request::Lock(call) => match call.get() {
             LockCall::CondWait { cond, mutex } => Ok(Awaits::Retake(cond.copy()?, mutex.copy()?)),
+            _ => Ok(Awaits::Value),
+        },
+        _ => Ok(Awaits::Value),
+    }
+}
+
+fn holding(script: Text, request: &Request) -> Result<Awaits, NoMemory>
+    ensures { IfOk result (λ awaits. awaits ≡ table.holding script request.now) }
+{
+    match request {
+        Request::Tsv(call) => match call.get() {
+            TsvCall::Hold { array } => Ok(Awaits::Held(Hold::Array(array.copy()?), script)),
+            _ => Ok(Awaits::Value),
+        },
+        Request::Lock(call) => match call.get() {
+            LockCall::Lock { id } => Ok(Awaits::Held(Hold::Mutex(id.copy()?), script)),
             _ => Ok(Awaits::Value),
         },
         _ => Ok(Awaits::Value),
@@ -148,6 +168,10 @@ fn follow(alloc: Global, awaits: Awaits, reply: Reply) -> Result<Next, NoMemory>
         }
         Awaits::End(thread) => {
             let next = await_end(alloc, thread, reply)?;
+            Ok(next)
+        }
+        Awaits::Held(hold, script) => {
+            let next = begin_hold(alloc, hold, script, reply)?;
             Ok(next)
         }
         Awaits::NamedEnd => {
@@ -237,15 +261,27 @@ fn retake(alloc: Global, cond: Text, mutex: Text, reply: Reply) -> Result<Next, 
     }
 }
 
-fn ask(alloc: Global, request: Request, awaits: Awaits) -> Result<Next, NoMemory>
+/// A command asks, and that follows the reply.
+pub(crate) fn ask(alloc: Global, request: Request, awaits: Awaits) -> Result<Next, NoMemory>
     ensures { IfOk result (λ move. move ≡ moves.Ask (wants.Ask request) (askings.Replied awaits)) }
 {
     let request = Boxed::new(alloc, request)?;
     Ok(Next::Ask(Want::Ask { request }, Asking::Replied(awaits)))
 }
 
-// The answer that a reply is.
-fn answer(alloc: Global, reply: Reply) -> Result<Ending, NoMemory>
+// The script is evaluated while that is held.
+fn begin_hold(alloc: Global, hold: Hold, script: Text, reply: Reply) -> Result<Next, NoMemory>
+    ensures { IfOk result (λ move. (state : Counts)
+        → table.following (awaits.Held hold script) reply state ≡ plan_of after on_got move state) }
+{
+    match reply {
+        Reply::Go => Ok(Next::Goto(Job::Held(hold, script))),
+        reply => Ok(Next::Done(answer(alloc, reply)?)),
+    }
+}
+
+/// The answer that a reply is.
+pub(crate) fn answer(alloc: Global, reply: Reply) -> Result<Ending, NoMemory>
     ensures { IfOk result (λ ending. ending ≡ table.answer reply) }
 {
     match reply {
@@ -254,6 +290,7 @@ fn answer(alloc: Global, reply: Reply) -> Result<Ending, NoMemory>
             Ok(ending)
         }
         Reply::Value(value) | Reply::Line(value) => Ok(Ending::Fine(value)),
+        Reply::Lists(removed, _left) => Ok(Ending::Fine(removed)),
         Reply::Answer(outcome) => {
             let ending = Ending::of_outcome(alloc, outcome)?;
             Ok(ending)

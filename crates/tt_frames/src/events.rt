@@ -6,9 +6,10 @@ ghost use Rattle.tt_frames.specs.Frames.{after, on_got};
 ghost use Rattle.tt_frames.specs.declared.state.Counts.{Counts};
 ghost use Rattle.tt_plans.specs.Frames.{plan_of};
 
-use crate::job::{Asking, Awaits, Frame, Job, Until};
+use crate::job::{Asking, Frame, Job, Until};
 use crate::language::Next;
 use crate::state::{State, Unit};
+use crate::waiting::{begin_waiting, end_waiting, look_of};
 use std::alloc::Global;
 use tt_calls::{Boxed, Event, Reply, Request};
 use tt_commands::Goal;
@@ -17,17 +18,25 @@ use tt_text::NoMemory;
 use tt_wants::{Got, Want};
 
 /// A command begins that serves events up to its goal.
-pub(crate) fn begin_serving(request: Boxed<Request>, goal: Goal) -> Next
-    ensures { (state : Counts) → serving request goal state ≡ plan_of after on_got result state }
+pub(crate) fn begin_serving(
+    alloc: Global,
+    request: Boxed<Request>,
+    goal: Goal,
+) -> Result<Next, NoMemory>
+    ensures { IfOk result (λ move. (state : Counts)
+        → serving request goal state ≡ plan_of after on_got move state) }
 {
     match goal {
         Goal::Written(name) => {
             let rounds = Job::Serve(Until::Written);
-            Next::Ask(Want::Watch { name }, Asking::Begins(rounds))
+            Ok(Next::Ask(Want::Watch { name }, Asking::Begins(rounds)))
         }
-        Goal::Idle => Next::Goto(Job::Serve(Until::Idle)),
-        Goal::Stopped => Next::Goto(Job::Serve(Until::Stopped)),
-        Goal::Pool { .. } => Next::Ask(Want::Ask { request }, Asking::Replied(Awaits::Value)),
+        Goal::Idle => Ok(Next::Goto(Job::Serve(Until::Idle))),
+        Goal::Stopped => Ok(Next::Goto(Job::Serve(Until::Stopped))),
+        Goal::Pool { store } => {
+            let next = begin_waiting(alloc, request.into_inner(), store)?;
+            Ok(next)
+        }
     }
 }
 
@@ -37,7 +46,7 @@ pub(crate) fn begin_round(alloc: Global, goal: Until, state: &mut State) -> Resu
 {
     match goal {
         Until::Written => Ok(Next::Ask(Want::Seen, Asking::Seen)),
-        Until::Idle | Until::Stopped => {
+        goal => {
             let next = go_on(alloc, goal, state)?;
             Ok(next)
         }
@@ -61,7 +70,8 @@ fn go_on(alloc: Global, goal: Until, state: &mut State) -> Result<Next, NoMemory
     ensures { IfOk result (λ move. events.unmet goal state.old ≡ plan_of after on_got move state.new) }
 {
     if state.counts.stopped {
-        Ok(end(goal, stopping(alloc, goal)?))
+        let ending = stopping(alloc, &goal)?;
+        Ok(end(goal, ending))
     } else {
         let next = spend(alloc, goal, state)?;
         Ok(next)
@@ -91,16 +101,16 @@ fn end(goal: Until, ending: Ending) -> Next
 {
     match goal {
         Until::Written => Next::Ask(Want::Unwatch, Asking::Ends(ending)),
-        Until::Idle | Until::Stopped => Next::Done(ending),
+        Until::Idle | Until::Stopped | Until::Jobs(_) => Next::Done(ending),
     }
 }
 
 // How a loop ends where the thread is to stop.
-fn stopping(alloc: Global, goal: Until) -> Result<Ending, NoMemory>
-    ensures { IfOk result (λ ending. ending ≡ events.stopping goal) }
+fn stopping(alloc: Global, goal: &Until) -> Result<Ending, NoMemory>
+    ensures { IfOk result (λ ending. ending ≡ events.stopping goal.now) }
 {
     match goal {
-        Until::Written => {
+        Until::Written | Until::Jobs(_) => {
             let ending = Ending::failed_with(alloc, b"thread is stopping")?;
             Ok(ending)
         }
@@ -112,29 +122,52 @@ fn stopping(alloc: Global, goal: Until) -> Result<Ending, NoMemory>
 pub(crate) fn ask_event(alloc: Global, goal: Until) -> Result<Next, NoMemory>
     ensures { IfOk result (λ move. (state : Counts) → events.taking goal state ≡ plan_of after on_got move state) }
 {
-    let request = Boxed::new(alloc, event_request(goal))?;
+    let request = Boxed::new(alloc, event_request(alloc, &goal)?)?;
     Ok(Next::Ask(Want::Ask { request }, Asking::Taken(goal)))
 }
 
-fn event_request(goal: Until) -> Request
-    ensures { result ≡ events.event_request goal }
+fn event_request(alloc: Global, goal: &Until) -> Result<Request, NoMemory>
+    ensures { IfOk result (λ request. request ≡ events.event_request goal.now) }
 {
     match goal {
-        Until::Idle => Request::TakeReady,
-        Until::Written | Until::Stopped => Request::Take,
+        Until::Idle => Ok(Request::TakeReady),
+        Until::Written | Until::Stopped => Ok(Request::Take),
+        Until::Jobs(wait) => {
+            let request = look_of(alloc, wait.get())?;
+            Ok(request)
+        }
     }
 }
 
 /// An event was taken, or there was none.
-pub(crate) fn after_taken(alloc: Global, goal: Until, got: Got) -> Next
-    ensures { (state : Counts) → events.taken goal got state ≡ plan_of after on_got result state }
+pub(crate) fn after_taken(alloc: Global, goal: Until, got: Got) -> Result<Next, NoMemory>
+    ensures { IfOk result (λ move. (state : Counts)
+        → events.taken goal got state ≡ plan_of after on_got move state) }
 {
     match got {
         Got::Reply(Reply::Event(event)) => {
             let post = post_of(&event);
-            Next::Call(post, Job::Event(event), Frame::Rounds(goal))
+            Ok(Next::Call(post, Job::Event(event), Frame::Rounds(goal)))
         }
-        _ => end(goal, Ending::nothing(alloc)),
+        Got::Reply(reply) => {
+            let next = without_event(alloc, goal, reply)?;
+            Ok(next)
+        }
+        _ => Ok(end(goal, Ending::nothing(alloc))),
+    }
+}
+
+// There was no event.
+fn without_event(alloc: Global, goal: Until, reply: Reply) -> Result<Next, NoMemory>
+    ensures { IfOk result (λ move. (state : Counts)
+        → events.without_event goal reply state ≡ plan_of after on_got move state) }
+{
+    match goal {
+        Until::Jobs(wait) => {
+            let next = end_waiting(alloc, wait.into_inner(), reply)?;
+            Ok(next)
+        }
+        goal => Ok(end(goal, Ending::nothing(alloc))),
     }
 }
 

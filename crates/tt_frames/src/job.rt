@@ -3,7 +3,7 @@
 use crate::program::Program;
 use crate::rest::Rest;
 use std::sync::Arc;
-use tt_calls::{Event, Start};
+use tt_calls::{Boxed, Event, Start};
 use tt_code::Running;
 use tt_endings::{Ending, Failure};
 use tt_text::{Text, Texts};
@@ -40,8 +40,19 @@ pub enum Purpose {
     Condition,
 }
 
+/// A wait for jobs of a pool (tpool(n), tpool::wait).
+#[derive(Debug, Drop)]
+pub struct JobsWait {
+    /// The pool.
+    pub pool: Text,
+    /// The jobs.
+    pub jobs: Texts,
+    /// The variable for those that are pending.
+    pub variable: Option<Text>,
+}
+
 /// Up to when events are served.
-#[derive(Clone, Copy, Debug, PartialEq, Eq)]
+#[derive(Debug, Drop)]
 pub enum Until {
     /// The global variable that was watched last was written (vwait(n)).
     Written,
@@ -49,6 +60,35 @@ pub enum Until {
     Idle,
     /// The thread is to stop (thread(n), thread::wait).
     Stopped,
+    /// Jobs of a pool are done (tpool(n), tpool::wait).
+    Jobs(Boxed<JobsWait>),
+}
+
+/// What is held while a script is evaluated.
+#[derive(Debug, Drop)]
+pub enum Hold {
+    /// The array of this name (tsv(n), tsv::lock).
+    Array(Text),
+    /// The mutex of this id; the empty one is that of `thread::eval` without `-lock` (thread(n), thread::eval).
+    Mutex(Text),
+}
+
+/// A worker of a pool (tpool(n)).
+#[derive(Debug, Drop)]
+pub struct Worker {
+    /// The pool.
+    pub pool: Text,
+    /// The pool's script for workers that end.
+    pub exit: Text,
+}
+
+/// What a worker does next.
+#[derive(Debug, Drop)]
+pub enum Work {
+    /// It takes a job.
+    Takes(Boxed<Worker>),
+    /// It ends.
+    Over,
 }
 
 /// What is evaluated.
@@ -76,6 +116,10 @@ pub enum Job {
     Take(Until),
     /// An event that is served.
     Event(Event),
+    /// A script while something is held.
+    Held(Hold, Text),
+    /// What a worker does next.
+    Work(Work),
 }
 
 /// A command of a script, with its words on the way or with them all.
@@ -84,6 +128,25 @@ pub struct CommandFrame {
     pub program: Arc<Program>,
     pub at: usize,
     pub running: Running,
+}
+
+/// A job that a worker has begun.
+#[derive(Debug, Drop)]
+pub struct BegunJob {
+    pub worker: Boxed<Worker>,
+    /// Its number.
+    pub number: u64,
+    /// Whether nobody asks for what it comes to (tpool(n), tpool::post).
+    pub detached: bool,
+}
+
+/// What of a worker waits for the ending of a script.
+#[derive(Debug, Drop)]
+pub enum WorkerFrame {
+    /// The pool's script for new workers or the one for workers that end, and what is done after it.
+    Aside(Work),
+    /// The script of a job.
+    Runs(BegunJob),
 }
 
 /// What waits for the ending of a job.
@@ -123,6 +186,10 @@ pub enum Frame {
     Serves { n: u64, answer: bool, plain: bool },
     /// A global variable that an event set.
     Sets,
+    /// A script while something is held.
+    Held(Hold),
+    /// A script of a worker.
+    Works(WorkerFrame),
 }
 
 /// What follows the reply to a request.
@@ -146,6 +213,21 @@ pub enum Awaits {
     Move(Text),
     /// The wait for this condition is ended, and this mutex taken again.
     Retake(Text, Text),
+    /// This script is evaluated while this is held.
+    Held(Hold, Text),
+}
+
+/// What of a worker waits for an answer.
+#[derive(Debug, Drop)]
+pub enum WorkerAsking {
+    /// The job that was asked for.
+    Takes(Boxed<Worker>),
+    /// The telling of an error, the report of its trace, and what is done after it.
+    Told(Text, Work),
+    /// The telling of a job's error.
+    JobTold(BegunJob, Failure),
+    /// The handing in of what a job came to, and the trace that is reported then.
+    Done(Boxed<Worker>, Option<Text>),
 }
 
 /// What waits for an answer.
@@ -184,4 +266,6 @@ pub enum Asking {
     },
     /// What was handed over of an event.
     Handed,
+    /// What a worker waits for.
+    Works(WorkerAsking),
 }

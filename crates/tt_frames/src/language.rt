@@ -10,6 +10,7 @@ use crate::commands::{advance_command, begin_script, end_command, give_command, 
 use crate::control::{after_caught, after_clause, begin_own, store_caught};
 use crate::events::{after_seen, after_taken, ask_event, begin_round};
 use crate::expressions::{begin_expression, give_expression};
+use crate::held::{after_held, begin_held};
 use crate::job::{Asking, Frame, Job};
 use crate::loops::{
     after_body, after_next, after_start, after_test, begin_loop, begin_turn, go_on_assigning,
@@ -20,6 +21,7 @@ use crate::serving::{
 };
 use crate::starts::{begin_start, finish, report_error};
 use crate::state::State;
+use crate::workers::{after_worker, begin_work, take_got};
 use std::alloc::Global;
 use tt_endings::Ending;
 use tt_plans::{Language, Move};
@@ -63,7 +65,7 @@ impl Language for Tcl {
         state: &mut State,
     ) -> Result<Move<Job, Want, Ending, Frame, Asking>, NoMemory> {
         let next = match job {
-            Job::Start(start) => begin_start(alloc, start),
+            Job::Start(start) => begin_start(alloc, start)?,
             Job::Script(text) => begin_script(alloc, text, state)?,
             Job::Expression(purpose, text) => begin_expression(alloc, purpose, text, state)?,
             Job::Own(words) => begin_own(alloc, words, state)?,
@@ -74,6 +76,8 @@ impl Language for Tcl {
             Job::Serve(goal) => begin_round(alloc, goal, state)?,
             Job::Take(goal) => ask_event(alloc, goal)?,
             Job::Event(event) => begin_event(alloc, event, state),
+            Job::Held(hold, text) => begin_held(alloc, hold, text, state)?,
+            Job::Work(work) => begin_work(alloc, work)?,
         };
         Ok(next)
     }
@@ -110,7 +114,7 @@ impl Language for Tcl {
                 let ending = ending_of(alloc, got)?;
                 after_seen(alloc, ending, state)?
             }
-            Asking::Taken(goal) => after_taken(alloc, goal, got),
+            Asking::Taken(goal) => after_taken(alloc, goal, got)?,
             Asking::Sets(name, value) => set_global(alloc, name, value)?,
             Asking::Left(ending) => after_left(alloc, ending)?,
             Asking::Told {
@@ -120,6 +124,7 @@ impl Language for Tcl {
                 failure,
             } => { after_told(alloc, n, answer, plain, failure)? }
             Asking::Handed => after_handed(alloc, &got, state),
+            Asking::Works(asking) => take_got(alloc, asking, &got)?,
         };
         Ok(next)
     }
@@ -165,6 +170,8 @@ fn continued(
         Frame::Rounds(goal) => Ok(Next::Goto(Job::Serve(goal))),
         Frame::Serves { n, answer, plain } => after_script(alloc, n, answer, plain, ending),
         Frame::Sets => Ok(after_set(ending)),
+        Frame::Held(hold) => after_held(alloc, hold, ending, state),
+        Frame::Works(frame) => after_worker(alloc, frame, ending),
     }
 }
 

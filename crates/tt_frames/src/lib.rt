@@ -8,6 +8,7 @@ mod control;
 mod events;
 mod expression;
 mod expressions;
+mod held;
 mod job;
 mod kept;
 mod language;
@@ -20,8 +21,13 @@ mod stack;
 mod starts;
 mod state;
 mod storing;
+mod waiting;
+mod workers;
 
-pub use job::{Asking, Awaits, CommandFrame, Frame, Job, Loop, Purpose, Until};
+pub use job::{
+    Asking, Awaits, BegunJob, CommandFrame, Frame, Hold, Job, JobsWait, Loop, Purpose, Until, Work,
+    Worker, WorkerAsking, WorkerFrame,
+};
 pub use language::Tcl;
 pub use rest::Rest;
 pub use stack::{Stack, begin, turn};

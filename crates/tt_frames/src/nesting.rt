@@ -2,7 +2,8 @@
 ghost use Rattle.tt_frames.specs.declared.state.Counts.{Counts};
 ghost use Rattle.std.specs.Prelude.{◌≡◌, IfOk};
 ghost use Rattle.tt_frames.specs.Frames.{after, on_got};
-ghost use Rattle.tt_frames.specs.Nesting.{global, left, nested, of_body};
+ghost use Rattle.tt_endings.specs.Endings.{failed};
+ghost use Rattle.tt_frames.specs.Nesting.{global, left, nested, of_body, too_deep};
 ghost use Rattle.tt_plans.specs.Frames.{plan_of};
 
 use crate::job::{Asking, Frame, Job};
@@ -26,9 +27,17 @@ pub(crate) fn begin_nested(
         state.counts.nested += 1;
         Ok(Next::Call(None, Job::Script(text), Frame::Leaves(body)))
     } else {
-        let ending = Ending::failed_with(alloc, b"too many nested evaluations (infinite loop?)")?;
+        let ending = too_deep(alloc)?;
         Ok(Next::Ask(Want::Leave { body }, Asking::Ends(ending)))
     }
+}
+
+/// The error past the limit.
+pub(crate) fn too_deep(alloc: Global) -> Result<Ending, NoMemory>
+    ensures { IfOk result (λ ending. ending ≡ failed too_deep) }
+{
+    let ending = Ending::failed_with(alloc, b"too many nested evaluations (infinite loop?)")?;
+    Ok(ending)
 }
 
 /// A body has ended, and is left.

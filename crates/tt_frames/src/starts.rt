@@ -11,6 +11,7 @@ ghost use Rattle.tt_plans.specs.Frames.{plan_of};
 use crate::job::{Asking, Frame, Job};
 use crate::language::Next;
 use crate::storing::telling;
+use crate::workers::begin_worker;
 use std::alloc::Global;
 use tt_calls::{Boxed, Request, Start};
 use tt_endings::Ending;
@@ -18,12 +19,15 @@ use tt_text::{NoMemory, Text};
 use tt_wants::Want;
 
 /// A thread begins.
-pub(crate) fn begin_start(alloc: Global, start: Start) -> Next
-    ensures { (state : Counts) → starting start state ≡ plan_of after on_got result state }
+pub(crate) fn begin_start(alloc: Global, start: Start) -> Result<Next, NoMemory>
+    ensures { IfOk result (λ move. (state : Counts) → starting start state ≡ plan_of after on_got move state) }
 {
     match start {
-        Start::Script(text) => Next::Call(None, Job::Script(text), Frame::Reports),
-        Start::Worker { .. } => Next::Done(Ending::nothing(alloc)),
+        Start::Script(text) => Ok(Next::Call(None, Job::Script(text), Frame::Reports)),
+        Start::Worker { pool, init, exit } => {
+            let next = begin_worker(alloc, pool, init, exit)?;
+            Ok(next)
+        }
     }
 }
 

@@ -1,0 +1,37 @@
+-- Scripts that are evaluated while an array or a mutex is held (tsv(n), tsv::lock; thread(n), thread::eval).
+use Rattle.std.specs.Prelude.{ℕ, nat_lt, if◌then◌else◌, List, None}
+use Rattle.tt_calls.specs.declared.lock_call.Family.TheVariants.{Mutex}
+use Rattle.tt_calls.specs.declared.lock_call.LockCall.TheVariants.{Unlock}
+use Rattle.tt_calls.specs.declared.request.Request.{Request}
+use Rattle.tt_calls.specs.declared.request.Request.TheVariants as ask
+use Rattle.tt_calls.specs.declared.tsv_call.TsvCall.TheVariants.{Unhold}
+use Rattle.tt_endings.specs.Endings.{failed}
+use Rattle.tt_endings.specs.declared.ending.Ending.{Ending}
+use Rattle.tt_plans.specs.Plans.{Asks, Calls}
+use Rattle.tt_wants.specs.declared.want.Want.TheVariants.{Ask}
+use Rattle.tt_frames.specs.Nesting.{deeper, shallower, too_deep}
+use Rattle.tt_frames.specs.Vocabulary.{OnEnding, Then, passed}
+use Rattle.tt_frames.specs.declared.job.Hold.{Hold}
+use Rattle.tt_frames.specs.declared.job.Hold.TheVariants as hold
+use Rattle.tt_frames.specs.declared.job.Job.TheVariants as job
+use Rattle.tt_frames.specs.declared.state.TheConstants.{DEEPEST}
+
+-- what ends a hold
+abbrev pub release_of : Hold → Request
+release_of (hold.Array array) = ask.Tsv (Unhold array)
+release_of (hold.Mutex id) = ask.Lock (Unlock Mutex id)
+
+-- the hold is ended, and then that is the ending, whatever the reply is
+abbrev pub letting_go : Hold → Ending → Then
+letting_go hold ending state = Asks (Ask (release_of hold)) state (λ got. passed ending)
+
+-- the script ended so
+abbrev pub let_go : Hold → OnEnding
+let_go hold ending state = letting_go hold ending (shallower state)
+
+-- a script in a nested evaluation while something is held; past the limit the hold is ended at once
+abbrev pub held : Hold → (text : List ℕ) → Then
+held hold text state =
+    if nat_lt state.nested DEEPEST
+    then Calls None (job.Script text) (deeper state) (let_go hold)
+    else letting_go hold (failed too_deep) state

@@ -1,0 +1,19 @@
+-- The wait for jobs of a pool (tpool(n), tpool::wait).
+use Rattle.std.specs.Prelude.{ℕ, List, Option}
+use Rattle.tt_calls.specs.declared.pool_call.PoolCall.TheVariants.{Look}
+use Rattle.tt_calls.specs.declared.reply.Reply.{Reply}
+use Rattle.tt_calls.specs.declared.reply.Reply.TheVariants.{Lists}
+use Rattle.tt_calls.specs.declared.request.Request.{Request}
+use Rattle.tt_calls.specs.declared.request.Request.TheVariants as ask
+use Rattle.tt_frames.specs.Asking.{answering}
+use Rattle.tt_frames.specs.Vocabulary.{Then, stored}
+use Rattle.tt_frames.specs.declared.job.JobsWait.{JobsWait}
+
+-- what asks for the jobs that are done, or for an event
+abbrev pub look_of : JobsWait → Request
+look_of wait = ask.Pool (Look wait.pool wait.jobs)
+
+-- the jobs that are done are the answer, and the variable gets those that are pending
+abbrev pub known : JobsWait → Reply → Then
+known wait (Lists done pending) = stored wait.variable pending done
+known wait reply = answering reply
