@@ -4,16 +4,25 @@ use Rattle.tt_script.specs.Names.{plain_name}
 use Rattle.tt_commands.specs.Channels.{channel_among, channel_commands, channel_row}
 use Rattle.tt_commands.specs.declared.call.Call.{Call}
 use Rattle.tt_commands.specs.declared.call.Call.TheVariants.{Other}
+use Rattle.tt_commands.specs.Locks.{lock_among, lock_commands, lock_row}
 use Rattle.tt_commands.specs.Rows.{meaning_by}
 use Rattle.tt_commands.specs.Shared.{shared_among, shared_commands, shared_meaning}
 use Rattle.tt_commands.specs.Threads.{thread_among, thread_commands, thread_row}
 
+-- locks (thread(n), thread::mutex, thread::rwmutex, thread::cond, thread::eval), or another name
+abbrev pub lock_call : (me : ℕ) → (name : List ℕ) → (words : List (List ℕ)) → Call
+lock_call me name words =
+    elim (lock_among lock_commands name) [
+      | Some command ↦ meaning_by (lock_row command) me words
+      | None ↦ Other
+    ]
+
 -- shared variables (tsv(n)), or another name
-abbrev pub shared_call : (name : List ℕ) → (words : List (List ℕ)) → Call
-shared_call name words =
+abbrev pub shared_call : (me : ℕ) → (name : List ℕ) → (words : List (List ℕ)) → Call
+shared_call me name words =
     elim (shared_among shared_commands name) [
       | Some command ↦ shared_meaning command name words
-      | None ↦ Other
+      | None ↦ lock_call me name words
     ]
 
 -- channels (puts(n), gets(n), eof(n), close(n), chan(n), thread(n)), or another name
@@ -21,7 +30,7 @@ abbrev pub channel_call : (me : ℕ) → (name : List ℕ) → (words : List (Li
 channel_call me name words =
     elim (channel_among channel_commands name) [
       | Some command ↦ meaning_by (channel_row command) me words
-      | None ↦ shared_call name words
+      | None ↦ shared_call me name words
     ]
 
 -- threads (thread(n), vwait(n), update(n), exit(n)), or another name

@@ -2,6 +2,7 @@ pub mod Calls
 pub mod Channels
 pub mod Configuring
 pub mod Flags
+pub mod Locks
 pub mod Rows
 pub mod Sending
 pub mod Shared

@@ -6,6 +6,7 @@ mod answers;
 mod call;
 mod channels;
 mod flags;
+mod locks;
 mod reading;
 mod row;
 mod shared;

@@ -1,7 +1,7 @@
 ghost use Rattle.std.specs.Prelude.{◌≡◌, IfOk};
-ghost use Rattle.tt_commands.specs.Calls.{call_of, channel_call, shared_call, thread_call};
+ghost use Rattle.tt_commands.specs.Calls.{call_of, channel_call, lock_call, shared_call, thread_call};
 
-use crate::{Call, channels, shared, threads};
+use crate::{Call, channels, locks, shared, threads};
 use std::alloc::Global;
 use tt_script::plain_name;
 use tt_text::{NoMemory, Text};
@@ -33,15 +33,24 @@ fn channel_call(alloc: Global, name: &[u8], words: &[Text], me: u32) -> Result<C
 {
     match channels::command_of(name) {
         Some(command) => channels::call(alloc, command, words, me),
-        None => shared_call(alloc, name, words),
+        None => shared_call(alloc, name, words, me),
     }
 }
 
-fn shared_call(alloc: Global, name: &[u8], words: &[Text]) -> Result<Call, NoMemory>
-    ensures { IfOk result (λ call. call ≡ shared_call name.now words.now) }
+fn shared_call(alloc: Global, name: &[u8], words: &[Text], me: u32) -> Result<Call, NoMemory>
+    ensures { IfOk result (λ call. call ≡ shared_call me name.now words.now) }
 {
     match shared::command_of(name) {
         Some(command) => shared::call(alloc, command, name, words),
+        None => lock_call(alloc, name, words, me),
+    }
+}
+
+fn lock_call(alloc: Global, name: &[u8], words: &[Text], me: u32) -> Result<Call, NoMemory>
+    ensures { IfOk result (λ call. call ≡ lock_call me name.now words.now) }
+{
+    match locks::command_of(name) {
+        Some(command) => locks::call(alloc, command, words, me),
         None => Ok(Call::Other),
     }
 }

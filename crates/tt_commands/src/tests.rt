@@ -1,11 +1,13 @@
+mod lock_rows;
 mod rows;
 
 use crate::{Call, Goal, Here, Then, read_call};
+use lock_rows::{LOCKS, WRONG_LOCKS};
 use rows::{CHANNELS, CONFIGURE, SENDS, SHARED, THREADS, WRONG};
 use std::alloc::Global;
 use std::process::Abort;
 use std::test::Fail;
-use tt_calls::{ChanCall, Mode, Request, TsvCall};
+use tt_calls::{ChanCall, Family, Kind, LockCall, Mode, Request, TsvCall};
 use tt_lists::{Split, join_list, split};
 use tt_number::whole_text;
 use tt_text::{NoMemory, Text};
@@ -72,12 +74,59 @@ fn put_tsv(alloc: Global, line: &mut Text, call: &TsvCall) -> Result<(), NoMemor
     }
 }
 
+fn kind_name(kind: Kind) -> &'static [u8] {
+    match kind {
+        Kind::Exclusive => b"exclusive",
+        Kind::Recursive => b"recursive",
+        Kind::ReadWrite => b"readwrite",
+        Kind::Condition => b"condition",
+    }
+}
+
+fn family_name(family: Family) -> &'static [u8] {
+    match family {
+        Family::Mutex => b"mutex",
+        Family::ReadWrite => b"readwrite",
+        Family::Condition => b"condition",
+    }
+}
+
+fn put_lock(line: &mut Text, call: &LockCall) -> Result<(), NoMemory> {
+    match call {
+        LockCall::Create { kind: made } => {
+            put(line, &[b"lockcreate".as_slice(), kind_name(*made)])
+        }
+        LockCall::Destroy { family: of, id } => {
+            put(
+                line,
+                &[b"destroy".as_slice(), family_name(*of), id.as_bytes()],
+            )
+        }
+        LockCall::Lock { id } => put(line, &[b"lock".as_slice(), id.as_bytes()]),
+        LockCall::ReadLock { id } => put(line, &[b"readlock".as_slice(), id.as_bytes()]),
+        LockCall::WriteLock { id } => put(line, &[b"writelock".as_slice(), id.as_bytes()]),
+        LockCall::Unlock { family: of, id } => {
+            put(
+                line,
+                &[b"unlock".as_slice(), family_name(*of), id.as_bytes()],
+            )
+        }
+        LockCall::Notify { id } => put(line, &[b"notify".as_slice(), id.as_bytes()]),
+        LockCall::CondWait { cond, mutex } => put(
+            line,
+            &[b"condwait".as_slice(), cond.as_bytes(), mutex.as_bytes()],
+        ),
+        LockCall::CondTake { .. } => put(line, &[b"?".as_slice()]),
+    }
+}
+
 fn put_code(alloc: Global, line: &mut Text, request: &Request) -> Result<(), NoMemory> {
     match request {
         Request::End { code } => put_number(alloc, line, b"end", *code),
         Request::Exit { code } => put_number(alloc, line, b"exit", *code),
         Request::Chan(call) => put_chan(line, call.get()),
         Request::Tsv(call) => put_tsv(alloc, line, call.get()),
+        Request::Lock(call) => put_lock(line, call.get()),
         Request::Configure { id, words } => {
             let words = join_list(alloc, words.as_slice())?;
             put(
@@ -163,9 +212,9 @@ fn put_then(alloc: Global, line: &mut Text, then: &Then) -> Result<(), NoMemory>
         Then::AwaitEnd(None) => put(line, &[b"end".as_slice()]),
         Then::AwaitEnd(Some(thread)) => put_number(alloc, line, b"end", i64::from(*thread)),
         Then::AwaitMove => put(line, &[b"move".as_slice()]),
+        Then::Retake => put(line, &[b"retake".as_slice()]),
         Then::Held(script) => put(line, &[b"held".as_slice(), script.as_bytes()]),
         Then::Serve(goal) => put_goal(line, goal),
-        _ => put(line, &[b"?".as_slice()]),
     }
 }
 
@@ -227,6 +276,16 @@ fn channels_are_asked(rt: HostRuntime) -> Result<(), Fail> {
 #[test]
 fn shared_variables_are_asked(rt: HostRuntime) -> Result<(), Fail> {
     expect_rows(&rt, rt.alloc(), &SHARED)
+}
+
+#[test]
+fn locks_are_asked(rt: HostRuntime) -> Result<(), Fail> {
+    expect_rows(&rt, rt.alloc(), &LOCKS)
+}
+
+#[test]
+fn wrong_words_of_locks_ask_nothing(rt: HostRuntime) -> Result<(), Fail> {
+    expect_rows(&rt, rt.alloc(), &WRONG_LOCKS)
 }
 
 #[test]
