@@ -1,7 +1,11 @@
+pub mod Apart
 pub mod ArraysAlone
+pub mod ChannelCalls
 pub mod Channels
+pub mod Drawn
 pub mod Families
 pub mod HeldAlone
 pub mod HeldStays
 pub mod NotOwned
+pub mod Owners
 pub mod Tables

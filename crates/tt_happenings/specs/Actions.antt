@@ -1,9 +1,10 @@
 -- What threads do to what they share, one action after the other (thread(n)).
-use Rattle.std.specs.Prelude.{ℕ, IsTrue, List, [], ◌∷◌}
+use Rattle.std.specs.Prelude.{◌<◌, ◌^◌, ℕ, IsTrue, List, [], ◌∷◌}
 use Rattle.tt_calls.specs.declared.request.Request.{Request}
+use Rattle.tt_calls.specs.declared.start.Start.{Start}
 use Rattle.tt_shared.specs.Acts.{act}
 use Rattle.tt_shared.specs.Enabled.{enabled}
-use Rattle.tt_shared.specs.State.{Acted, State}
+use Rattle.tt_shared.specs.State.{Acted, State, start_state}
 use Rattle.tt_shared.specs.declared.applied.Line.{Line}
 use Rattle.tt_threads.specs.Rows.{is_living}
 
@@ -43,3 +44,15 @@ abbrev pub moments : State → List Action → List Moment
 moments state [] = []
 moments state (action ∷ actions) =
     (record { before = state; action = action }) ∷ moments (after state action) actions
+
+-- ---- whole runs ----
+
+-- a state to which actions lead from the start, when main alone is there
+pub record Reached (state : State) : Type 0 where
+  pub main : Start
+  pub actions : List Action
+  pub acts : Acts (start_state main) actions state
+
+-- The numbers of the channels fit in 64 bits: each new pipe draws two, and the program makes none past that.
+abbrev pub NumbersFit : State → Type 0
+NumbersFit state = state.channels.next < 2 ^ 64

@@ -7,10 +7,10 @@ use Rattle.tt_calls.specs.declared.request.Request.{Request}
 use Rattle.tt_calls.specs.declared.request.Request.TheVariants as ask
 use Rattle.tt_chans.specs.Answers.{id_of}
 use Rattle.tt_chans.specs.Channels.{is_standard}
-use Rattle.tt_happenings.specs.Actions.{Action, Acts, moments}
+use Rattle.tt_happenings.specs.Actions.{Action, Acts, NumbersFit, Reached, moments}
 use Rattle.tt_happenings.specs.ArrayCalls.{array_calls, array_replies, array_steps, arrays_after}
 use Rattle.tt_happenings.specs.HeldArrays.{EndsHold, HoldsArray, IsOn, array_named}
-use Rattle.tt_happenings.specs.Owners.{OwnsChannel, asks_owner, no_channel}
+use Rattle.tt_happenings.specs.Owners.{GivesUp, OwnsChannel, asks_owner, no_channel}
 use Rattle.tt_shared.specs.Acts.{act}
 use Rattle.tt_shared.specs.Enabled.{enabled}
 use Rattle.tt_shared.specs.State.{State, refuses}
@@ -64,3 +64,14 @@ NotOwnedLaw =
     IsFalse (is_standard (id_of call)) →
     ¬ (OwnsChannel state t (id_of call)) →
     IsNotFound state t call line
+
+-- a thread owns a channel until it gives it up, whatever others do
+abbrev pub StaysOwnLaw : Type 0
+StaysOwnLaw =
+    (old new : State) (actions : List Action) (t : ℕ) (text : List ℕ) →
+    Reached old →
+    Acts old actions new →
+    NumbersFit new →
+    OwnsChannel old t text →
+    All (λ moment. ¬ (GivesUp t text moment.action)) (moments old actions) →
+    OwnsChannel new t text

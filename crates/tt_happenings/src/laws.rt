@@ -1,5 +1,5 @@
 //! Laws about the definitions, each proved as the contract of a function that does nothing.
-ghost use Rattle.tt_happenings.specs.Laws.{ArraysAloneLaw, HeldAloneLaw, NotOwnedLaw, OthersWaitLaw};
+ghost use Rattle.tt_happenings.specs.Laws.{ArraysAloneLaw, HeldAloneLaw, NotOwnedLaw, OthersWaitLaw, StaysOwnLaw};
 
 /// What threads do to arrays is what their calls on shared variables alone come to.
 pub fn arrays_stand_alone()
@@ -19,4 +19,9 @@ pub fn held_arrays_are_alone()
 /// What a thread asks of a channel that it does not own is refused.
 pub fn channels_answer_their_owner()
     ensures { NotOwnedLaw }
+{}
+
+/// A thread owns a channel until it gives it up.
+pub fn owners_stay()
+    ensures { StaysOwnLaw }
 {}
