@@ -2,7 +2,9 @@
 use Rattle.std.proofs.Common.{◌≡◌, ◌≤◌, ℕ, ◌-◌, true, List, [], ◌∷◌, length, get_or, take, drop, Option, Some, rules, arith}
 use Rattle.std.proofs.lemmas.Grind.{common_steps}
 use Rattle.tt_commands.specs.Locks.{held, is_lock}
+use Rattle.tt_commands.specs.Pools.{last_value, newer}
 use Rattle.tt_commands.specs.declared.call.Call.{Call}
+use Rattle.tt_commands.specs.declared.pools.making.Setting.{Setting}
 
 pub lock_read :
     (id : Option (List ℕ)) (wrong : Call) (option value : List ℕ) (words : List (List ℕ)) →
@@ -14,3 +16,14 @@ pub lock_read :
 lock_read id wrong option value [] long first second known = search rules
 lock_read id wrong option value (a ∷ []) long first second known = search (rules, long)
 lock_read id wrong option value (a ∷ b ∷ later) long first second known = grind (arith, common_steps)
+
+pub setting_read :
+    (setting : Setting) (value option next last : List ℕ) (words : List (List ℕ)) →
+    2 ≤ length words →
+    option ≡ get_or words 0 option →
+    next ≡ get_or words 1 next →
+    last ≡ newer setting value option next →
+    last_value setting value words ≡ last_value setting last (take (length words - 2) (drop 2 words))
+setting_read setting value option next last [] long first second chosen = search rules
+setting_read setting value option next last (a ∷ []) long first second chosen = search (rules, long)
+setting_read setting value option next last (a ∷ b ∷ later) long first second chosen = grind (arith, common_steps)

@@ -5,16 +5,25 @@ use Rattle.tt_commands.specs.Channels.{channel_among, channel_commands, channel_
 use Rattle.tt_commands.specs.declared.call.Call.{Call}
 use Rattle.tt_commands.specs.declared.call.Call.TheVariants.{Other}
 use Rattle.tt_commands.specs.Locks.{lock_among, lock_commands, lock_row}
+use Rattle.tt_commands.specs.Pools.{pool_among, pool_commands, pool_row}
 use Rattle.tt_commands.specs.Rows.{meaning_by}
 use Rattle.tt_commands.specs.Shared.{shared_among, shared_commands, shared_meaning}
 use Rattle.tt_commands.specs.Threads.{thread_among, thread_commands, thread_row}
+
+-- pools of workers (tpool(n)), or another name
+abbrev pub pool_call : (me : ℕ) → (name : List ℕ) → (words : List (List ℕ)) → Call
+pool_call me name words =
+    elim (pool_among pool_commands name) [
+      | Some command ↦ meaning_by (pool_row command) me words
+      | None ↦ Other
+    ]
 
 -- locks (thread(n), thread::mutex, thread::rwmutex, thread::cond, thread::eval), or another name
 abbrev pub lock_call : (me : ℕ) → (name : List ℕ) → (words : List (List ℕ)) → Call
 lock_call me name words =
     elim (lock_among lock_commands name) [
       | Some command ↦ meaning_by (lock_row command) me words
-      | None ↦ Other
+      | None ↦ pool_call me name words
     ]
 
 -- shared variables (tsv(n)), or another name

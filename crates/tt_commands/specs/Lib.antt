@@ -3,6 +3,7 @@ pub mod Channels
 pub mod Configuring
 pub mod Flags
 pub mod Locks
+pub mod Pools
 pub mod Rows
 pub mod Sending
 pub mod Shared

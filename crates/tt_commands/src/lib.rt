@@ -7,6 +7,7 @@ mod call;
 mod channels;
 mod flags;
 mod locks;
+mod pools;
 mod reading;
 mod row;
 mod shared;

@@ -1,7 +1,7 @@
 ghost use Rattle.std.specs.Prelude.{◌≡◌, IfOk};
-ghost use Rattle.tt_commands.specs.Calls.{call_of, channel_call, lock_call, shared_call, thread_call};
+ghost use Rattle.tt_commands.specs.Calls.{call_of, channel_call, lock_call, pool_call, shared_call, thread_call};
 
-use crate::{Call, channels, locks, shared, threads};
+use crate::{Call, channels, locks, pools, shared, threads};
 use std::alloc::Global;
 use tt_script::plain_name;
 use tt_text::{NoMemory, Text};
@@ -51,6 +51,15 @@ fn lock_call(alloc: Global, name: &[u8], words: &[Text], me: u32) -> Result<Call
 {
     match locks::command_of(name) {
         Some(command) => locks::call(alloc, command, words, me),
+        None => pool_call(alloc, name, words, me),
+    }
+}
+
+fn pool_call(alloc: Global, name: &[u8], words: &[Text], me: u32) -> Result<Call, NoMemory>
+    ensures { IfOk result (λ call. call ≡ pool_call me name.now words.now) }
+{
+    match pools::command_of(name) {
+        Some(command) => pools::call(alloc, command, words, me),
         None => Ok(Call::Other),
     }
 }

@@ -1,13 +1,15 @@
 mod lock_rows;
+mod pool_rows;
 mod rows;
 
 use crate::{Call, Goal, Here, Then, read_call};
 use lock_rows::{LOCKS, WRONG_LOCKS};
+use pool_rows::{POOLS, WRONG_POOLS};
 use rows::{CHANNELS, CONFIGURE, SENDS, SHARED, THREADS, WRONG};
 use std::alloc::Global;
 use std::process::Abort;
 use std::test::Fail;
-use tt_calls::{ChanCall, Family, Kind, LockCall, Mode, Request, TsvCall};
+use tt_calls::{ChanCall, Family, Kind, LockCall, Mode, PoolCall, Request, TsvCall};
 use tt_lists::{Split, join_list, split};
 use tt_number::whole_text;
 use tt_text::{NoMemory, Text};
@@ -120,6 +122,74 @@ fn put_lock(line: &mut Text, call: &LockCall) -> Result<(), NoMemory> {
     }
 }
 
+fn put_pool_create(
+    alloc: Global,
+    line: &mut Text,
+    least: u32,
+    most: u32,
+    scripts: [&Text; 2],
+) -> Result<(), NoMemory> {
+    put_number(alloc, line, b"poolcreate", i64::from(least))?;
+    let most = whole_text(alloc, i64::from(most))?;
+    put(
+        line,
+        &[
+            most.as_bytes(),
+            scripts[0].as_bytes(),
+            scripts[1].as_bytes(),
+        ],
+    )
+}
+
+fn put_jobs(
+    alloc: Global,
+    line: &mut Text,
+    name: &[u8],
+    pool: &Text,
+    jobs: &[Text],
+) -> Result<(), NoMemory> {
+    let jobs = join_list(alloc, jobs)?;
+    put(line, &[name, pool.as_bytes(), jobs.as_bytes()])
+}
+
+fn put_pool(alloc: Global, line: &mut Text, call: &PoolCall) -> Result<(), NoMemory> {
+    match call {
+        PoolCall::Create {
+            least,
+            most,
+            init,
+            exit,
+        } => put_pool_create(alloc, line, *least, *most, [init, exit]),
+        PoolCall::Names => put(line, &[b"poolnames".as_slice()]),
+        PoolCall::Post {
+            pool,
+            script,
+            detached,
+        } => {
+            put(
+                line,
+                &[b"post".as_slice(), pool.as_bytes(), script.as_bytes()],
+            )?;
+            put_flag(line, *detached)
+        }
+        PoolCall::Look { pool, jobs } => put_jobs(alloc, line, b"look", pool, jobs.as_slice()),
+        PoolCall::Cancel { pool, jobs } => put_jobs(alloc, line, b"cancel", pool, jobs.as_slice()),
+        PoolCall::Get { pool, job } => {
+            put(
+                line,
+                &[b"jobget".as_slice(), pool.as_bytes(), job.as_bytes()],
+            )
+        }
+        PoolCall::Preserve { pool } => put(line, &[b"poolpreserve".as_slice(), pool.as_bytes()]),
+        PoolCall::Release { pool } => put(line, &[b"poolrelease".as_slice(), pool.as_bytes()]),
+        PoolCall::Suspend { pool, on } => {
+            put(line, &[b"suspend".as_slice(), pool.as_bytes()])?;
+            put_flag(line, *on)
+        }
+        PoolCall::JobTake { .. } | PoolCall::JobDone { .. } => put(line, &[b"?".as_slice()]),
+    }
+}
+
 fn put_code(alloc: Global, line: &mut Text, request: &Request) -> Result<(), NoMemory> {
     match request {
         Request::End { code } => put_number(alloc, line, b"end", *code),
@@ -127,6 +197,7 @@ fn put_code(alloc: Global, line: &mut Text, request: &Request) -> Result<(), NoM
         Request::Chan(call) => put_chan(line, call.get()),
         Request::Tsv(call) => put_tsv(alloc, line, call.get()),
         Request::Lock(call) => put_lock(line, call.get()),
+        Request::Pool(call) => put_pool(alloc, line, call.get()),
         Request::Configure { id, words } => {
             let words = join_list(alloc, words.as_slice())?;
             put(
@@ -200,7 +271,7 @@ fn put_goal(line: &mut Text, goal: &Goal) -> Result<(), NoMemory> {
         Goal::Written(name) => put(line, &[b"written".as_slice(), name.as_bytes()]),
         Goal::Idle => put(line, &[b"idle".as_slice()]),
         Goal::Stopped => put(line, &[b"stopped".as_slice()]),
-        Goal::Pool { .. } => put(line, &[b"?".as_slice()]),
+        Goal::Pool { store: kept } => put(line, &[b"pool".as_slice(), option(kept)]),
     }
 }
 
@@ -286,6 +357,16 @@ fn locks_are_asked(rt: HostRuntime) -> Result<(), Fail> {
 #[test]
 fn wrong_words_of_locks_ask_nothing(rt: HostRuntime) -> Result<(), Fail> {
     expect_rows(&rt, rt.alloc(), &WRONG_LOCKS)
+}
+
+#[test]
+fn pools_are_asked(rt: HostRuntime) -> Result<(), Fail> {
+    expect_rows(&rt, rt.alloc(), &POOLS)
+}
+
+#[test]
+fn wrong_words_of_pools_ask_nothing(rt: HostRuntime) -> Result<(), Fail> {
+    expect_rows(&rt, rt.alloc(), &WRONG_POOLS)
 }
 
 #[test]
