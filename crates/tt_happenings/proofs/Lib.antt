@@ -4,8 +4,12 @@ pub mod ChannelCalls
 pub mod Channels
 pub mod Drawn
 pub mod Families
+pub mod GotHolds
 pub mod HeldAlone
+pub mod HeldLocks
 pub mod HeldStays
+pub mod LockCalls
+pub mod LockHolds
 pub mod NotOwned
 pub mod Owners
 pub mod Tables

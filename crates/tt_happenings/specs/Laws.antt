@@ -1,16 +1,19 @@
 -- What holds of every list of actions of threads.
-use Rattle.std.specs.Prelude.{◌≡◌, ◌≢◌, ℕ, IsTrue, IsFalse, List, Some, map}
-use Rattle.std.specs.List.{All}
+use Rattle.std.specs.Prelude.{◌≡◌, ◌≢◌, ℕ, Bool, true, IsTrue, IsFalse, List, Some, map}
+use Rattle.std.specs.List.{All, Contains}
 use Rattle.tt_calls.specs.declared.chan_call.ChanCall.{ChanCall}
 use Rattle.tt_calls.specs.declared.reply.Step.TheVariants as step
 use Rattle.tt_calls.specs.declared.request.Request.{Request}
 use Rattle.tt_calls.specs.declared.request.Request.TheVariants as ask
 use Rattle.tt_chans.specs.Answers.{id_of}
 use Rattle.tt_chans.specs.Channels.{is_standard}
-use Rattle.tt_happenings.specs.Actions.{Action, Acts, NumbersFit, Reached, moments}
+use Rattle.tt_happenings.specs.Actions.{Action, Acts, NumbersFit, Reached, after, moments}
 use Rattle.tt_happenings.specs.ArrayCalls.{array_calls, array_replies, array_steps, arrays_after}
+use Rattle.tt_happenings.specs.Happenings.{Happening as happening, happenings}
 use Rattle.tt_happenings.specs.HeldArrays.{EndsHold, HoldsArray, IsOn, array_named}
+use Rattle.tt_happenings.specs.HeldLocks.{Holds, HoldsAlone, hold_of}
 use Rattle.tt_happenings.specs.Owners.{GivesUp, OwnsChannel, asks_owner, no_channel}
+use Rattle.tt_locks.specs.Laws.{HaveOneHolder}
 use Rattle.tt_shared.specs.Acts.{act}
 use Rattle.tt_shared.specs.Enabled.{enabled}
 use Rattle.tt_shared.specs.State.{State, refuses}
@@ -49,6 +52,37 @@ HeldAloneLaw =
     HoldsArray old t name →
     All (λ moment. ¬ (EndsHold t name moment)) (moments old actions) →
     IsHeldAlone old actions new t name
+
+-- ---- locks ----
+
+-- A mutex that is held, or a lock that is written, has one holder: who else holds it is the same thread. So while a
+-- thread reads, no other writes.
+pub record LocksHaveOneHolder (state : State) : Type 0 where
+  pub have : HaveOneHolder state.locks
+  pub one : (t other : ℕ) (text : List ℕ) → HoldsAlone state t text → Holds state other text → other ≡ t
+
+abbrev pub OneHolderLaw : Type 0
+OneHolderLaw = (state : State) → Reached state → LocksHaveOneHolder state
+
+-- While a thread holds a lock, it holds it as it did: who reads it reads, and nobody writes. And of a lock that it holds
+-- alone, no other thread gets a hold.
+pub record HoldStays (old : State) (actions : List Action) (new : State) (t : ℕ) (text : List ℕ) (alone : Bool) :
+    Type 0 where
+  pub stays : hold_of new t text ≡ Some alone
+  pub none :
+      alone ≡ true →
+      (other : ℕ) →
+      Contains (happenings old actions) (happening.Holds text other) →
+      other ≡ t
+
+abbrev pub HoldStaysLaw : Type 0
+HoldStaysLaw =
+    (old new : State) (actions : List Action) (t : ℕ) (text : List ℕ) (alone : Bool) →
+    Reached old →
+    Acts old actions new →
+    hold_of old t text ≡ Some alone →
+    All (λ moment. Holds (after moment.before moment.action) t text) (moments old actions) →
+    HoldStays old actions new t text alone
 
 -- ---- channels ----
 

@@ -1,5 +1,7 @@
 pub mod Actions
 pub mod ArrayCalls
+pub mod Happenings
 pub mod HeldArrays
+pub mod HeldLocks
 pub mod Laws
 pub mod Owners

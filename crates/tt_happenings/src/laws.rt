@@ -1,5 +1,5 @@
 //! Laws about the definitions, each proved as the contract of a function that does nothing.
-ghost use Rattle.tt_happenings.specs.Laws.{ArraysAloneLaw, HeldAloneLaw, NotOwnedLaw, OthersWaitLaw, StaysOwnLaw};
+ghost use Rattle.tt_happenings.specs.Laws.{ArraysAloneLaw, HeldAloneLaw, HoldStaysLaw, NotOwnedLaw, OneHolderLaw, OthersWaitLaw, StaysOwnLaw};
 
 /// What threads do to arrays is what their calls on shared variables alone come to.
 pub fn arrays_stand_alone()
@@ -14,6 +14,16 @@ pub fn others_wait_for_held_arrays()
 /// What is done on a held array is done by its holder, until the end of its last hold.
 pub fn held_arrays_are_alone()
     ensures { HeldAloneLaw }
+{}
+
+/// A mutex that is held, or a lock that is written, has one holder.
+pub fn locks_have_one_holder()
+    ensures { OneHolderLaw }
+{}
+
+/// While a thread holds a lock it holds it as it did, and of one that it holds alone nobody else gets a hold.
+pub fn holds_stay()
+    ensures { HoldStaysLaw }
 {}
 
 /// What a thread asks of a channel that it does not own is refused.
