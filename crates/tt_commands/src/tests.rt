@@ -76,42 +76,41 @@ fn put_tsv(alloc: Global, line: &mut Text, call: &TsvCall) -> Result<(), NoMemor
     }
 }
 
-fn kind_name(kind: Kind) -> &'static [u8] {
+fn put_kind(line: &mut Text, kind: Kind) -> Result<(), NoMemory> {
     match kind {
-        Kind::Exclusive => b"exclusive",
-        Kind::Recursive => b"recursive",
-        Kind::ReadWrite => b"readwrite",
-        Kind::Condition => b"condition",
+        Kind::Exclusive => line.push_bytes(b"exclusive|"),
+        Kind::Recursive => line.push_bytes(b"recursive|"),
+        Kind::ReadWrite => line.push_bytes(b"readwrite|"),
+        Kind::Condition => line.push_bytes(b"condition|"),
     }
 }
 
-fn family_name(family: Family) -> &'static [u8] {
+fn put_family(line: &mut Text, family: Family) -> Result<(), NoMemory> {
     match family {
-        Family::Mutex => b"mutex",
-        Family::ReadWrite => b"readwrite",
-        Family::Condition => b"condition",
+        Family::Mutex => line.push_bytes(b"mutex|"),
+        Family::ReadWrite => line.push_bytes(b"readwrite|"),
+        Family::Condition => line.push_bytes(b"condition|"),
     }
 }
 
 fn put_lock(line: &mut Text, call: &LockCall) -> Result<(), NoMemory> {
     match call {
         LockCall::Create { kind: made } => {
-            put(line, &[b"lockcreate".as_slice(), kind_name(*made)])
+            line.push_bytes(b"lockcreate|")?;
+            put_kind(line, *made)
         }
         LockCall::Destroy { family: of, id } => {
-            put(
-                line,
-                &[b"destroy".as_slice(), family_name(*of), id.as_bytes()],
-            )
+            line.push_bytes(b"destroy|")?;
+            put_family(line, *of)?;
+            put(line, &[id.as_bytes()])
         }
         LockCall::Lock { id } => put(line, &[b"lock".as_slice(), id.as_bytes()]),
         LockCall::ReadLock { id } => put(line, &[b"readlock".as_slice(), id.as_bytes()]),
         LockCall::WriteLock { id } => put(line, &[b"writelock".as_slice(), id.as_bytes()]),
         LockCall::Unlock { family: of, id } => {
-            put(
-                line,
-                &[b"unlock".as_slice(), family_name(*of), id.as_bytes()],
-            )
+            line.push_bytes(b"unlock|")?;
+            put_family(line, *of)?;
+            put(line, &[id.as_bytes()])
         }
         LockCall::Notify { id } => put(line, &[b"notify".as_slice(), id.as_bytes()]),
         LockCall::CondWait { cond, mutex } => put(
