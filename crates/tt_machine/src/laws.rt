@@ -1,6 +1,6 @@
 //! What holds of the machine.
 ghost use Rattle.tt_machine.specs.Laws.{BarredLaw, OneMoreLaw, OneRunLaw, OneStepLaw};
-ghost use Rattle.tt_machine.specs.RunActions.{RunActionsLaw};
+ghost use Rattle.tt_machine.specs.RunActions.{FewChannelsLaw, OrderlyStepLaw, RunActionsLaw};
 
 /// A step of a thread leads to one machine.
 pub fn one_step()
@@ -25,4 +25,14 @@ pub fn one_more()
 /// A run is a list of actions on what the threads share.
 pub fn runs_are_actions()
     ensures { RunActionsLaw }
+{}
+
+/// Each step of a run keeps to the laws of arrays, locks, channels and pipes.
+pub fn steps_are_orderly()
+    ensures { OrderlyStepLaw }
+{}
+
+/// A step draws two numbers of channels at most.
+pub fn channels_are_few()
+    ensures { FewChannelsLaw }
 {}
