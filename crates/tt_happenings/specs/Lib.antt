@@ -5,3 +5,4 @@ pub mod HeldArrays
 pub mod HeldLocks
 pub mod Laws
 pub mod Owners
+pub mod Pipes
