@@ -12,6 +12,7 @@ pub mod HeldStays
 pub mod LockCalls
 pub mod LockHolds
 pub mod NotOwned
+pub mod Orderly
 pub mod Owners
 pub mod PipeCalls
 pub mod Pipes

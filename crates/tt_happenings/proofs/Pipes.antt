@@ -20,7 +20,7 @@ use Rattle.tt_shared.specs.declared.applied.Line.{Line}
 
 -- ---- one action ----
 
-abbrev FlowsBy : State → List ℕ → ℕ → Request → Line → Type 0
+abbrev pub FlowsBy : State → List ℕ → ℕ → Request → Line → Type 0
 FlowsBy state id t request line =
     let done = act state t request line in
     Flow state.channels.next id (bytes_at state.channels id) (bytes_at done.state.channels id) (put_by id state request done.gives.reply) (taken_by id state request done.gives.reply)
@@ -28,7 +28,7 @@ FlowsBy state id t request line =
 same_call : (one other : ChanCall) → ask.Chan one ≡ ask.Chan other → one ≡ other
 same_call one other is = cc is
 
-flow_after : (state : State) (id : List ℕ) (t : ℕ) (request : Request) (line : Line) → IsDrawn state.channels → (act state t request line).state.channels.next < 2 ^ 64 → FlowsBy state id t request line
+pub flow_after : (state : State) (id : List ℕ) (t : ℕ) (request : Request) (line : Line) → IsDrawn state.channels → (act state t request line).state.channels.next < 2 ^ 64 → FlowsBy state id t request line
 flow_after state id t (ask.Chan (chan.Put text bytes)) line drawn small = put_after state.channels id text bytes t (target_of state (chan.Put text bytes))
 flow_after state id t (ask.Chan (chan.GetLine text)) line drawn small = get_after state.channels id text t (target_of state (chan.GetLine text))
 flow_after state id t (ask.Chan call) line drawn small =

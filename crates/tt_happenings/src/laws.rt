@@ -1,4 +1,5 @@
 //! Laws about the definitions, each proved as the contract of a function that does nothing.
+ghost use Rattle.tt_happenings.specs.Orderly.{OrderlyLaw};
 ghost use Rattle.tt_happenings.specs.Laws.{ArraysAloneLaw, HeldAloneLaw, HoldStaysLaw, NotOwnedLaw, OneHolderLaw, OthersWaitLaw, PipeLaw, StaysOwnLaw};
 
 /// What threads do to arrays is what their calls on shared variables alone come to.
@@ -39,4 +40,9 @@ pub fn owners_stay()
 /// What is taken from a pipe is the front of what is put into it.
 pub fn pipes_keep_their_bytes()
     ensures { PipeLaw }
+{}
+
+/// Each action of a run is orderly.
+pub fn runs_are_orderly()
+    ensures { OrderlyLaw }
 {}
