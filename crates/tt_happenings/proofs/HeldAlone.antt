@@ -77,14 +77,14 @@ by_call state t other name call own deep = go (other == t) refl
         let kept = closed_to_others state.arrays name other call (by_other t other (array_of state.arrays name) (differs other t is) own) in
         subst (λ found. is_own t found ≡ true) (sym kept) own
 
-held_after : (state : State) (t other : ℕ) (name : List ℕ) (request : Request) (line : Line) → HoldsArray state t name
+pub held_after : (state : State) (t other : ℕ) (name : List ℕ) (request : Request) (line : Line) → HoldsArray state t name
     → ¬ (EndsHold t name (record { before = state; action = record { thread = other; request = request; line = line } }))
     → HoldsArray (act state other request line).state t name
 held_after state t other name (ask.Tsv call) line own goes = by_call state t other name call own (λ me. deep t name _ goes me call refl)
 held_after state t other name request line own goes =
     subst (λ table. is_own t (array_of table name) ≡ true) (sym (arrays_kept state other request line refl)) own
 
-by_holder : (state : State) (action : Action) (t : ℕ) (name : List ℕ) → CanHappen state action → HoldsArray state t name → IsOn action name → action.thread ≡ t
+pub by_holder : (state : State) (action : Action) (t : ℕ) (name : List ℕ) → CanHappen state action → HoldsArray state t name → IsOn action name → action.thread ≡ t
 by_holder state action t name can own on = go (action.thread == t) refl
   where
     go : (b : Bool) → (action.thread == t) ≡ b → action.thread ≡ t

@@ -1,7 +1,7 @@
 -- A lock that is held alone has one holder, and a hold stays as it was.
 use Rattle.std.proofs.Common.{◌≡◌, ◌∙◌, ℕ, Bool, true, false, if◌then◌else◌, List, [], ◌∷◌, Option, Some, None, IsSome, is_some, ap, refl, sym, subst}
 use Rattle.std.proofs.lemmas.List.Elements.{All-append, All-contains, All-head, All-nil, All-tail, All-weaker}
-use Rattle.std.specs.List.{All, flat_map}
+use Rattle.std.specs.List.{All, Contains, flat_map}
 use Rattle.tt_calls.specs.declared.request.Request.{Request}
 use Rattle.tt_calls.specs.declared.request.Request.TheVariants as ask
 use Rattle.tt_happenings.proofs.Families.{locks_kept}
@@ -93,6 +93,12 @@ got_mine state action t text alone have holds =
     (λ what held is other same.
     one_in table text t other (lock_of table text) refl have (holds ∙ ap Some is) (subst (IsHeld table) same held))
     (happened (record { before = state; action = action })) (got_held (record { before = state; action = action }))
+
+pub got_one : (state : State) (action : Action) (t other : ℕ) (text : List ℕ) → HaveOneHolder (after state action).locks → hold_of (after state action) t text ≡ Some true
+    → Contains (happened (record { before = state; action = action })) (happening.Holds text other) → other ≡ t
+unfolding Mine
+got_one state action t other text have holds got =
+    All-contains (Mine true t text) (happened (record { before = state; action = action })) (happening.Holds text other) (got_mine state action t text true have holds) got refl other refl
 
 record Kept (old : State) (actions : List Action) (new : State) (t : ℕ) (text : List ℕ) (alone : Bool) : Type 0 where
   stays : hold_of new t text ≡ Some alone

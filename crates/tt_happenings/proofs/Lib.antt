@@ -4,6 +4,7 @@ pub mod ChannelCalls
 pub mod Channels
 pub mod Drawn
 pub mod Families
+pub mod Flows
 pub mod GotHolds
 pub mod HeldAlone
 pub mod HeldLocks
@@ -11,5 +12,8 @@ pub mod HeldStays
 pub mod LockCalls
 pub mod LockHolds
 pub mod NotOwned
+pub mod Orderly
 pub mod Owners
+pub mod PipeCalls
+pub mod Pipes
 pub mod Tables

@@ -116,7 +116,7 @@ module _ (state : State) (t u : ℕ) (text : List ℕ) (drawn : IsDrawn state.ch
           either true stays = ap (λ owner. Some (owner_after u owner)) (the_owner t is)
           either false stays = absurd (cc stays)
 
-  stays_after : (request : Request) (line : Line) → Keeps request → Owns (act state u request line).state.channels
+  pub stays_after : (request : Request) (line : Line) → Keeps request → Owns (act state u request line).state.channels
   stays_after request line keeps =
       by_action Owns state u (λ small. own) (λ id. by_come id (channel_of table id) refl) request line
       (λ call asks.

@@ -1,10 +1,11 @@
 -- What holds of every list of actions of threads.
-use Rattle.std.specs.Prelude.{◌≡◌, ◌≢◌, ℕ, Bool, true, IsTrue, IsFalse, List, Some, map}
+use Rattle.std.specs.Prelude.{◌≡◌, ◌≢◌, ℕ, Bool, true, IsTrue, IsFalse, List, ◌++◌, Some, IfSome, map}
 use Rattle.std.specs.List.{All, Contains}
 use Rattle.tt_calls.specs.declared.chan_call.ChanCall.{ChanCall}
 use Rattle.tt_calls.specs.declared.reply.Step.TheVariants as step
 use Rattle.tt_calls.specs.declared.request.Request.{Request}
 use Rattle.tt_calls.specs.declared.request.Request.TheVariants as ask
+use Rattle.tt_calls.specs.declared.start.Start.{Start}
 use Rattle.tt_chans.specs.Answers.{id_of}
 use Rattle.tt_chans.specs.Channels.{is_standard}
 use Rattle.tt_happenings.specs.Actions.{Action, Acts, NumbersFit, Reached, after, moments}
@@ -13,10 +14,11 @@ use Rattle.tt_happenings.specs.Happenings.{Happening as happening, happenings}
 use Rattle.tt_happenings.specs.HeldArrays.{EndsHold, HoldsArray, IsOn, array_named}
 use Rattle.tt_happenings.specs.HeldLocks.{Holds, HoldsAlone, hold_of}
 use Rattle.tt_happenings.specs.Owners.{GivesUp, OwnsChannel, asks_owner, no_channel}
+use Rattle.tt_happenings.specs.Pipes.{bytes_at, put, taken}
 use Rattle.tt_locks.specs.Laws.{HaveOneHolder}
 use Rattle.tt_shared.specs.Acts.{act}
 use Rattle.tt_shared.specs.Enabled.{enabled}
-use Rattle.tt_shared.specs.State.{State, refuses}
+use Rattle.tt_shared.specs.State.{State, refuses, start_state}
 use Rattle.tt_shared.specs.declared.applied.Line.{Line}
 
 -- ---- shared variables ----
@@ -109,3 +111,19 @@ StaysOwnLaw =
     OwnsChannel old t text →
     All (λ moment. ¬ (GivesUp t text moment.action)) (moments old actions) →
     OwnsChannel new t text
+
+-- ---- pipes ----
+
+-- What was taken from a pipe, newlines included, is the front of what was put into it; the rest is what its read end
+-- has, while that is open.
+pub record IsPiped (main : Start) (actions : List Action) (state : State) (id : List ℕ) : Type 0 where
+  pub rest : List ℕ
+  pub front : put id (start_state main) actions ≡ taken id (start_state main) actions ++ rest
+  pub left : IfSome (bytes_at state.channels id) (λ bytes. bytes ≡ rest)
+
+abbrev pub PipeLaw : Type 0
+PipeLaw =
+    (main : Start) (actions : List Action) (state : State) (id : List ℕ) →
+    Acts (start_state main) actions state →
+    NumbersFit state →
+    IsPiped main actions state id

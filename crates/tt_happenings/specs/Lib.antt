@@ -4,4 +4,6 @@ pub mod Happenings
 pub mod HeldArrays
 pub mod HeldLocks
 pub mod Laws
+pub mod Orderly
 pub mod Owners
+pub mod Pipes

@@ -1,5 +1,6 @@
 //! Laws about the definitions, each proved as the contract of a function that does nothing.
-ghost use Rattle.tt_happenings.specs.Laws.{ArraysAloneLaw, HeldAloneLaw, HoldStaysLaw, NotOwnedLaw, OneHolderLaw, OthersWaitLaw, StaysOwnLaw};
+ghost use Rattle.tt_happenings.specs.Orderly.{OrderlyLaw};
+ghost use Rattle.tt_happenings.specs.Laws.{ArraysAloneLaw, HeldAloneLaw, HoldStaysLaw, NotOwnedLaw, OneHolderLaw, OthersWaitLaw, PipeLaw, StaysOwnLaw};
 
 /// What threads do to arrays is what their calls on shared variables alone come to.
 pub fn arrays_stand_alone()
@@ -34,4 +35,14 @@ pub fn channels_answer_their_owner()
 /// A thread owns a channel until it gives it up.
 pub fn owners_stay()
     ensures { StaysOwnLaw }
+{}
+
+/// What is taken from a pipe is the front of what is put into it.
+pub fn pipes_keep_their_bytes()
+    ensures { PipeLaw }
+{}
+
+/// Each action of a run is orderly.
+pub fn runs_are_orderly()
+    ensures { OrderlyLaw }
 {}
