@@ -1,5 +1,5 @@
 -- Ids of channels are drawn upwards: each that is there has a number that was drawn, and none is there twice.
-use Rattle.std.proofs.Common.{◌≡◌, ◌≢◌, ◌+◌, ◌≤◌, ◌<◌, ◌^◌, ℕ, Bool, true, false, if◌then◌else◌, List, [], ◌∷◌, Option, Some, None, IfSome, refl, sym, subst, arith}
+use Rattle.std.proofs.Common.{◌≡◌, ◌≢◌, ◌+◌, ◌*◌, ◌≤◌, ◌<◌, ◌^◌, ℕ, Bool, true, false, if◌then◌else◌, List, [], ◌∷◌, length, Option, Some, None, IfSome, refl, sym, subst, arith}
 use Rattle.std.specs.Map.{remove_entry}
 use Rattle.tt_calls.specs.declared.request.Request.{Request}
 use Rattle.tt_chans.specs.Channels.{ChannelTable, channel_of, given, inserted, no_channels, owner_given, read_end, read_id, table_after_end, with_channel, with_pipe, without_channel, write_end, write_id}
@@ -119,18 +119,20 @@ pipe_drawn table t drawn small =
 
 -- ---- an action ----
 
--- the numbers go upwards, and stay drawn while they fit
+-- the numbers go upwards, by two at most, and stay drawn while they fit
 pub record GoesUp (old new : ChannelTable) : Type 0 where
   pub up : old.next ≤ new.next
+  pub few : new.next ≤ old.next + 2
   pub drawn : new.next < 2 ^ 64 → IsDrawn old → IsDrawn new
 
 stays : (table : ChannelTable) → GoesUp table table
-stays table = record { up = omega arith; drawn = λ small drawn. drawn }
+stays table = record { up = omega arith; few = omega arith; drawn = λ small drawn. drawn }
 
 comes : (table : ChannelTable) (t : ℕ) (text : List ℕ) (found : Option Channel) → channel_of table text ≡ found → GoesUp table (given table t text found)
 comes table t text None is = stays table
 comes table t text (Some channel) is = record {
   up = omega arith;
+  few = omega arith;
   drawn = λ small drawn. by_channel table drawn text channel (with_owner channel (owner_given t channel.owner)) is;
 }
 
@@ -139,20 +141,26 @@ up_after state t request line =
     let table = state.channels in
     by_action (GoesUp table) state t (stays table) (λ text. comes table t text (channel_of table text) refl) request line
     (λ call asks. by_call (GoesUp table) table t (target_of state call) (stays table) call
-    (λ text old new there changes. record { up = omega arith; drawn = λ small drawn. by_channel table drawn text old new there })
-    (λ text old is found. record { up = omega arith; drawn = λ small drawn. by_close table drawn text })
-    (λ is. record { up = omega arith; drawn = λ small drawn. pipe_drawn table t drawn small }))
-    (λ code asks. record { up = omega arith; drawn = λ small drawn. by_end table drawn t })
+    (λ text old new there changes. record { up = omega arith; few = omega arith; drawn = λ small drawn. by_channel table drawn text old new there })
+    (λ text old is found. record { up = omega arith; few = omega arith; drawn = λ small drawn. by_close table drawn text })
+    (λ is. record { up = omega arith; few = omega arith; drawn = λ small drawn. pipe_drawn table t drawn small }))
+    (λ code asks. record { up = omega arith; few = omega arith; drawn = λ small drawn. by_end table drawn t })
 
 -- ---- a list of actions ----
 
-pub up_along : (old new : State) (actions : List Action) → Acts old actions new → GoesUp old.channels new.channels
-up_along old new [] none = stays old.channels
+pub record GoUp (old new : ChannelTable) (count : ℕ) : Type 0 where
+  pub up : old.next ≤ new.next
+  pub few : new.next ≤ old.next + 2 * count
+  pub drawn : new.next < 2 ^ 64 → IsDrawn old → IsDrawn new
+
+pub up_along : (old new : State) (actions : List Action) → Acts old actions new → GoUp old.channels new.channels (length actions)
+up_along old new [] none = record { up = omega arith; few = omega arith; drawn = λ small drawn. drawn }
 up_along old new (action ∷ actions) (more can rest) =
     let first = up_after old action.thread action.request action.line in
     let others = up_along (after old action) new actions rest in
     record {
       up = omega (arith, first.up, others.up);
+      few = omega (arith, first.few, others.few);
       drawn = λ small drawn. others.drawn small (first.drawn (omega (arith, small, others.up)) drawn);
     }
 

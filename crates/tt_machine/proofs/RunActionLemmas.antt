@@ -2,7 +2,7 @@
 use Rattle.std.proofs.Common.{◌≡◌, ◌∙◌, ◌≤◌, ◌+◌, ◌*◌, ℕ, List, [], ◌∷◌, ap, arith, length, map, refl, subst, sym}
 use Rattle.std.proofs.lemmas.List.{length-map}
 use Rattle.tt_calls.specs.declared.start.Start.TheVariants as start
-use Rattle.tt_happenings.proofs.Drawn.{few_along}
+use Rattle.tt_happenings.proofs.Drawn.{up_along}
 use Rattle.tt_happenings.proofs.Orderly.{orderly}
 use Rattle.tt_happenings.specs.Actions.{Action, Acts, NumbersFit, Reached, after, none as nothing, more as then}
 use Rattle.tt_interp.specs.declared.setup.Setup.{Setup}
@@ -52,6 +52,6 @@ steps_orderly setup input machine next schedule number ran step fits =
 pub few_channels : FewChannelsLaw
 few_channels setup input machine schedule ran =
     let has = run_actions (start_machine setup input) machine schedule ran in
-    let few = few_along (start_machine setup input).shared machine.shared has.actions has.acts in
+    let few = (up_along (start_machine setup input).shared machine.shared has.actions has.acts).few in
     let many : length has.actions ≡ length schedule = sym (length-map has.actions (λ (action : Action). action.thread)) ∙ ap length has.threads in
     omega (arith, few, many)
