@@ -1,5 +1,5 @@
 -- Where a system stands after a step.
-use Rattle.std.proofs.Common.{◌≡◌, ◌≢◌, ◌∙◌, ◌-◌, ◌==◌, ◌&&◌, ℕ, zero, suc, Bool, true, false, IsTrue, IsFalse, List, [], ◌∷◌, ◌++◌, Option, Some, None, IfSome, IfErr, OnOk, Result, is_err, Ok, Err, ◌⊎◌, inl, inr, is_none, ap, append-nil, append_assoc, refl, sym, subst}
+use Rattle.std.proofs.Common.{◌≡◌, ◌≢◌, ◌∙◌, ◌+◌, ◌*◌, ◌<◌, ◌≤◌, ◌-◌, ◌==◌, ◌&&◌, arith, length, ℕ, zero, suc, Bool, true, false, IsTrue, IsFalse, List, [], ◌∷◌, ◌++◌, Option, Some, None, IfSome, IfErr, OnOk, Result, is_err, Ok, Err, ◌⊎◌, inl, inr, is_none, ap, append-nil, append_assoc, refl, sym, subst}
 use Rattle.std.specs.Option.{option_map}
 use Rattle.tt_calls.specs.declared.reply.Reply.{Reply}
 use Rattle.tt_calls.specs.declared.request.Request.{Request}
@@ -14,8 +14,12 @@ use Rattle.tt_devices.specs.Streams.{Grows, GrowsByPart}
 use Rattle.tt_interp.specs.Interps.{Interpreter, request_of, serving_of}
 use Rattle.tt_interp.specs.declared.setup.Setup.{Setup}
 use Rattle.tt_lines.specs.Lines.{IsLine, ReadsKnown, reads_line}
-use Rattle.std.proofs.lemmas.List.{append_cancel_left}
+use Rattle.std.proofs.lemmas.List.{append_cancel_left, length-append}
+use Rattle.tt_happenings.proofs.Drawn.{few_fit}
+use Rattle.tt_machine.proofs.RunActionLemmas.{few_channels, steps_orderly}
 use Rattle.tt_machine.proofs.Steps.{not_barred, one_more}
+use Rattle.tt_machine.specs.RunActions.{StepsOrderly}
+use Rattle.tt_schedule.specs.ScheduleText.{most_steps}
 use Rattle.tt_machine.specs.Machine.{Asks, CanStep, IsBarred, IsStuck, Machine, Reads, Runs, Steps, Thread, after_act, joined, none, replied, start_machine, thread_of, over, silent, waits}
 use Rattle.tt_shared.specs.Acts.{act}
 use Rattle.tt_shared.specs.Enabled.{enabled}
@@ -696,3 +700,24 @@ module _ {S K E : Type 0} (held : S → Option (List ℕ)) (got_out : K → Opti
       let machine = standing.0 in
       let its = going desk.kept desk.shared (unread held desk.devices) places machine kept standing.1.at in
       (machine, standing.1.ran, λ is. busy-goes desk places machine its busy is))
+
+  -- ---- what a step keeps to ----
+
+  pub keeps-to : (setup : Setup) (began : Began S K E) (old new : Ground S K E) (number : ℕ) (request : Request) (acted : Acted) (places : Places)
+      → Some request ≡ asked_by places number → IsTrue (can_act old number request)
+      → ((line : Line) × Happens held got_out got_err Grows old number request line new × IsAnswer acted (act old.shared number request line).gives)
+      → length old.schedule < most_steps
+      → Stood setup began old places
+      → OfMachine held (record { setup = setup; began = began; desk = old }) (StepsOrderly number)
+  keeps-to setup began old new number request acted places is can did room stood =
+      let one = asked-in (interp_of places number) request is in
+      told-map (held began.input) _ _ stood (λ input standing.
+      let machine = standing.0 in
+      let has = able old number request can in
+      let its = going old.kept old.shared (unread held old.devices) places machine has.nothing_met standing.1.at in
+      let went = goes held old new number request did.0 machine places one.0 its one.1 one.2 has did.1.read did.1.shared in
+      let longer = old.schedule ++ number ∷ [] in
+      let few = few_channels setup input went.next longer (one_more (start_machine setup input) machine went.next old.schedule number standing.1.ran went.steps) in
+      let count : length longer ≡ length old.schedule + 1 = length-append old.schedule (number ∷ []) in
+      let fits = few_fit went.next.shared.channels.next (length longer) few (omega (arith, count, room)) in
+      (machine, standing.1.ran, steps_orderly setup input machine went.next old.schedule number standing.1.ran went.steps fits))

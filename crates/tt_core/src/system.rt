@@ -3,6 +3,7 @@ ghost use Rattle.tt_calls.specs.declared.start.Start.TheVariants as start;
 ghost use Rattle.tt_core.specs.Crew.{AllBegin, AreBusy, AreIdle, Begins, IsFirstReady, IsReadyAfter, IsReplied, Places, interp_of, is_ready};
 ghost use Rattle.tt_devices.specs.Faults.{Rises};
 ghost use Rattle.tt_machine.specs.Machine.{CanStep, IsBarred, IsStuck};
+ghost use Rattle.tt_machine.specs.RunActions.{StepsOrderly};
 ghost use Rattle.tt_schedule.specs.ScheduleText.{most_steps};
 
 use crate::began::Began;
@@ -102,6 +103,7 @@ impl<S: Source, K: Sink, E: Sink> System<S, K, E> {
         ensures stepped { OnOk result (self.new.desk.schedule ≡ self.old.desk.schedule ++ thread ∷ []) }
         ensures could { OnOk result (OfMachine S.held self.old (λ machine. CanStep machine thread)) }
         ensures goes_on { OnOk result (self.new.desk.kept ≡ None) }
+        ensures orderly { OnOk result (OfMachine S.held self.old (StepsOrderly thread)) }
         ensures not_enabled { IsErrOf result StepFault.NotEnabled →
             (self.old.desk.kept ≡ None) × OfMachine S.held self.old (λ machine. IsBarred machine thread) }
         ensures unchanged { IsErrOf result StepFault.NotEnabled → self.new ≡ self.old }

@@ -167,3 +167,7 @@ up_along old new (action ∷ actions) (more can rest) =
 -- what a run reaches is drawn
 pub reached_drawn : (state : State) → Reached state → NumbersFit state → IsDrawn state.channels
 reached_drawn state reached small = (up_along (start_state reached.main) state reached.actions reached.acts).drawn small none_drawn
+
+-- so few of them fit
+pub few_fit : (next count : ℕ) → next ≤ 1 + 2 * count → count ≤ 16777216 → next < 2 ^ 64
+few_fit next count few small = omega (arith, few, small)
