@@ -1,5 +1,6 @@
 pub mod Apart
 pub mod ArraysAlone
+pub mod Arrivals
 pub mod ChannelCalls
 pub mod Channels
 pub mod Drawn
@@ -9,9 +10,16 @@ pub mod GotHolds
 pub mod HeldAlone
 pub mod HeldLocks
 pub mod HeldStays
+pub mod Kept
+pub mod KeptActions
+pub mod KeptComes
+pub mod KeptEnds
+pub mod Lives
 pub mod LockCalls
 pub mod LockHolds
+pub mod Mild
 pub mod NotOwned
+pub mod Numbered
 pub mod Orderly
 pub mod Owners
 pub mod PipeCalls

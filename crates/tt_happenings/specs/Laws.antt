@@ -13,6 +13,7 @@ use Rattle.tt_happenings.specs.ArrayCalls.{array_calls, array_replies, array_ste
 use Rattle.tt_happenings.specs.Happenings.{Happening as happening, happenings}
 use Rattle.tt_happenings.specs.HeldArrays.{EndsHold, HoldsArray, IsOn, array_named}
 use Rattle.tt_happenings.specs.HeldLocks.{Holds, HoldsAlone, hold_of}
+use Rattle.tt_happenings.specs.KeptChannels.{AreKept}
 use Rattle.tt_happenings.specs.Owners.{GivesUp, OwnsChannel, asks_owner, no_channel}
 use Rattle.tt_happenings.specs.Pipes.{bytes_at, put, taken}
 use Rattle.tt_locks.specs.Laws.{HaveOneHolder}
@@ -111,6 +112,10 @@ StaysOwnLaw =
     OwnsChannel old t text →
     All (λ moment. ¬ (GivesUp t text moment.action)) (moments old actions) →
     OwnsChannel new t text
+
+-- a channel that is not closed is owned by a thread that lives, or nobody's, or it is on its way to one that lives
+abbrev pub ChannelsAreKeptLaw : Type 0
+ChannelsAreKeptLaw = (state : State) → Reached state → NumbersFit state → AreKept state
 
 -- ---- pipes ----
 

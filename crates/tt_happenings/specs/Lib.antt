@@ -3,6 +3,7 @@ pub mod ArrayCalls
 pub mod Happenings
 pub mod HeldArrays
 pub mod HeldLocks
+pub mod KeptChannels
 pub mod Laws
 pub mod Orderly
 pub mod Owners

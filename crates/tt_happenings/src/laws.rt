@@ -1,6 +1,6 @@
 //! Laws about the definitions, each proved as the contract of a function that does nothing.
 ghost use Rattle.tt_happenings.specs.Orderly.{OrderlyLaw};
-ghost use Rattle.tt_happenings.specs.Laws.{ArraysAloneLaw, HeldAloneLaw, HoldStaysLaw, NotOwnedLaw, OneHolderLaw, OthersWaitLaw, PipeLaw, StaysOwnLaw};
+ghost use Rattle.tt_happenings.specs.Laws.{ArraysAloneLaw, ChannelsAreKeptLaw, HeldAloneLaw, HoldStaysLaw, NotOwnedLaw, OneHolderLaw, OthersWaitLaw, PipeLaw, StaysOwnLaw};
 
 /// What threads do to arrays is what their calls on shared variables alone come to.
 pub fn arrays_stand_alone()
@@ -35,6 +35,11 @@ pub fn channels_answer_their_owner()
 /// A thread owns a channel until it gives it up.
 pub fn owners_stay()
     ensures { StaysOwnLaw }
+{}
+
+/// A channel that is not closed has an owner that lives, or none, or is on its way to one.
+pub fn channels_are_kept()
+    ensures { ChannelsAreKeptLaw }
 {}
 
 /// What is taken from a pipe is the front of what is put into it.
