@@ -1,9 +1,10 @@
 -- How many events bring a channel, after the queues were changed.
-use Rattle.std.proofs.Common.{◌≡◌, ◌≢◌, ◌∙◌, ◌-◌, ◌+◌, ◌==◌, ℕ, Bool, true, false, cond, List, [], ◌∷◌, ◌++◌, count_by, length, Option, Some, None, if◌then◌else◌, ap, refl, sym, rules, arith, tests}
+use Rattle.std.proofs.Common.{◌≡◌, ◌≢◌, ◌∙◌, ◌-◌, ◌+◌, ◌==◌, ℕ, Bool, true, false, cond, List, [], ◌∷◌, ◌++◌, count_by, length, Option, Some, None, if◌then◌else◌, ap, refl, sym, arith}
 use Rattle.std.proofs.lemmas.Bool.Decides.{nat_tests}
 use Rattle.std.proofs.lemmas.List.Sums.{sum_by-cons, sum_by_push}
 use Rattle.tt_calls.specs.declared.event.Event.{Event}
 use Rattle.tt_calls.specs.declared.event.Event.TheVariants as event
+use Rattle.tt_happenings.proofs.Deciding as deciding
 use Rattle.tt_happenings.proofs.Numbered.{by_more, by_number, length-put, put_here}
 use Rattle.tt_happenings.specs.KeptChannels.{arrivals, brings, events_in}
 use Rattle.tt_shared.specs.Mail.{Queues, emptied, emptied_in, placed, queue_of, queued, queued_in, with_queue}
@@ -25,9 +26,6 @@ count-placed text false event events = sum_by_push (weight text) events event
 abbrev pub SameArrivals : Queues → Queues → Type 0
 SameArrivals old new = (u : ℕ) (text : List ℕ) → arrivals new u text ≡ arrivals old u text
 
-apart : (u t : ℕ) → (u == t) ≡ false → u ≡ t → ⊥
-apart u t is same = grind (arith, nat_tests, is, same)
-
 -- another queue, for one thread
 pub by_queue : (queues : Queues) (t u : ℕ) (text : List ℕ) (old new : List Event) (expected : ℕ) → queue_of queues t ≡ Some old
     → (u ≡ t → count text new ≡ expected) → (u ≢ t → arrivals queues u text ≡ expected) → arrivals (with_queue queues t new) u text ≡ expected
@@ -35,10 +33,10 @@ by_queue queues t u text old new expected there here other = go (u == t) refl
   where
     go : (b : Bool) → (u == t) ≡ b → arrivals (with_queue queues t new) u text ≡ expected
     go true is =
-        let same : u ≡ t = search (rules, is, tests) in
+        let same : u ≡ t = deciding.same u t is in
         ap (λ one. arrivals (with_queue queues t new) one text) same ∙ ap (λ found. count text (events_in found)) (put_here queues t new old there) ∙ here same
     go false is =
-        let differs : u ≢ t = λ same. apart u t is same in
+        let differs : u ≢ t = deciding.differs u t is in
         by_number (λ found. count text (events_in found) ≡ expected) queues t u new old there (λ same. absurd (differs same)) (other differs)
 
 -- ---- quiet changes ----
@@ -83,12 +81,8 @@ by_sending queues t u events channel text there =
     count-placed text false (event.Moved channel) events ∙ ap (λ n. n + weight text (event.Moved channel)) (sym had)
     ∙ ap (λ b. arrivals queues u text + (if b then weight text (event.Moved channel) else 0)) (sym at))
     (λ differs.
-    let at : (u == t) ≡ false = go (u == t) refl differs in
+    let at : (u == t) ≡ false = deciding.apart u t differs in
     sym (ap (λ b. arrivals queues u text + (if b then weight text (event.Moved channel) else 0)) at ∙ omega arith))
-  where
-    go : (b : Bool) → (u == t) ≡ b → u ≢ t → (u == t) ≡ false
-    go true is differs = let same : u ≡ t = search (rules, is, tests) in absurd (differs same)
-    go false is differs = is
 
 -- ---- an event that is taken, and a queue that is emptied ----
 
@@ -98,14 +92,14 @@ by_taking queues t u event events text there = go (u == t) refl
   where
     go : (b : Bool) → (u == t) ≡ b → arrivals (with_queue queues t events) u text + (if b then weight text event else 0) ≡ arrivals queues u text
     go true is =
-        let same : u ≡ t = search (rules, is, tests) in
+        let same : u ≡ t = deciding.same u t is in
         let had : arrivals queues u text ≡ count text (event ∷ events) = ap (λ one. arrivals queues one text) same ∙ ap (λ found. count text (events_in found)) there in
         let has : arrivals (with_queue queues t events) u text ≡ count text events =
         by_queue queues t u text (event ∷ events) events (count text events) there (λ one. refl) (λ differs. absurd (differs same)) in
         omega (arith, had, has, count-cons text event events)
     go false is =
         let has : arrivals (with_queue queues t events) u text ≡ arrivals queues u text =
-        by_queue queues t u text (event ∷ events) events (arrivals queues u text) there (λ one. absurd (apart u t is one)) (λ differs. refl) in
+        by_queue queues t u text (event ∷ events) events (arrivals queues u text) there (λ one. absurd (deciding.differs u t is one)) (λ differs. refl) in
         omega (arith, has)
 
 pub by_emptying : (queues : Queues) (t u : ℕ) (text : List ℕ) → arrivals (emptied queues t) u text ≡ (if u == t then 0 else arrivals queues u text)
@@ -113,13 +107,13 @@ by_emptying queues t u text = go (queue_of queues t) refl
   where
     at : (found : Option (List Event)) → queue_of queues t ≡ found → (b : Bool) → (u == t) ≡ b → arrivals (emptied_in queues t found) u text ≡ (if b then 0 else arrivals queues u text)
     at None there true is =
-        let same : u ≡ t = search (rules, is, tests) in
+        let same : u ≡ t = deciding.same u t is in
         ap (λ one. arrivals queues one text) same ∙ ap (λ found. count text (events_in found)) there
     at None there false is = refl
     at (Some events) there true is =
-        by_queue queues t u text events [] 0 there (λ same. refl) (λ differs. let same : u ≡ t = search (rules, is, tests) in absurd (differs same))
+        by_queue queues t u text events [] 0 there (λ same. refl) (λ differs. let same : u ≡ t = deciding.same u t is in absurd (differs same))
     at (Some events) there false is =
-        by_queue queues t u text events [] (arrivals queues u text) there (λ same. absurd (apart u t is same)) (λ differs. refl)
+        by_queue queues t u text events [] (arrivals queues u text) there (λ same. absurd (deciding.differs u t is same)) (λ differs. refl)
 
     go : (found : Option (List Event)) → queue_of queues t ≡ found → arrivals (emptied_in queues t found) u text ≡ (if u == t then 0 else arrivals queues u text)
     go found there = at found there (u == t) refl

@@ -1,7 +1,5 @@
 -- Channels that are not closed are kept: owned by who lives, or on their way to who lives.
-use Rattle.std.proofs.Common.{◌≡◌, ◌≢◌, ◌∙◌, ◌+◌, ◌<◌, ◌^◌, ◌==◌, ℕ, Bool, true, false, cond, if◌then◌else◌, List, bytes_eq, Option, Some, None, IfSome, ap, refl, sym, subst, arith}
-use Rattle.std.proofs.lemmas.Bool.Decides.{nat_tests}
-use Rattle.std.proofs.lemmas.Slice.Eq.{bytes_eq-Decides}
+use Rattle.std.proofs.Common.{◌≡◌, ◌≢◌, ◌∙◌, ◌+◌, ◌<◌, ◌^◌, ◌==◌, ℕ, Bool, true, false, cond, if◌then◌else◌, List, Option, Some, None, IfSome, ap, refl, sym, subst, arith}
 use Rattle.std.specs.Bool.{⊤}
 use Rattle.tt_calls.specs.declared.chan_call.ChanCall.{ChanCall}
 use Rattle.tt_calls.specs.declared.chan_call.ChanCall.TheVariants as chan
@@ -13,6 +11,7 @@ use Rattle.tt_chans.specs.Ends.{with_owner}
 use Rattle.tt_chans.specs.declared.channel.Channel.{Channel}
 use Rattle.tt_chans.specs.declared.channel.Owner.{Owner}
 use Rattle.tt_chans.specs.declared.channel.Owner.TheVariants.{Thread, Detached, Moving}
+use Rattle.tt_happenings.proofs.Deciding as deciding
 use Rattle.tt_happenings.proofs.Apart.{other_key, remove_here}
 use Rattle.tt_happenings.proofs.Arrivals.{by_sending, weight}
 use Rattle.tt_happenings.proofs.ChannelCalls.{Changes, attached, by_call, detached, moved, speaks}
@@ -156,9 +155,6 @@ module _ (queues : Queues) (rows : List Row) (table : ChannelTable) (t : ℕ) (l
 
 -- ---- a channel that is sent ----
 
-pub sym_test : (a b : ℕ) → (a == b) ≡ (b == a)
-sym_test a b = grind (arith, nat_tests)
-
 pub by_sent : (queues : Queues) (rows : List Row) (table : ChannelTable) (t to : ℕ) (events : List Event) (id : List ℕ) (channel : Channel) → AllHold queues rows table
     → channel_of table id ≡ Some channel → channel.owner ≡ Thread t → is_living rows t ≡ true → is_living rows to ≡ true → t ≢ to → queue_of queues to ≡ Some events
     → AllHold (queued queues to false (event.Moved id)) rows (with_channel table id (with_owner channel (Moving (Some t) to)))
@@ -177,22 +173,18 @@ by_sent queues rows table t to events id channel all there mine lives target dif
 
     one : (u : ℕ) → arrivals sent u id ≡ (if to == u then 1 else 0)
     one u =
-        let itself : weight id (event.Moved id) ≡ 1 = ap (λ b. cond b 1 0) ((bytes_eq-Decides id id).1 refl) in
+        let itself : weight id (event.Moved id) ≡ 1 = ap (λ b. cond b 1 0) (deciding.text_itself id) in
         by_sending queues to u events id id place
         ∙ ap (λ n. n + (if u == to then weight id (event.Moved id) else 0)) (none u)
         ∙ ap (λ n. 0 + (if u == to then n else 0)) itself
-        ∙ ap (λ b. 0 + (if b then 1 else 0)) (sym_test u to)
+        ∙ ap (λ b. 0 + (if b then 1 else 0)) (deciding.flipped u to)
         ∙ omega arith
 
     others : (text : List ℕ) → text ≢ id → (u : ℕ) → arrivals sent u text ≡ arrivals queues u text
     others text other u =
-        let not_it : weight text (event.Moved id) ≡ 0 = ap (λ b. cond b 1 0) (apart (bytes_eq id text) (λ is. other (sym ((bytes_eq-Decides id text).0 is)))) in
+        let not_it : weight text (event.Moved id) ≡ 0 = ap (λ b. cond b 1 0) (deciding.texts_apart id text (λ is. other (sym is))) in
         by_sending queues to u events id text place ∙ ap (λ n. arrivals queues u text + (if u == to then n else 0)) not_it ∙ nothing (u == to)
       where
-        apart : (b : Bool) → (b ≡ true → ⊥) → b ≡ false
-        apart true is_not = absurd (is_not refl)
-        apart false is_not = refl
-
         nothing : (b : Bool) → arrivals queues u text + (if b then 0 else 0) ≡ arrivals queues u text
         nothing true = omega arith
         nothing false = omega arith
@@ -204,9 +196,6 @@ by_sent queues rows table t to events id channel all there mine lives target dif
         subst (λ id'. Holds sent rows id' (owner_at (with_channel table id new) id')) (sym same)
         (subst (λ owner. Holds sent rows id owner) (sym put) (one, (target, (lives, differs))))
     go text false is =
-        let other : text ≢ id = λ same. unlike text id is same in
+        let other : text ≢ id = λ same. other_key text id is (sym same) in
         by_set (λ found. Holds sent rows text (owner_in found)) text id table.channels new (λ same had. absurd (other same))
         ((λ u. others text other u ∙ (all.each text).0 u), (all.each text).1)
-      where
-        unlike : (a b : List ℕ) → is_key a b ≡ false → a ≡ b → ⊥
-        unlike a b is same = other_key a b is (sym same)

@@ -1,6 +1,5 @@
 -- Each action of a thread that lives keeps the channels, and so does a run.
 use Rattle.std.proofs.Common.{◌≡◌, ◌∙◌, ◌-◌, ◌<◌, ◌^◌, ◌==◌, ℕ, zero, suc, Bool, true, false, if◌then◌else◌, List, [], ◌∷◌, length, slice_get, codes, Option, Some, None, IfSome, ap, refl, sym, subst, ℤ, arith}
-use Rattle.std.proofs.lemmas.Bool.Decides.{nat_tests}
 use Rattle.std.specs.Map.{values_of}
 use Rattle.tt_calls.specs.declared.chan_call.ChanCall.{ChanCall}
 use Rattle.tt_calls.specs.declared.chan_call.ChanCall.TheVariants as chan
@@ -18,6 +17,7 @@ use Rattle.tt_chans.specs.Ends.{owned}
 use Rattle.tt_chans.specs.declared.channel.Channel.{Channel}
 use Rattle.tt_chans.specs.declared.channel.Owner.{Owner}
 use Rattle.tt_chans.specs.declared.channel.Owner.TheVariants.{Thread, Detached, Moving}
+use Rattle.tt_happenings.proofs.Deciding as deciding
 use Rattle.tt_happenings.proofs.Arrivals.{SameArrivals, by_mail, by_new, count, many_emptied, many_mail}
 use Rattle.tt_happenings.proofs.Channels.{IsFound, owned_is}
 use Rattle.tt_happenings.proofs.Drawn.{IsDrawn, none_drawn, up_after, up_along}
@@ -139,7 +139,7 @@ module _ (state : State) (t : ℕ) (lives : is_living state.rows t ≡ true) (ke
       go false is =
           kept_of _ (many_mail state.queues to false (event.Moved text) ∙ kept.queues)
           (by_sent state.queues state.rows state.channels t to place.0 text channel (all_of state kept) found.there found.owner lives target.living
-          (λ same. let both : (to == t) ≡ true = grind (arith, same) in absurd (cc (sym both ∙ is))) place.1)
+          (λ same. deciding.differs to t is (sym same)) place.1)
 
   by_transfer : (thread text : List ℕ) → Kept (on_channels state t (chan.Transfer thread text)).state
   by_transfer thread text = go (is_standard text)
@@ -230,11 +230,7 @@ reached_kept state reached small = along (start_state reached.main) state reache
 is_kept : (state : State) (text : List ℕ) (owner : Owner) → ((u : ℕ) → arrivals state.queues u text ≡ expected (Some owner) u) → OwnerLives state.rows owner → IsKept state text owner
 is_kept state text (Thread t) arrive live = live
 is_kept state text Detached arrive live = tt
-is_kept state text (Moving from to) arrive live = (live.0, arrive to ∙ itself (to == to) refl)
-  where
-    itself : (b : Bool) → (to == to) ≡ b → (if b then 1 else 0) ≡ suc 0
-    itself true is = refl
-    itself false is = absurd (grind (arith, nat_tests, is))
+is_kept state text (Moving from to) arrive live = (live.0, arrive to ∙ ap deciding.one_if (deciding.itself to))
 
 pub are_kept : (state : State) → Kept state → AreKept state
 are_kept state kept text = go (owner_at state.channels text) (λ u. kept.arrive u text) (kept.live text)

@@ -1,7 +1,6 @@
 -- Channels stay kept when one has come: the event that brought it was the only one.
-use Rattle.std.proofs.Common.{◌≡◌, ◌≢◌, ◌∙◌, ◌+◌, ◌<◌, ◌==◌, ℕ, Bool, true, false, cond, if◌then◌else◌, List, ◌∷◌, bytes_eq, Option, Some, None, ap, refl, sym, subst, rules, arith, tests}
+use Rattle.std.proofs.Common.{◌≡◌, ◌≢◌, ◌∙◌, ◌+◌, ◌<◌, ◌==◌, ℕ, Bool, true, false, cond, if◌then◌else◌, List, ◌∷◌, Option, Some, None, ap, refl, sym, subst, arith}
 use Rattle.std.proofs.lemmas.Bool.Decides.{nat_tests}
-use Rattle.std.proofs.lemmas.Slice.Eq.{bytes_eq-Decides}
 use Rattle.tt_calls.specs.declared.event.Event.{Event}
 use Rattle.tt_calls.specs.declared.event.Event.TheVariants as event
 use Rattle.tt_chans.specs.Channels.{ChannelTable, channel_of, given, owner_given, with_channel}
@@ -9,25 +8,16 @@ use Rattle.tt_chans.specs.Ends.{with_owner}
 use Rattle.tt_chans.specs.declared.channel.Channel.{Channel}
 use Rattle.tt_chans.specs.declared.channel.Owner.{Owner}
 use Rattle.tt_chans.specs.declared.channel.Owner.TheVariants.{Thread, Detached, Moving}
+use Rattle.tt_happenings.proofs.Deciding as deciding
 use Rattle.tt_happenings.proofs.Apart.{other_key}
 use Rattle.tt_happenings.proofs.Arrivals.{by_taking, count, count-cons, weight}
-use Rattle.tt_happenings.proofs.Kept.{AllHold, Holds, expected, sym_test}
+use Rattle.tt_happenings.proofs.Kept.{AllHold, Holds, expected}
 use Rattle.tt_happenings.proofs.Tables.{by_set, is_key, same_key, set_here}
 use Rattle.tt_happenings.specs.KeptChannels.{arrivals, brings, events_in}
 use Rattle.tt_happenings.specs.Owners.{owner_at, owner_in}
 use Rattle.tt_shared.specs.Mail.{Queues, queue_of, with_queue}
 use Rattle.tt_threads.specs.Rows.{is_living}
 use Rattle.tt_threads.specs.declared.row.Row.{Row}
-
-abbrev one_if : Bool → ℕ
-one_if b = if b then 1 else 0
-
--- so many more, for one thread
-abbrev more_if : Bool → ℕ → ℕ
-more_if b n = if b then n else 0
-
-same : (a b : ℕ) → (a == b) ≡ true → a ≡ b
-same a b is = search (rules, is, tests)
 
 -- an owner by whom an event brings the channel to the thread
 on_its_way : (t : ℕ) (owner : Option Owner) → 0 < expected owner t → (from : Option ℕ) × (owner ≡ Some (Moving from t))
@@ -36,8 +26,8 @@ on_its_way t (Some (Thread s)) some = absurd (omega (arith, some))
 on_its_way t (Some Detached) some = absurd (omega (arith, some))
 on_its_way t (Some (Moving from to)) some = go (to == t) refl some
   where
-    go : (b : Bool) → (to == t) ≡ b → 0 < one_if b → (source : Option ℕ) × (Some (Moving from to) ≡ Some (Moving source t))
-    go true is some = (from, ap (λ one. Some (Moving from one)) (same to t is))
+    go : (b : Bool) → (to == t) ≡ b → 0 < deciding.one_if b → (source : Option ℕ) × (Some (Moving from to) ≡ Some (Moving source t))
+    go true is some = (from, ap (λ one. Some (Moving from one)) (deciding.same to t is))
     go false is some = absurd (omega (arith, some))
 
 module _ (queues : Queues) (rows : List Row) (table : ChannelTable) (t : ℕ) (lives : is_living rows t ≡ true) (all : AllHold queues rows table) (events : List Event) where
@@ -47,13 +37,9 @@ module _ (queues : Queues) (rows : List Row) (table : ChannelTable) (t : ℕ) (l
   -- what the taking of an event leaves, where it does not bring the channel
   others : (event : Event) (text : List ℕ) → queue_of queues t ≡ Some (event ∷ events) → weight text event ≡ 0 → (u : ℕ) → arrivals later u text ≡ arrivals queues u text
   others event text there none u =
-      let counted : arrivals later u text + more_if (u == t) 0 ≡ arrivals queues u text =
-      ap (λ n. arrivals later u text + more_if (u == t) n) (sym none) ∙ by_taking queues t u event events text there in
-      sym (ap (λ n. arrivals later u text + n) (nothing (u == t)) ∙ omega arith) ∙ counted
-    where
-      nothing : (b : Bool) → more_if b 0 ≡ 0
-      nothing true = refl
-      nothing false = refl
+      let counted : arrivals later u text + deciding.more_if (u == t) 0 ≡ arrivals queues u text =
+      ap (λ n. arrivals later u text + deciding.more_if (u == t) n) (sym none) ∙ by_taking queues t u event events text there in
+      sym (ap (λ n. arrivals later u text + n) (deciding.no_more (u == t)) ∙ omega arith) ∙ counted
 
   pub by_other : (event : Event) → queue_of queues t ≡ Some (event ∷ events) → ((text : List ℕ) → brings text event ≡ false) → AllHold later rows table
   by_other event there quiet = record {
@@ -62,7 +48,7 @@ module _ (queues : Queues) (rows : List Row) (table : ChannelTable) (t : ℕ) (l
 
   module _ (id : List ℕ) (there : queue_of queues t ≡ Some (event.Moved id ∷ events)) where
     itself : weight id (event.Moved id) ≡ 1
-    itself = ap (λ b. cond b 1 0) ((bytes_eq-Decides id id).1 refl)
+    itself = ap (λ b. cond b 1 0) (deciding.text_itself id)
 
     -- it was on its way to the thread
     some : 0 < expected (owner_at table id) t
@@ -80,10 +66,10 @@ module _ (queues : Queues) (rows : List Row) (table : ChannelTable) (t : ℕ) (l
     -- and no event more brings it
     none_left : (u : ℕ) → arrivals later u id ≡ 0
     none_left u =
-        let had : arrivals queues u id ≡ one_if (t == u) = (all.each id).0 u ∙ ap (λ owner. expected owner u) moving in
-        let counted : arrivals later u id + more_if (u == t) 1 ≡ arrivals queues u id =
-        ap (λ n. arrivals later u id + more_if (u == t) n) (sym itself) ∙ by_taking queues t u (event.Moved id) events id there in
-        let both : arrivals later u id + one_if (u == t) ≡ one_if (u == t) = counted ∙ had ∙ ap one_if (sym_test t u) in
+        let had : arrivals queues u id ≡ deciding.one_if (t == u) = (all.each id).0 u ∙ ap (λ owner. expected owner u) moving in
+        let counted : arrivals later u id + deciding.more_if (u == t) 1 ≡ arrivals queues u id =
+        ap (λ n. arrivals later u id + deciding.more_if (u == t) n) (sym itself) ∙ by_taking queues t u (event.Moved id) events id there in
+        let both : arrivals later u id + deciding.one_if (u == t) ≡ deciding.one_if (u == t) = counted ∙ had ∙ ap deciding.one_if (deciding.flipped t u) in
         omega (arith, both)
 
     given_owner : (channel : Channel) → channel_of table id ≡ Some channel → owner_given t channel.owner ≡ Thread t
@@ -102,13 +88,6 @@ module _ (queues : Queues) (rows : List Row) (table : ChannelTable) (t : ℕ) (l
         new : Channel
         new = with_owner channel (owner_given t channel.owner)
 
-        unlike : (a b : List ℕ) → is_key a b ≡ false → a ≡ b → ⊥
-        unlike a b is alike = other_key a b is (sym alike)
-
-        apart : (b : Bool) → (b ≡ true → ⊥) → b ≡ false
-        apart true is_not = absurd (is_not refl)
-        apart false is_not = refl
-
         go : (text : List ℕ) (b : Bool) → is_key text id ≡ b → Holds later rows text (owner_at (with_channel table id new) text)
         go text true is =
             let alike : text ≡ id = same_key text id is in
@@ -116,8 +95,8 @@ module _ (queues : Queues) (rows : List Row) (table : ChannelTable) (t : ℕ) (l
             subst (λ one. Holds later rows one (owner_at (with_channel table id new) one)) (sym alike)
             (subst (λ owner. Holds later rows id owner) (sym put) (none_left, lives))
         go text false is =
-            let other : text ≢ id = λ alike. unlike text id is alike in
-            let not_it : weight text (event.Moved id) ≡ 0 = ap (λ b. cond b 1 0) (apart (bytes_eq id text) (λ it. other (sym ((bytes_eq-Decides id text).0 it)))) in
+            let other : text ≢ id = λ alike. other_key text id is (sym alike) in
+            let not_it : weight text (event.Moved id) ≡ 0 = ap (λ b. cond b 1 0) (deciding.texts_apart id text (λ it. other (sym it))) in
             by_set (λ one. Holds later rows text (owner_in one)) text id table.channels new (λ alike had. absurd (other alike))
             ((λ u. others (event.Moved id) text there not_it u ∙ (all.each text).0 u), (all.each text).1)
 

@@ -1,15 +1,15 @@
 -- Channels stay kept at the end of a thread, and when one has come.
-use Rattle.std.proofs.Common.{◌≡◌, ◌≢◌, ◌∙◌, ◌==◌, ◌||◌, ℕ, Bool, true, false, not, if◌then◌else◌, List, Option, Some, None, ap, refl, sym, subst, ℤ, rules, arith, tests}
-use Rattle.std.proofs.lemmas.Bool.Decides.{nat_tests}
+use Rattle.std.proofs.Common.{◌≡◌, ◌≢◌, ◌∙◌, ◌==◌, ◌||◌, ℕ, Bool, true, false, not, if◌then◌else◌, List, Option, Some, None, ap, refl, sym, subst, ℤ}
 use Rattle.tt_chans.specs.Channels.{ChannelTable, channel_of, table_after_end}
 use Rattle.tt_chans.specs.Ends.{after_end, is_sent, owner_after, stays_open, unsent}
 use Rattle.tt_chans.specs.declared.channel.Channel.{Channel}
 use Rattle.tt_chans.specs.declared.channel.Owner.{Owner}
 use Rattle.tt_chans.specs.declared.channel.Owner.TheVariants.{Thread, Detached, Moving}
+use Rattle.tt_happenings.proofs.Deciding as deciding
 use Rattle.tt_happenings.proofs.Apart.{left, left-is}
 use Rattle.tt_happenings.proofs.Arrivals.{SameArrivals, by_emptying}
 use Rattle.tt_happenings.proofs.Drawn.{IsDrawn}
-use Rattle.tt_happenings.proofs.Kept.{AllHold, Holds, sym_test}
+use Rattle.tt_happenings.proofs.Kept.{AllHold, Holds}
 use Rattle.tt_happenings.proofs.Lives.{by_end}
 use Rattle.tt_happenings.specs.KeptChannels.{arrivals}
 use Rattle.tt_happenings.specs.Owners.{owner_in}
@@ -33,18 +33,6 @@ owner-left t channel = go (stays_open t channel)
     go true = refl
     go false = refl
 
-differs : (a b : ℕ) → (a == b) ≡ false → a ≢ b
-differs a b is alike = grind (arith, nat_tests, is)
-
-same : (a b : ℕ) → (a == b) ≡ true → a ≡ b
-same a b is = search (rules, is, tests)
-
-abbrev zero_if : Bool → ℕ → ℕ
-zero_if b n = if b then 0 else n
-
-abbrev one_if : Bool → ℕ
-one_if b = if b then 1 else 0
-
 module _ (queues later : Queues) (rows : List Row) (t : ℕ) (code : ℤ) (text : List ℕ) (arrive : SameArrivals queues later) where
   abbrev HoldsThen : Option Owner → Type 0
   HoldsThen owner = Holds (emptied later t) (with_end rows t code) text owner
@@ -53,20 +41,16 @@ module _ (queues later : Queues) (rows : List Row) (t : ℕ) (code : ℤ) (text 
   counted u = by_emptying later t u text ∙ ap (λ n. if u == t then 0 else n) (arrive u text)
 
   nothing : (owner : Option Owner) → ((u : ℕ) → arrivals queues u text ≡ 0) → (u : ℕ) → arrivals (emptied later t) u text ≡ 0
-  nothing owner none u = counted u ∙ ap (λ n. if u == t then 0 else n) (none u) ∙ go (u == t)
-    where
-      go : (b : Bool) → zero_if b 0 ≡ 0
-      go true = refl
-      go false = refl
+  nothing owner none u = counted u ∙ ap (λ n. if u == t then 0 else n) (none u) ∙ deciding.still_zero (u == t)
 
   -- it was on its way to another thread, and still is
   on_its_way : (to : ℕ) → (to == t) ≡ false → ((u : ℕ) → arrivals queues u text ≡ (if to == u then 1 else 0)) → (u : ℕ) → arrivals (emptied later t) u text ≡ (if to == u then 1 else 0)
   on_its_way to other had u = counted u ∙ ap (λ n. if u == t then 0 else n) (had u) ∙ go (u == t) refl
     where
-      go : (b : Bool) → (u == t) ≡ b → zero_if b (one_if (to == u)) ≡ one_if (to == u)
+      go : (b : Bool) → (u == t) ≡ b → deciding.zero_if b (deciding.one_if (to == u)) ≡ deciding.one_if (to == u)
       go true is =
-          let not_here : (to == u) ≡ false = ap (λ one. to == one) (same u t is) ∙ other in
-          sym (ap one_if not_here)
+          let not_here : (to == u) ≡ false = ap (λ one. to == one) (deciding.same u t is) ∙ other in
+          sym (ap deciding.one_if not_here)
       go false is = refl
 
   goes_on : (owner : Owner) → Holds queues rows text (Some owner) → HoldsThen (owner_left t owner)
@@ -75,17 +59,17 @@ module _ (queues later : Queues) (rows : List Row) (t : ℕ) (code : ℤ) (text 
     where
       go : (b : Bool) → (s == t) ≡ b → HoldsThen (if not b then Some (Thread s) else None)
       go true is = (nothing None holds.0, tt)
-      go false is = (nothing None holds.0, by_end rows t code s (differs s t is) holds.1)
+      go false is = (nothing None holds.0, by_end rows t code s (deciding.differs s t is) holds.1)
   goes_on (Moving None to) holds = go (to == t) refl
     where
       go : (b : Bool) → (to == t) ≡ b → HoldsThen (if not b || false then Some (if b then Detached else Moving None to) else None)
       go true is =
           (λ u. counted u ∙ ap (λ n. if u == t then 0 else n) (holds.0 u) ∙ gone u (u == t) refl, tt)
         where
-          gone : (u : ℕ) (b : Bool) → (u == t) ≡ b → zero_if b (one_if (to == u)) ≡ 0
+          gone : (u : ℕ) (b : Bool) → (u == t) ≡ b → deciding.zero_if b (deciding.one_if (to == u)) ≡ 0
           gone u true here = refl
-          gone u false here = ap one_if (ap (λ one. one == u) (same to t is) ∙ sym_test t u ∙ here)
-      go false is = (on_its_way to is holds.0, (by_end rows t code to (differs to t is) holds.1.0, tt))
+          gone u false here = ap deciding.one_if (ap (λ one. one == u) (deciding.same to t is) ∙ deciding.flipped t u ∙ here)
+      go false is = (on_its_way to is holds.0, (by_end rows t code to (deciding.differs to t is) holds.1.0, tt))
   goes_on (Moving (Some s) to) holds = go (to == t) refl
     where
       lives : is_living rows s ≡ true
@@ -96,16 +80,16 @@ module _ (queues later : Queues) (rows : List Row) (t : ℕ) (code : ℤ) (text 
 
       go : (b : Bool) → (to == t) ≡ b → HoldsThen (if not b || true then Some (if b then Thread s else unsent t (Some s) to) else None)
       go true is =
-          (λ u. counted u ∙ ap (λ n. if u == t then 0 else n) (holds.0 u) ∙ gone u (u == t) refl, by_end rows t code s (λ me. apart (me ∙ sym (same to t is))) lives)
+          (λ u. counted u ∙ ap (λ n. if u == t then 0 else n) (holds.0 u) ∙ gone u (u == t) refl, by_end rows t code s (λ me. apart (me ∙ sym (deciding.same to t is))) lives)
         where
-          gone : (u : ℕ) (b : Bool) → (u == t) ≡ b → zero_if b (one_if (to == u)) ≡ 0
+          gone : (u : ℕ) (b : Bool) → (u == t) ≡ b → deciding.zero_if b (deciding.one_if (to == u)) ≡ 0
           gone u true here = refl
-          gone u false here = ap one_if (ap (λ one. one == u) (same to t is) ∙ sym_test t u ∙ here)
+          gone u false here = ap deciding.one_if (ap (λ one. one == u) (deciding.same to t is) ∙ deciding.flipped t u ∙ here)
       go false is = sender (s == t) refl
         where
           sender : (b : Bool) → (s == t) ≡ b → HoldsThen (Some (if b then Moving None to else Moving (Some s) to))
-          sender true me = (on_its_way to is holds.0, (by_end rows t code to (differs to t is) holds.1.0, tt))
-          sender false me = (on_its_way to is holds.0, (by_end rows t code to (differs to t is) holds.1.0, (by_end rows t code s (differs s t me) lives, apart)))
+          sender true me = (on_its_way to is holds.0, (by_end rows t code to (deciding.differs to t is) holds.1.0, tt))
+          sender false me = (on_its_way to is holds.0, (by_end rows t code to (deciding.differs to t is) holds.1.0, (by_end rows t code s (deciding.differs s t me) lives, apart)))
 
 pub by_ending : (queues later : Queues) (rows : List Row) (table : ChannelTable) (t : ℕ) (code : ℤ) → SameArrivals queues later → IsDrawn table → AllHold queues rows table
     → AllHold (emptied later t) (with_end rows t code) (table_after_end table t)

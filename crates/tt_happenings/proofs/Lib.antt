@@ -3,9 +3,11 @@ pub mod ArraysAlone
 pub mod Arrivals
 pub mod ChannelCalls
 pub mod Channels
+pub mod Deciding
 pub mod Drawn
 pub mod Families
 pub mod Flows
+pub mod GoesOn
 pub mod GotHolds
 pub mod HeldAlone
 pub mod HeldLocks

@@ -8,7 +8,7 @@ use Rattle.tt_calls.specs.declared.request.Request.TheVariants as ask
 use Rattle.tt_calls.specs.declared.start.Start.{Start}
 use Rattle.tt_chans.specs.Answers.{id_of}
 use Rattle.tt_chans.specs.Channels.{is_standard}
-use Rattle.tt_happenings.specs.Actions.{Action, Acts, NumbersFit, Reached, after, moments}
+use Rattle.tt_happenings.specs.Actions.{Action, Acts, CanHappen, NumbersFit, Reached, after, moments}
 use Rattle.tt_happenings.specs.ArrayCalls.{array_calls, array_replies, array_steps, arrays_after}
 use Rattle.tt_happenings.specs.Happenings.{Happening as happening, happenings}
 use Rattle.tt_happenings.specs.HeldArrays.{EndsHold, HoldsArray, IsOn, array_named}
@@ -21,6 +21,11 @@ use Rattle.tt_shared.specs.Acts.{act}
 use Rattle.tt_shared.specs.Enabled.{enabled}
 use Rattle.tt_shared.specs.State.{State, refuses, start_state}
 use Rattle.tt_shared.specs.declared.applied.Line.{Line}
+
+-- a run goes on by an action that can happen
+abbrev pub GoesOnLaw : Type 0
+GoesOnLaw =
+    (state : State) (action : Action) → Reached state → CanHappen state action → Reached (after state action)
 
 -- ---- shared variables ----
 

@@ -1,5 +1,6 @@
 pub mod Actions
 pub mod ArrayCalls
+pub mod Example
 pub mod Happenings
 pub mod HeldArrays
 pub mod HeldLocks

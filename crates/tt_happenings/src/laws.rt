@@ -1,6 +1,12 @@
 //! Laws about the definitions, each proved as the contract of a function that does nothing.
+ghost use Rattle.tt_happenings.specs.Example.{WorkedHappenings};
 ghost use Rattle.tt_happenings.specs.Orderly.{OrderlyLaw};
-ghost use Rattle.tt_happenings.specs.Laws.{ArraysAloneLaw, ChannelsAreKeptLaw, HeldAloneLaw, HoldStaysLaw, NotOwnedLaw, OneHolderLaw, OthersWaitLaw, PipeLaw, StaysOwnLaw};
+ghost use Rattle.tt_happenings.specs.Laws.{ArraysAloneLaw, ChannelsAreKeptLaw, GoesOnLaw, HeldAloneLaw, HoldStaysLaw, NotOwnedLaw, OneHolderLaw, OthersWaitLaw, PipeLaw, StaysOwnLaw};
+
+/// A run goes on by an action that can happen.
+pub fn runs_go_on()
+    ensures { GoesOnLaw }
+{}
 
 /// What threads do to arrays is what their calls on shared variables alone come to.
 pub fn arrays_stand_alone()
@@ -50,4 +56,9 @@ pub fn pipes_keep_their_bytes()
 /// Each action of a run is orderly.
 pub fn runs_are_orderly()
     ensures { OrderlyLaw }
+{}
+
+/// What happens in runs of the example.
+pub fn worked_happenings()
+    ensures { WorkedHappenings }
 {}
