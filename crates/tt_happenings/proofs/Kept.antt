@@ -78,9 +78,6 @@ mild_kept old new mild kept = record {
 abbrev pub Holds : Queues → List Row → (text : List ℕ) → Option Owner → Type 0
 Holds queues rows text owner = ((u : ℕ) → arrivals queues u text ≡ expected owner u) × IfSome owner (OwnerLives rows)
 
-holds_of : (queues : Queues) (rows : List Row) (table : ChannelTable) → Arrive queues table → Live rows table → (text : List ℕ) → Holds queues rows text (owner_at table text)
-holds_of queues rows table arrive live text = ((λ u. arrive u text), live text)
-
 -- a table in which it holds of each
 pub record AllHold (queues : Queues) (rows : List Row) (table : ChannelTable) : Type 0 where
   pub each : (text : List ℕ) → Holds queues rows text (owner_at table text)

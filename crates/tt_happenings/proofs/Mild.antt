@@ -81,9 +81,6 @@ length-more (y ∷ ys) x = ap suc (length-more ys x)
 thread : (state : State) (row : Row) → Mild state (with_thread state row)
 thread state row = go _
   where
-    more : State
-    more = record state { rows = state.rows ++ row ∷ []; queues = state.queues ++ [] ∷ [] }
-
     made : Mild state (record state { rows = state.rows ++ row ∷ []; queues = state.queues ++ [] ∷ [] })
     made = record {
       channels = refl;
