@@ -1,11 +1,11 @@
 -- What is done on a held array is done by its holder.
-use Rattle.std.proofs.Common.{◌≡◌, ◌≢◌, ◌∙◌, ◌≤◌, ◌==◌, ◌&&◌, ℕ, Bool, true, false, not, IsTrue, IsFalse, List, [], ◌∷◌, Option, Some, None, IfSome, ap, refl, sym, subst, rules, tests, arith}
-use Rattle.std.proofs.lemmas.Bool.Decides.{nat_tests}
+use Rattle.std.proofs.Common.{◌≡◌, ◌≢◌, ◌∙◌, ◌≤◌, ◌==◌, ◌&&◌, ℕ, Bool, true, false, not, List, [], ◌∷◌, Option, Some, None, IfSome, ap, refl, sym, subst}
 use Rattle.std.proofs.lemmas.List.Elements.{All-cons, All-head, All-nil, All-tail}
 use Rattle.tt_calls.specs.declared.request.Request.{Request}
 use Rattle.tt_calls.specs.declared.request.Request.TheVariants as ask
 use Rattle.tt_calls.specs.declared.tsv_call.TsvCall.{TsvCall}
 use Rattle.tt_calls.specs.declared.tsv_call.TsvCall.TheVariants.{Unhold}
+use Rattle.tt_happenings.proofs.Deciding as deciding
 use Rattle.tt_happenings.proofs.Families.{arrays_kept}
 use Rattle.tt_happenings.proofs.HeldStays.{IsDeep, own_call}
 use Rattle.tt_happenings.specs.Actions.{Action, CanHappen, Moment, after, moments, more, none}
@@ -22,13 +22,6 @@ use Rattle.tt_tsv.specs.declared.array.Array.{Array}
 
 -- ---- others ----
 
-apart : (one t other : ℕ) → other ≢ t → (one == t) ≡ true → (one == other) ≡ false
-apart one t other differs is = go (one == other) refl
-  where
-    go : (b : Bool) → (one == other) ≡ b → (one == other) ≡ false
-    go true same = let first : one ≡ t = search (rules, is, tests) in let second : one ≡ other = search (rules, same, tests) in absurd (differs (sym second ∙ first))
-    go false same = same
-
 by_other : (t other : ℕ) (found : Option Array) → other ≢ t → is_own t found ≡ true → is_held_by_other other found ≡ true
 by_other t other None differs own = absurd (cc own)
 by_other t other (Some array) differs own = go array.holder own
@@ -36,7 +29,7 @@ by_other t other (Some array) differs own = go array.holder own
     go : (holder : Option ℕ) → elim holder [ None ↦ false | Some one ↦ one == t ] ≡ true
         → (elim holder [ None ↦ false | Some one ↦ true ] && not (elim holder [ None ↦ false | Some one ↦ one == other ])) ≡ true
     go None own = absurd (cc own)
-    go (Some one) own = ap not (apart one t other differs own)
+    go (Some one) own = ap not (deciding.apart one other (λ is. differs (sym is ∙ deciding.same one t own)))
 
 pub others_wait : OthersWaitLaw
 others_wait state t other name (ask.Tsv call) own named differs =
@@ -45,15 +38,6 @@ others_wait state t other name (ask.Tsv call) own named differs =
 others_wait state t other name request own named differs = absurd (cc named)
 
 -- ---- one action ----
-
-same : (a b : ℕ) → (a == b) ≡ true → a ≡ b
-same a b is = search (rules, is, tests)
-
-differs : (a b : ℕ) → (a == b) ≡ false → a ≢ b
-differs a b is alike = grind (arith, nat_tests, is)
-
-not-both : (b : Bool) → IsTrue b → IsFalse b → ⊥
-not-both b is other = let both : true ≡ false = sym is ∙ other in cc both
 
 -- the end of the last hold, if the array is not held more than once
 deep : (t : ℕ) (name : List ℕ) (moment : Moment) → ¬ (EndsHold t name moment) → moment.action.thread ≡ t
@@ -71,10 +55,10 @@ by_call state t other name call own deep = go (other == t) refl
   where
     go : (b : Bool) → (other == t) ≡ b → is_own t (array_of (table_after state.arrays other call) name) ≡ true
     go true is =
-        let me : other ≡ t = same other t is in
+        let me : other ≡ t = deciding.same other t is in
         subst (λ one. is_own t (array_of (table_after state.arrays one call) name) ≡ true) (sym me) (own_call t name state.arrays call (deep me) own)
     go false is =
-        let kept = closed_to_others state.arrays name other call (by_other t other (array_of state.arrays name) (differs other t is) own) in
+        let kept = closed_to_others state.arrays name other call (by_other t other (array_of state.arrays name) (deciding.differs other t is) own) in
         subst (λ found. is_own t found ≡ true) (sym kept) own
 
 pub held_after : (state : State) (t other : ℕ) (name : List ℕ) (request : Request) (line : Line) → HoldsArray state t name
@@ -88,8 +72,8 @@ pub by_holder : (state : State) (action : Action) (t : ℕ) (name : List ℕ) �
 by_holder state action t name can own on = go (action.thread == t) refl
   where
     go : (b : Bool) → (action.thread == t) ≡ b → action.thread ≡ t
-    go true is = same action.thread t is
-    go false is = absurd (not-both (enabled state action.thread action.request) can.enabled (others_wait state t action.thread name action.request own on (differs action.thread t is)))
+    go true is = deciding.same action.thread t is
+    go false is = absurd (deciding.not_both (enabled state action.thread action.request) can.enabled (others_wait state t action.thread name action.request own on (deciding.differs action.thread t is)))
 
 -- ---- a list of them ----
 

@@ -1,7 +1,6 @@
 -- An array that a thread holds stays held by it, whatever call the thread makes itself, but for the end of its last hold.
-use Rattle.std.proofs.Common.{◌≡◌, ◌∙◌, ◌≤◌, ℕ, ◌%◌, ◌==◌, Bool, true, false, cond, if◌then◌else◌, nat_le, List, [], ◌∷◌, length, codes, Option, Some, None, is_some, refl, ap, sym, subst, bytes_eq, rules, arith, tests}
+use Rattle.std.proofs.Common.{◌≡◌, ◌∙◌, ◌≤◌, ℕ, ◌%◌, ◌==◌, Bool, true, false, cond, if◌then◌else◌, nat_le, List, [], ◌∷◌, length, codes, Option, Some, None, is_some, refl, ap, sym, subst, bytes_eq, arith}
 use Rattle.std.proofs.lemmas.Bool.Decides.{nat_tests}
-use Rattle.std.proofs.lemmas.Slice.Eq.{bytes_eq-Decides}
 use Rattle.std.specs.Map.{set_value}
 use Rattle.indexmap.specs.IndexMap.{insert_entry}
 use Rattle.tt_calls.specs.declared.reply.Reply.TheVariants.{Go}
@@ -9,13 +8,14 @@ use Rattle.tt_calls.specs.declared.tsv_call.TsvCall.{TsvCall}
 use Rattle.tt_calls.specs.declared.tsv_call.TsvCall.TheVariants.{Hold, Unhold, Run}
 use Rattle.tt_lists.specs.declared.items.Split.{Split}
 use Rattle.tt_lists.specs.declared.items.Split.TheVariants as split
+use Rattle.tt_happenings.proofs.Deciding as deciding
 use Rattle.tt_tsv.specs.Answers.{act, answers, array_act, changes, done, exists_message, fills, is_own, moves_of, refills, refuses, run, run_asked, table_after, unsets, waits}
 use Rattle.tt_tsv.specs.Arrays.{Table, added, array_of, changed, changes_in, element_of, emptied, held, is_held, is_held_by, let_go, made, makes_in, with_element, without_array, without_element}
 use Rattle.tt_tsv.specs.Words.{Asked, asked_of}
 use Rattle.tt_tsv.specs.declared.array.Array.{Array}
 
 both : (name other key : List ℕ) → bytes_eq other key ≡ true → bytes_eq name key ≡ true → name ≡ other
-both name other key here there = (bytes_eq-Decides name key).0 there ∙ sym ((bytes_eq-Decides other key).0 here)
+both name other key here there = deciding.same_text name key there ∙ sym (deciding.same_text other key here)
 
 unheld : (t : ℕ) (array : Array) → is_held array ≡ false → is_held_by t array ≡ true → ⊥
 unheld t array none is = go array.holder none is
@@ -25,7 +25,7 @@ unheld t array none is = go array.holder none is
     go (Some one) none is = cc none
 
 own-hold : (t : ℕ) (array : Array) → is_held_by t (held t array) ≡ true
-own-hold t array = search (rules, tests)
+own-hold t array = deciding.itself t
 
 -- a hold of several
 still : (t : ℕ) (array : Array) → (array.depth ≤ 1 → ⊥) → is_held_by t array ≡ true → is_held_by t (let_go array) ≡ true

@@ -1,5 +1,5 @@
 -- What is done to one lock leaves a thread that holds it still its hold as it was.
-use Rattle.std.proofs.Common.{◌≡◌, ◌∙◌, ◌≤◌, ◌&&◌, ◌||◌, ◌==◌, ℕ, Bool, true, false, not, if◌then◌else◌, List, [], ◌∷◌, length, Option, Some, None, ap, refl, sym, subst, arith, rules, tests}
+use Rattle.std.proofs.Common.{◌≡◌, ◌∙◌, ◌≤◌, ◌&&◌, ◌||◌, ◌==◌, ℕ, Bool, true, false, not, if◌then◌else◌, List, [], ◌∷◌, length, Option, Some, None, ap, refl, sym, subst, arith}
 use Rattle.std.proofs.lemmas.List.Elements.{All-head, All-tail}
 use Rattle.std.specs.List.{All}
 use Rattle.tt_calls.specs.declared.lock_call.Family.TheVariants as family
@@ -9,12 +9,10 @@ use Rattle.tt_locks.specs.Laws.{AreAllowed, HasOneHolder}
 use Rattle.tt_locks.specs.Lock.{Done, family_of, has_none, held, holds, is_among, locks, read_locks, unheld, unlocks, waits_alone, without_one, write_locks}
 use Rattle.tt_locks.specs.Table.{is_same}
 use Rattle.tt_locks.specs.declared.lock.Lock.{Lock}
+use Rattle.tt_happenings.proofs.Deciding as deciding
 use Rattle.tt_happenings.specs.HeldLocks.{hold_in, is_alone}
 
 -- ---- holders ----
-
-same : (a b : ℕ) → (a == b) ≡ true → a ≡ b
-same a b is = search (rules, is, tests)
 
 -- who is among one holder at most
 one-few : (holders : List ℕ) (t u : ℕ) → length holders ≤ 1 → is_among holders t ≡ true → is_among holders u ≡ true → u ≡ t
@@ -22,7 +20,7 @@ one-few [] t u few first second = absurd (cc first)
 one-few (one ∷ []) t u few first second = go (one == t) (one == u) refl refl first second
   where
     go : (a b : Bool) → (one == t) ≡ a → (one == u) ≡ b → (a || false) ≡ true → (b || false) ≡ true → u ≡ t
-    go true true is also first second = sym (same one u also) ∙ same one t is
+    go true true is also first second = sym (deciding.same one u also) ∙ deciding.same one t is
     go true false is also first second = absurd (cc second)
     go false b is also first second = absurd (cc first)
 one-few (one ∷ other ∷ holders) t u few first second = absurd (omega (arith, few))
@@ -32,7 +30,7 @@ all-one [] owner t all among = absurd (cc among)
 all-one (holder ∷ holders) owner t all among = go (holder == t) refl among (all-one holders owner t (All-tail (λ one. one ≡ owner) holder holders all))
   where
     go : (here : Bool) → (holder == t) ≡ here → (here || is_among holders t) ≡ true → (is_among holders t ≡ true → t ≡ owner) → t ≡ owner
-    go true is among later = sym (same holder t is) ∙ All-head (λ one. one ≡ owner) holder holders all
+    go true is among later = sym (deciding.same holder t is) ∙ All-head (λ one. one ≡ owner) holder holders all
     go false is among later = later among
 
 -- and nobody is left when that one is taken out

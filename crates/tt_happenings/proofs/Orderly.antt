@@ -5,6 +5,8 @@ use Rattle.tt_happenings.proofs.Drawn.{IsDrawn, reached_drawn, up_after}
 use Rattle.tt_happenings.proofs.Flows.{Flow, made, opened, shut}
 use Rattle.tt_happenings.proofs.HeldAlone.{by_holder, held_after}
 use Rattle.tt_happenings.proofs.HeldLocks.{got_one, have_after, one_in_state, reached_have, stays_one}
+use Rattle.tt_happenings.proofs.Kept.{Kept}
+use Rattle.tt_happenings.proofs.KeptActions.{are_kept, kept_after, reached_kept}
 use Rattle.tt_happenings.proofs.NotOwned.{not_owned_law}
 use Rattle.tt_happenings.proofs.Owners.{stays_after}
 use Rattle.tt_happenings.proofs.Pipes.{flow_after}
@@ -52,8 +54,8 @@ flows next id None None put taken (made was never is no_put no_take) = absurd (c
 flows next id None (Some after) put taken (made was never is no_put no_take) = (no_put, no_take, cc is)
 flows next id (Some before) new put taken (made was never is no_put no_take) = absurd (cc was)
 
-keeps_channels : (moment : Moment) → IsDrawn moment.before.channels → NumbersFit (later moment) → KeepsChannels moment
-keeps_channels moment drawn small =
+keeps_channels : (moment : Moment) → CanHappen moment.before moment.action → Kept moment.before → IsDrawn moment.before.channels → NumbersFit (later moment) → KeepsChannels moment
+keeps_channels moment can kept drawn small =
     let state = moment.before in
     let action = moment.action in
     record {
@@ -62,6 +64,7 @@ keeps_channels moment drawn small =
       flows = λ id.
           flows state.channels.next id (bytes_at state.channels id) (bytes_at (later moment).channels id) (put_at id moment) (taken_at id moment)
           (flow_after state id action.thread action.request action.line drawn small);
+      kept = are_kept (later moment) (kept_after state action.thread action.request action.line can.lives kept drawn small);
     }
 
 pub orderly : OrderlyLaw
@@ -72,5 +75,5 @@ orderly moment reached can small =
     record {
       arrays = keeps_arrays moment can;
       locks = keeps_locks moment (reached_have state reached);
-      channels = keeps_channels moment (reached_drawn state reached fits) small;
+      channels = keeps_channels moment can (reached_kept state reached fits) (reached_drawn state reached fits) small;
     }

@@ -1,7 +1,6 @@
 -- A thread owns a channel until it gives it up.
-use Rattle.std.proofs.Common.{◌≡◌, ◌≢◌, ◌∙◌, ◌<◌, ◌^◌, ◌==◌, ℕ, Bool, true, false, not, if◌then◌else◌, List, [], ◌∷◌, Option, Some, None, ap, refl, sym, subst, bytes_eq, rules, tests, arith}
+use Rattle.std.proofs.Common.{◌≡◌, ◌≢◌, ◌∙◌, ◌<◌, ◌^◌, ℕ, Bool, true, false, not, if◌then◌else◌, List, [], ◌∷◌, Option, Some, None, ap, refl, sym, subst, bytes_eq, arith}
 use Rattle.std.proofs.lemmas.List.Elements.{All-head, All-tail}
-use Rattle.std.proofs.lemmas.Slice.Eq.{bytes_eq-Decides}
 use Rattle.std.specs.List.{All}
 use Rattle.tt_calls.specs.declared.chan_call.ChanCall.{ChanCall}
 use Rattle.tt_calls.specs.declared.chan_call.ChanCall.TheVariants as chan
@@ -12,6 +11,7 @@ use Rattle.tt_chans.specs.Ends.{after_end, owner_after, stays_open, with_owner}
 use Rattle.tt_chans.specs.declared.channel.Channel.{Channel}
 use Rattle.tt_chans.specs.declared.channel.Owner.{Owner}
 use Rattle.tt_chans.specs.declared.channel.Owner.TheVariants.{Thread, Detached}
+use Rattle.tt_happenings.proofs.Deciding as deciding
 use Rattle.tt_happenings.proofs.Apart.{left, left-is, other_key}
 use Rattle.tt_happenings.proofs.ChannelCalls.{Changes, attached, by_call, detached, moved, speaks}
 use Rattle.tt_happenings.proofs.Channels.{IsFound, by_action}
@@ -36,19 +36,9 @@ the_owner t is = cc is
 not_there : (t : ℕ) (found : Option Channel) → found ≡ None → owner_in found ≡ Some (Thread t) → ⊥
 not_there t found missing own = let both : None ≡ Some (Thread t) = ap owner_in (sym missing) ∙ own in cc both
 
-same_text : (text : List ℕ) → bytes_eq text text ≡ true
-same_text text = (bytes_eq-Decides text text).1 refl
-
-apart : (t u : ℕ) → u ≢ t → (t == u) ≡ false
-apart t u other = go (t == u) refl
-  where
-    go : (b : Bool) → (t == u) ≡ b → (t == u) ≡ false
-    go true is = let same : t ≡ u = search (rules, is, tests) in absurd (other (sym same))
-    go false is = is
-
 -- the end of a thread leaves the channels of another open
 goes_on : (channel : Channel) (t u : ℕ) → u ≢ t → channel.owner ≡ Thread t → stays_open u channel ≡ true
-goes_on channel t u other is = rw (is, stays_open) (ap not (apart t u other))
+goes_on channel t u other is = rw (is, stays_open) (ap not (deciding.apart t u (λ is. other (sym is))))
 
 module _ (state : State) (t u : ℕ) (text : List ℕ) (drawn : IsDrawn state.channels) (own : OwnsChannel state t text) where
   abbrev table : ChannelTable
@@ -75,11 +65,11 @@ module _ (state : State) (t u : ℕ) (text : List ℕ) (drawn : IsDrawn state.ch
   by_change call target id old new keeps there (detached asks mine is) =
       by_new id old new there (λ same whose.
       absurd (keeps (same_thread u t (sym mine ∙ whose))
-      (ap (λ one. gives_up text (ask.Chan one)) asks ∙ subst (λ one. bytes_eq one text ≡ true) same (same_text text))))
+      (ap (λ one. gives_up text (ask.Chan one)) asks ∙ subst (λ one. bytes_eq one text ≡ true) same (deciding.text_itself text))))
   by_change call target id old new keeps there (moved asks goes mine is) =
       by_new id old new there (λ same whose.
       absurd (keeps (same_thread u t (sym mine ∙ whose))
-      (ap (λ one. gives_up text (ask.Chan one)) asks ∙ subst (λ one. bytes_eq one text ≡ true) same (same_text text))))
+      (ap (λ one. gives_up text (ask.Chan one)) asks ∙ subst (λ one. bytes_eq one text ≡ true) same (deciding.text_itself text))))
   by_change call target id old new keeps there (attached asks nobody is) =
       by_new id old new there (λ same whose. absurd (not_thread t nobody (ap Some whose)))
 
@@ -90,7 +80,7 @@ module _ (state : State) (t u : ℕ) (text : List ℕ) (drawn : IsDrawn state.ch
       go true is =
           let same = same_key id text is in
           absurd (keeps (same_thread u t (sym found.owner ∙ owner_was id old found.there (sym same)))
-          (ap (λ one. gives_up text (ask.Chan one)) asks ∙ subst (λ one. bytes_eq one text ≡ true) (sym same) (same_text text)))
+          (ap (λ one. gives_up text (ask.Chan one)) asks ∙ subst (λ one. bytes_eq one text ≡ true) (sym same) (deciding.text_itself text)))
       go false is = by_remove (λ found. owner_in found ≡ Some (Thread t)) text id table.channels (other_key id text is) own
 
   by_new_pipe : Owns (with_pipe table u)

@@ -1,7 +1,6 @@
 -- What puts adds to a pipe, and what gets takes from it.
 use Rattle.std.proofs.Common.{◌≡◌, ◌≢◌, ◌∙◌, ℕ, Bool, true, false, if◌then◌else◌, List, [], ◌∷◌, ◌++◌, codes, Option, Some, None, ap, refl, sym, subst, bytes_eq}
 use Rattle.std.proofs.lemmas.List.{append_assoc, append-nil}
-use Rattle.std.proofs.lemmas.Slice.Eq.{bytes_eq-Decides}
 use Rattle.tt_calls.specs.declared.chan_call.ChanCall.TheVariants as chan
 use Rattle.tt_calls.specs.declared.reply.Reply.TheVariants as reply
 use Rattle.tt_calls.specs.declared.reply.Step.TheVariants as step
@@ -13,6 +12,7 @@ use Rattle.tt_chans.specs.Lines.{first_line, has_line, later_lines}
 use Rattle.tt_chans.specs.declared.channel.Channel.{Channel}
 use Rattle.tt_chans.specs.declared.channel.End.{End}
 use Rattle.tt_chans.specs.declared.channel.End.TheVariants.{Reads, Writes}
+use Rattle.tt_happenings.proofs.Deciding as deciding
 use Rattle.tt_happenings.proofs.Channels.{owned_is}
 use Rattle.tt_happenings.proofs.Flows.{Flow, flow_same, opened}
 use Rattle.tt_happenings.proofs.Tables.{by_set, set_here}
@@ -62,14 +62,14 @@ module _ (table : ChannelTable) (id : List ℕ) where
       where
         go : (b : Bool) → bytes_eq channel.other id ≡ b → After (with_channel table channel.other (reads reader (before ++ bytes) ended)) (if b then bytes else []) []
         go true here =
-            let same_id : channel.other ≡ id = (bytes_eq-Decides channel.other id).0 here in
+            let same_id : channel.other ≡ id = deciding.same_text channel.other id here in
             opened
             (ap (bytes_at table) (sym same_id) ∙ ap bytes_in names ∙ ap bytes_of is)
             (ap (bytes_at (with_channel table channel.other (reads reader (before ++ bytes) ended))) (sym same_id) ∙ ap bytes_in (set_here channel.other table.channels (reads reader (before ++ bytes) ended) reader names))
             refl
         go false here =
             elsewhere channel.other (reads reader (before ++ bytes) ended)
-            (λ is. let both : true ≡ false = sym ((bytes_eq-Decides channel.other id).1 (sym is)) ∙ here in cc both)
+            (λ is. deciding.texts_differ channel.other id here (sym is))
 
     by_reader : (channel : Channel) (found : Option Channel) → channel_of table text ≡ Some channel → channel_of table channel.other ≡ found → Puts (puts_at table channel.other bytes found)
     by_reader channel None there names = refused _
@@ -147,13 +147,13 @@ module _ (table : ChannelTable) (id : List ℕ) where
           go : (b : Bool) → bytes_eq text id ≡ b
               → After (with_channel table text (takes_line channel bytes ended).channel) [] (if b then taken_with (has_newline (bytes_at table id)) (takes_line channel bytes ended).reply else [])
           go true same_id =
-              let mine : text ≡ id = (bytes_eq-Decides text id).0 same_id in
+              let mine : text ≡ id = deciding.same_text text id same_id in
               let newline : has_newline (bytes_at table id) ≡ has_line bytes = ap has_newline (ap (bytes_at table) (sym mine) ∙ ap bytes_in there ∙ ap bytes_of is) in
               subst (λ one. After (with_channel table text (takes_line channel bytes ended).channel) [] (taken_with one (takes_line channel bytes ended).reply)) (sym newline)
               (got mine (has_line bytes) refl)
           go false other =
               elsewhere text (takes_line channel bytes ended).channel
-              (λ mine. let both : true ≡ false = sym ((bytes_eq-Decides text id).1 (sym mine)) ∙ other in cc both)
+              (λ mine. deciding.texts_differ text id other (sym mine))
 
     by_reader_end : (channel : Channel) → channel_of table text ≡ Some channel → Gets (gets table text channel)
     by_reader_end channel there = go channel.end refl

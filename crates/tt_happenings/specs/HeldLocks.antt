@@ -22,12 +22,9 @@ hold_in t (Some lock) = if is_among lock.holders t then Some (is_alone lock.kind
 abbrev pub hold_of : State → ℕ → (text : List ℕ) → Option Bool
 hold_of state t text = hold_in t (lock_of state.locks text)
 
--- the thread holds the lock alone, or to read
-abbrev pub HoldsAlone : State → ℕ → (text : List ℕ) → Type 0
-HoldsAlone state t text = hold_of state t text ≡ Some true
-
-abbrev pub Reads : State → ℕ → (text : List ℕ) → Type 0
-Reads state t text = hold_of state t text ≡ Some false
-
+-- the thread holds the lock, and holds it alone
 abbrev pub Holds : State → ℕ → (text : List ℕ) → Type 0
 Holds state t text = IsSome (hold_of state t text)
+
+abbrev pub HoldsAlone : State → ℕ → (text : List ℕ) → Type 0
+HoldsAlone state t text = hold_of state t text ≡ Some true

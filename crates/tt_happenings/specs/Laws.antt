@@ -8,11 +8,12 @@ use Rattle.tt_calls.specs.declared.request.Request.TheVariants as ask
 use Rattle.tt_calls.specs.declared.start.Start.{Start}
 use Rattle.tt_chans.specs.Answers.{id_of}
 use Rattle.tt_chans.specs.Channels.{is_standard}
-use Rattle.tt_happenings.specs.Actions.{Action, Acts, NumbersFit, Reached, after, moments}
+use Rattle.tt_happenings.specs.Actions.{Action, Acts, CanHappen, NumbersFit, Reached, after, moments}
 use Rattle.tt_happenings.specs.ArrayCalls.{array_calls, array_replies, array_steps, arrays_after}
 use Rattle.tt_happenings.specs.Happenings.{Happening as happening, happenings}
 use Rattle.tt_happenings.specs.HeldArrays.{EndsHold, HoldsArray, IsOn, array_named}
 use Rattle.tt_happenings.specs.HeldLocks.{Holds, HoldsAlone, hold_of}
+use Rattle.tt_happenings.specs.KeptChannels.{AreKept}
 use Rattle.tt_happenings.specs.Owners.{GivesUp, OwnsChannel, asks_owner, no_channel}
 use Rattle.tt_happenings.specs.Pipes.{bytes_at, put, taken}
 use Rattle.tt_locks.specs.Laws.{HaveOneHolder}
@@ -20,6 +21,11 @@ use Rattle.tt_shared.specs.Acts.{act}
 use Rattle.tt_shared.specs.Enabled.{enabled}
 use Rattle.tt_shared.specs.State.{State, refuses, start_state}
 use Rattle.tt_shared.specs.declared.applied.Line.{Line}
+
+-- a run goes on by an action that can happen
+abbrev pub GoesOnLaw : Type 0
+GoesOnLaw =
+    (state : State) (action : Action) → Reached state → CanHappen state action → Reached (after state action)
 
 -- ---- shared variables ----
 
@@ -111,6 +117,10 @@ StaysOwnLaw =
     OwnsChannel old t text →
     All (λ moment. ¬ (GivesUp t text moment.action)) (moments old actions) →
     OwnsChannel new t text
+
+-- a channel that is not closed is owned by a thread that lives, or nobody's, or it is on its way to one that lives
+abbrev pub ChannelsAreKeptLaw : Type 0
+ChannelsAreKeptLaw = (state : State) → Reached state → NumbersFit state → AreKept state
 
 -- ---- pipes ----
 

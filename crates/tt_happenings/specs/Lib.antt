@@ -1,8 +1,10 @@
 pub mod Actions
 pub mod ArrayCalls
+pub mod Example
 pub mod Happenings
 pub mod HeldArrays
 pub mod HeldLocks
+pub mod KeptChannels
 pub mod Laws
 pub mod Orderly
 pub mod Owners

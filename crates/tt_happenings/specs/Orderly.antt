@@ -9,6 +9,7 @@ use Rattle.tt_happenings.specs.Actions.{CanHappen, Moment, NumbersFit, Reached, 
 use Rattle.tt_happenings.specs.Happenings.{Happening as happening, happened}
 use Rattle.tt_happenings.specs.HeldArrays.{EndsHold, HoldsArray, IsOn}
 use Rattle.tt_happenings.specs.HeldLocks.{Holds, hold_of}
+use Rattle.tt_happenings.specs.KeptChannels.{AreKept}
 use Rattle.tt_happenings.specs.Laws.{ArraysStandAlone, IsNotFound, LocksHaveOneHolder}
 use Rattle.tt_happenings.specs.Owners.{GivesUp, OwnsChannel, asks_owner}
 use Rattle.tt_happenings.specs.Pipes.{Flows, bytes_at, put_at, taken_at}
@@ -52,7 +53,8 @@ pub record KeepsLocks (moment : Moment) : Type 0 where
 
 -- ---- channels ----
 
--- a channel answers its owner, who owns it until it gives it up; and of the bytes of a pipe none is lost
+-- A channel answers its owner, who owns it until it gives it up; of the bytes of a pipe none is lost; and a channel that
+-- is not closed is owned by a thread that lives, or nobody's, or on its way to one that lives.
 pub record KeepsChannels (moment : Moment) : Type 0 where
   pub refused :
       (call : ChanCall) →
@@ -73,6 +75,7 @@ pub record KeepsChannels (moment : Moment) : Type 0 where
       (bytes_at (later moment).channels id)
       (put_at id moment)
       (taken_at id moment)
+  pub kept : AreKept (later moment)
 
 -- ---- an action ----
 

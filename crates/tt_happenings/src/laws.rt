@@ -1,6 +1,12 @@
 //! Laws about the definitions, each proved as the contract of a function that does nothing.
+ghost use Rattle.tt_happenings.specs.Example.{WorkedHappenings};
 ghost use Rattle.tt_happenings.specs.Orderly.{OrderlyLaw};
-ghost use Rattle.tt_happenings.specs.Laws.{ArraysAloneLaw, HeldAloneLaw, HoldStaysLaw, NotOwnedLaw, OneHolderLaw, OthersWaitLaw, PipeLaw, StaysOwnLaw};
+ghost use Rattle.tt_happenings.specs.Laws.{ArraysAloneLaw, ChannelsAreKeptLaw, GoesOnLaw, HeldAloneLaw, HoldStaysLaw, NotOwnedLaw, OneHolderLaw, OthersWaitLaw, PipeLaw, StaysOwnLaw};
+
+/// A run goes on by an action that can happen.
+pub fn runs_go_on()
+    ensures { GoesOnLaw }
+{}
 
 /// What threads do to arrays is what their calls on shared variables alone come to.
 pub fn arrays_stand_alone()
@@ -37,6 +43,11 @@ pub fn owners_stay()
     ensures { StaysOwnLaw }
 {}
 
+/// A channel that is not closed has an owner that lives, or none, or is on its way to one.
+pub fn channels_are_kept()
+    ensures { ChannelsAreKeptLaw }
+{}
+
 /// What is taken from a pipe is the front of what is put into it.
 pub fn pipes_keep_their_bytes()
     ensures { PipeLaw }
@@ -45,4 +56,9 @@ pub fn pipes_keep_their_bytes()
 /// Each action of a run is orderly.
 pub fn runs_are_orderly()
     ensures { OrderlyLaw }
+{}
+
+/// What happens in runs of the example.
+pub fn worked_happenings()
+    ensures { WorkedHappenings }
 {}
