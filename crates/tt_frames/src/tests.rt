@@ -203,7 +203,7 @@ fn answer(
     match want {
         Want::RunWords { words } => Ok(Got::Own { words }),
         Want::Ask { request } => {
-            tell(out, request.get())?;
+            tell_request(out, request.get())?;
             let back = replies.get(*asked).copied().unwrap_or(Back::Go);
             *asked = asked.saturating_add(1);
             Ok(Got::Reply(reply_of(alloc, back)?))
@@ -240,22 +240,22 @@ fn reply_of(alloc: Global, back: Back) -> Result<Reply, NoMemory> {
 // A variable whose name begins with `::` is told.
 fn tell_global(out: &mut Text, name: &Text, value: &Text) -> Result<(), NoMemory> {
     if name.as_bytes().starts_with(b"::") {
-        tell_line(out, &[name.as_bytes(), b": ", value.as_bytes()])?;
+        out.push_bytes(name.as_bytes())?;
+        tell(out, b": ", value.as_bytes())?;
     }
     Ok(())
 }
 
-fn tell_line(out: &mut Text, parts: &[&[u8]]) -> Result<(), NoMemory> {
-    for part in parts {
-        out.push_bytes(part)?;
-    }
+fn tell(out: &mut Text, word: &[u8], text: &[u8]) -> Result<(), NoMemory> {
+    out.push_bytes(word)?;
+    out.push_bytes(text)?;
     out.push_bytes(b"\n")
 }
 
-fn tell(out: &mut Text, request: &Request) -> Result<(), NoMemory> {
+fn tell_request(out: &mut Text, request: &Request) -> Result<(), NoMemory> {
     match request {
         Request::WriteOut { text } | Request::WriteErr { text } => out.push_bytes(text.as_bytes()),
-        Request::Report { trace, .. } => tell_line(out, &[trace.as_bytes()]),
+        Request::Report { trace, .. } => tell(out, b"", trace.as_bytes()),
         Request::Tsv(call) => tell_hold(out, call.get()),
         Request::Pool(call) => tell_pool(out, call.get()),
         _ => Ok(()),
@@ -264,23 +264,26 @@ fn tell(out: &mut Text, request: &Request) -> Result<(), NoMemory> {
 
 fn tell_hold(out: &mut Text, call: &TsvCall) -> Result<(), NoMemory> {
     match call {
-        TsvCall::Hold { array } => tell_line(out, &[b"hold ", array.as_bytes()]),
-        TsvCall::Unhold { array } => tell_line(out, &[b"unhold ", array.as_bytes()]),
+        TsvCall::Hold { array } => tell(out, b"hold ", array.as_bytes()),
+        TsvCall::Unhold { array } => tell(out, b"unhold ", array.as_bytes()),
         TsvCall::Run { .. } => Ok(()),
     }
 }
 
 fn tell_pool(out: &mut Text, call: &PoolCall) -> Result<(), NoMemory> {
     match call {
-        PoolCall::Look { .. } => tell_line(out, &[b"look"]),
-        PoolCall::JobTake { .. } => tell_line(out, &[b"take"]),
-        PoolCall::JobDone { job, outcome, .. } => {
-            let mut buffer = Buffer::new();
-            let number = buffer.format(*job).as_bytes();
-            let code = code_number(outcome.code);
-            let value = outcome.value.as_bytes();
-            tell_line(out, &[b"done ", number, b" ", code, b" ", value])
-        }
+        PoolCall::Look { .. } => tell(out, b"look", b""),
+        PoolCall::JobTake { .. } => tell(out, b"take", b""),
+        PoolCall::JobDone { job, outcome, .. } => tell_done(out, *job, outcome),
         _ => Ok(()),
     }
+}
+
+fn tell_done(out: &mut Text, job: u64, outcome: &Outcome) -> Result<(), NoMemory> {
+    let mut buffer = Buffer::new();
+    out.push_bytes(b"done ")?;
+    out.push_bytes(buffer.format(job).as_bytes())?;
+    out.push_bytes(b" ")?;
+    out.push_bytes(code_number(outcome.code))?;
+    tell(out, b" ", outcome.value.as_bytes())
 }
