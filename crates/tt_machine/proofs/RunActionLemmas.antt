@@ -11,7 +11,7 @@ use Rattle.tt_machine.specs.RunActions.{FewChannelsLaw, HasActions, OrderlyStepL
 use Rattle.tt_shared.specs.State.{State}
 
 -- what a step does
-action_of : {old next : Machine} {number : ℕ} → Steps old number next → Action
+abbrev action_of : {old next : Machine} {number : ℕ} → Steps old number next → Action
 action_of {number = number} step = record { thread = number; request = step.can.request; line = step.line }
 
 shared_after : {old next : Machine} {number : ℕ} → (step : Steps old number next) → next.shared ≡ after old.shared (action_of step)
