@@ -1,5 +1,5 @@
 -- Where a system stands after a step.
-use Rattle.std.proofs.Common.{◌≡◌, ◌≢◌, ◌∙◌, ◌+◌, ◌*◌, ◌<◌, ◌≤◌, ◌-◌, ◌==◌, ◌&&◌, arith, length, ℕ, zero, suc, Bool, true, false, IsTrue, IsFalse, List, [], ◌∷◌, ◌++◌, Option, Some, None, IfSome, IfErr, OnOk, Result, is_err, Ok, Err, ◌⊎◌, inl, inr, is_none, ap, append-nil, append_assoc, refl, sym, subst}
+use Rattle.std.proofs.Common.{◌≡◌, ◌≢◌, ◌∙◌, ◌+◌, ◌*◌, ◌<◌, ◌≤◌, ◌-◌, ◌==◌, ◌&&◌, arith, length, ℕ, zero, suc, Bool, true, false, IsTrue, IsFalse, List, [], ◌∷◌, ◌++◌, Option, Some, None, IfSome, IfErr, OnOk, Result, is_err, Ok, Err, ◌⊎◌, inl, inr, is_none, is_some, not, ap, append-nil, append_assoc, refl, sym, subst}
 use Rattle.std.specs.Option.{option_map}
 use Rattle.tt_calls.specs.declared.reply.Reply.{Reply}
 use Rattle.tt_calls.specs.declared.request.Request.{Request}
@@ -30,7 +30,7 @@ use Rattle.tt_threads.specs.Rows.{is_living}
 use Rattle.tt_threads.specs.declared.row.Row.{Row}
 use Rattle.tt_core.proofs.CrewLemmas as crew
 use Rattle.tt_core.proofs.CrewLemmas.{joined-placed, replied-placed, stands-asking, stands-for}
-use Rattle.tt_core.specs.Crew.{AllBegin, AreBusy, AreIdle, ArePlaced, Begins, able as can_be, ended, IsReadyAfter, IsReplied, Places, StandsIn, asked_by, can_act_at, interp_of, is_ready}
+use Rattle.tt_core.specs.Crew.{AllBegin, AreBusy, AreIdle, ArePlaced, Begins, able as can_be, ended as has_ended, IsReadyAfter, IsReplied, Places, StandsIn, asked_by, can_act_at, interp_of, is_ready}
 use Rattle.tt_core.specs.Faithful.{AsksLine, HasWritten, IsCutShort, IsFaithful, StepWrites, is_cut}
 use Rattle.tt_core.specs.Stage.{Began, IsNextAfter, OfMachine, Stage}
 use Rattle.tt_core.specs.Standing.{IsAt, IsIts, IsStanding, Stands}
@@ -50,6 +50,19 @@ true-false is also = cc
 none-of : {X : Type 0} (found : Option X) → IsTrue (is_none found) → found ≡ None
 none-of None is = refl
 none-of (Some x) is = absurd (cc is)
+
+pub some-code : (found : Option ℕ) → is_some found ≡ true → (code : ℕ) × (found ≡ Some code)
+some-code None is = absurd (cc is)
+some-code (Some code) is = (code, refl)
+
+pub not-not : (b : Bool) → IsFalse b → IsFalse (not (not b))
+not-not true is = absurd (cc is)
+not-not false is = refl
+
+-- somebody is ready, where somebody is next
+pub some-ready : (ready : ℕ → Bool) (after : ℕ) (found : Option ℕ) → IsFalse (is_none found) → IsReadyAfter ready after found → (number : ℕ) × IsTrue (ready number)
+some-ready ready after None is next = absurd (cc is)
+some-ready ready after (Some number) is next = (number, next.0)
 
 -- what a request that can be answered has
 pub record Able {S K E : Type 0} (desk : Ground S K E) (number : ℕ) (request : Request) : Type 0 where
@@ -688,8 +701,8 @@ module _ {S K E : Type 0} (held : S → Option (List ℕ)) (got_out : K → Opti
 
   busy-goes : (desk : Ground S K E) (places : Places) (machine : Machine)
       → IsIts desk.shared (unread held desk.devices) places machine → AreBusy desk places → IsStuck machine → ⊥
-  busy-goes desk places machine its (ended over_is) stuck = some-none (sym over_is ∙ rw its.is_shared stuck.going)
-  busy-goes desk places machine its (can_be {number = number} is) stuck =
+  busy-goes desk places machine its (has_ended code over_is) stuck = some-none (sym over_is ∙ rw its.is_shared stuck.going)
+  busy-goes desk places machine its (can_be number is) stuck =
       not_barred machine number (ready-at desk number places machine its is) (stuck.barred number)
 
   pub not-stuck : (setup : Setup) (began : Began S K E) (desk : Ground S K E) (places : Places)

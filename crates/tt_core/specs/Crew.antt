@@ -107,8 +107,8 @@ pub record AreIdle {S K E : Type 0} (desk : Ground S K E) (places : Places) : Ty
 
 -- the run is over, or somebody's request can be answered
 pub data AreBusy {S K E : Type 0} (desk : Ground S K E) (places : Places) : Type 0 where
-  ended : {code : ℕ} → desk.shared.over ≡ Some code → AreBusy desk places
-  able : {number : ℕ} → IsTrue (is_ready desk places number) → AreBusy desk places
+  ended : (code : ℕ) → desk.shared.over ≡ Some code → AreBusy desk places
+  able : (number : ℕ) → IsTrue (is_ready desk places number) → AreBusy desk places
 
 -- the first that is ready above a number, and else the first up to it
 abbrev pub IsReadyAfter : (ready : ℕ → Bool) → (after : ℕ) → Option ℕ → Type 0

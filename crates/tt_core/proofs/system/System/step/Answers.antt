@@ -1,5 +1,7 @@
-use Rattle.std.proofs.Common.{◌≡◌, ◌∙◌, false, None, Some, Err, ap, is_err, sym}
+use Rattle.std.proofs.Common.{◌≡◌, ◌∙◌, ◌<◌, false, None, Some, Err, ap, is_err, length, subst, sym}
 use Rattle.tt_core.specs.Crew.{AllBegin, IsReplied, Places, asked_by}
+use Rattle.tt_core.specs.Stage.{Stage}
+use Rattle.tt_schedule.specs.ScheduleText.{most_steps}
 use Rattle.tt_core.proofs.StandLemmas.{asked-could, asked-line, could-be, failed, keeps-to, on-ok, ran-out, unable, unasked, went-on, wrote}
 use Rattle.tt_core.proofs.system.System.step.Goals as goal
 use Rattle.tt_desk.specs.declared.fault.StepFault.TheVariants as fault
@@ -90,4 +92,4 @@ returns-in-Err-clause-a_piece g c e = λ was_none.
 pub returns-else-is_err-clause-orderly : goal.returns-else-is_err-clause-orderly
 returns-else-is_err-clause-orderly g c =
     rw (← c.self.view_is) (keeps-to g.S.Source.held g.K.Sink.got g.E.Sink.got c.self.inside.setup c.self.inside.began c.self.inside.desk c.act.new.self c.args.thread c.in-Some-request.request.now c.in-Ok.acted c.self.inside.crew
-    c.in-Some-request.ensures.asks c.in-Ok.ensures.able c.in-Ok.ensures.acts (rw c.self.view_is c.requires) c.self.invariant)
+    c.in-Some-request.ensures.asks c.in-Ok.ensures.able c.in-Ok.ensures.acts (subst (λ (stage : Stage g.row.S.Denot g.row.K.Denot g.row.E.Denot). length stage.desk.schedule < most_steps) (sym c.self.view_is) c.requires) c.self.invariant)
