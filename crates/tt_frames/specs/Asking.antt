@@ -1,18 +1,13 @@
 -- Commands that ask what the threads share, and what follows the replies (thread(n), tsv(n), tpool(n), puts(n),
 -- gets(n)).
-use Rattle.std.specs.Prelude.{ℕ, Bool, true, false, List, [], ◌∷◌, ◌++◌, codes, length, decimal, Option, Some, None}
-use Rattle.tt_calls.specs.declared.chan_call.ChanCall.{ChanCall}
+use Rattle.std.specs.Prelude.{ℕ, true, false, List, [], ◌∷◌, ◌++◌, codes, length, decimal, Option, Some, None}
 use Rattle.tt_calls.specs.declared.chan_call.ChanCall.TheVariants as chan
-use Rattle.tt_calls.specs.declared.lock_call.LockCall.{LockCall}
 use Rattle.tt_calls.specs.declared.lock_call.LockCall.TheVariants as lock
-use Rattle.tt_calls.specs.declared.outcome.Outcome.{Outcome}
-use Rattle.tt_calls.specs.declared.pool_call.PoolCall.{PoolCall}
 use Rattle.tt_calls.specs.declared.pool_call.PoolCall.TheVariants as pool
 use Rattle.tt_calls.specs.declared.reply.Reply.{Reply}
 use Rattle.tt_calls.specs.declared.reply.Reply.TheVariants as reply
 use Rattle.tt_calls.specs.declared.request.Request.{Request}
 use Rattle.tt_calls.specs.declared.request.Request.TheVariants as ask
-use Rattle.tt_calls.specs.declared.tsv_call.TsvCall.{TsvCall}
 use Rattle.tt_calls.specs.declared.tsv_call.TsvCall.TheVariants as tsv
 use Rattle.tt_commands.specs.declared.call.Call.{Call}
 use Rattle.tt_commands.specs.declared.call.Call.TheVariants as call

@@ -7,7 +7,7 @@ use Rattle.tt_control.specs.declared.control.Control.{Control}
 use Rattle.tt_control.specs.declared.control.Control.TheVariants as control
 use Rattle.tt_endings.specs.Endings.{code_of, failed, failure, fine, number_of, text_of}
 use Rattle.tt_endings.specs.declared.ending.Ending.{Ending}
-use Rattle.tt_endings.specs.declared.ending.Ending.TheVariants.{Fine, Failed, Raised, Returned, Broke, Continued}
+use Rattle.tt_endings.specs.declared.ending.Ending.TheVariants.{Failed, Raised, Returned, Broke, Continued}
 use Rattle.tt_plans.specs.Plans.{Calls, Goes}
 use Rattle.tt_trace.specs.Lines.{started_within}
 use Rattle.tt_frames.specs.Asking.{called}
@@ -15,7 +15,6 @@ use Rattle.tt_frames.specs.Vocabulary.{OnEnding, Then, on_fine, on_truth, passed
 use Rattle.tt_frames.specs.declared.job.Job.TheVariants as job
 use Rattle.tt_frames.specs.declared.job.Loop.TheVariants as loop
 use Rattle.tt_frames.specs.declared.job.Purpose.TheVariants.{Condition, Value}
-use Rattle.tt_frames.specs.declared.state.Counts.{Counts}
 
 -- the tests and bodies of if(n), and last its else: the first body whose test is true
 abbrev pub clauses : List (List ℕ) → Then

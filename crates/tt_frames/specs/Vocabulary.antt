@@ -1,6 +1,5 @@
 -- The words that plans are written in.
 use Rattle.std.specs.Prelude.{ℕ, List, [], bytes_eq, codes, if◌then◌else◌, Option, Some, None}
-use Rattle.tt_calls.specs.declared.outcome.Outcome.{Outcome}
 use Rattle.tt_endings.specs.Endings.{fine, of_value}
 use Rattle.tt_endings.specs.declared.ending.Ending.{Ending}
 use Rattle.tt_endings.specs.declared.ending.Ending.TheVariants.{Fine}

@@ -1,5 +1,4 @@
 -- The wait for jobs of a pool (tpool(n), tpool::wait).
-use Rattle.std.specs.Prelude.{ℕ, List, Option}
 use Rattle.tt_calls.specs.declared.pool_call.PoolCall.TheVariants.{Look}
 use Rattle.tt_calls.specs.declared.reply.Reply.{Reply}
 use Rattle.tt_calls.specs.declared.reply.Reply.TheVariants.{Lists}
