@@ -1,6 +1,5 @@
 -- What words begin with is one thing.
-use Rattle.std.proofs.Common.{◌≡◌, ◌≢◌, ◌==◌, ◌≤◌, ◌<◌, ◌-◌, ℕ, true, false, List, [], ◌∷◌, ◌++◌, length, map, take, drop, get_or, bytes_eq, Option, Some, None, if◌then◌else◌, refl, sym, ap, ◌∙◌, arith}
-use Rattle.std.proofs.Math.Seq.{take-length}
+use Rattle.std.proofs.Common.{◌≡◌, ◌≢◌, ◌==◌, ℕ, true, List, [], ◌∷◌, ◌++◌, bytes_eq, Option, Some, None, if◌then◌else◌, refl, sym, ap, ◌∙◌}
 use Rattle.tt_words.specs.Splitting.{BeginsWith, next, joined, Given, is_dashed, mark, name_of}
 use Rattle.tt_words.specs.declared.setting.Setting.{Setting}
 use Rattle.tt_words.specs.declared.setting.Setting.TheVariants.{Workers, Steps, Limit, Record, Replay, Generate}
@@ -124,11 +123,6 @@ pub front_no_mark : {words rest : List (List ℕ)} {given : Given} →
 front_no_mark (next setting e plain) = λ m. mark_no_name setting (sym m ∙ e)
 front_no_mark (joined setting {word} {value} e) = λ m. mark_not_joined setting value (sym m ∙ e)
 
--- the words that follow are fewer
-pub front_shorter : {words rest : List (List ℕ)} {given : Given} → BeginsWith words given rest → length rest < length words
-front_shorter (next setting e plain) = omega arith
-front_shorter (joined setting e) = omega arith
-
 -- an option with its value
 abbrev pub giving : Setting → List ℕ → Given
 giving setting value = record { setting = setting; value = value }
@@ -143,31 +137,3 @@ one_front (joined s {word} {value} e) (next t f flat) = absurd (name_not_joined 
 one_front (joined s {word} {value} e) (joined t {word = same} {value = second} f) =
     let parts = one_joined s t value second (sym e ∙ f) in
     (ap (λ (of : Setting). giving of value) parts.0 ∙ ap (giving t) parts.1, refl)
-
--- ---- the words that the code holds
-
--- what is left after the first
-rest_is : {S : Type 0} (x : S) (xs : List S) → take (length (x ∷ xs) - 1) (drop 1 (x ∷ xs)) ≡ xs
-rest_is x xs = let n : length (x ∷ xs) - 1 ≡ length xs = omega arith in rw (n, take-length xs) refl
-
--- words, of which there is one at least, are the first and the rest
-pub cut_texts : {S : Type 0} (f : S → List ℕ) (xs : List S) (x : S) → 1 ≤ length xs → x ≡ get_or xs 0 x →
-    map f xs ≡ f x ∷ map f (take (length xs - 1) (drop 1 xs))
-cut_texts f [] x some e = absurd (omega arith)
-cut_texts f (y ∷ ys) x some e = rw (rest_is y ys, e) refl
-
--- an option with its value in the next word
-pub begins_next : {S : Type 0} (f : S → List ℕ) (setting : Setting) (words : List S) (item : S) (value : List ℕ) →
-    1 ≤ length words → item ≡ get_or words 0 item → value ≡ f item → is_dashed value ≡ false →
-    BeginsWith (name_of setting ∷ map f words) (record { setting = setting; value = value })
-    (map f (take (length words - 1) (drop 1 words)))
-begins_next f setting words item value some first is plain =
-    rw (cut_texts f words item some first, ← is) (next setting refl plain)
-
--- an option with its value after `=`
-pub begins_joined : {S : Type 0} (f : S → List ℕ) (setting : Setting) (words : List S) (item : S) (word value : List ℕ) →
-    1 ≤ length words → item ≡ get_or words 0 item → word ≡ f item → word ≡ name_of setting ++ (61 ∷ value) →
-    BeginsWith (map f words) (record { setting = setting; value = value })
-    (map f (take (length words - 1) (drop 1 words)))
-begins_joined f setting words item word value some first is spelled =
-    rw (cut_texts f words item some first, ← is) (joined setting spelled)

@@ -1,7 +1,13 @@
 pub mod FrontLemmas
 pub mod SplitLemmas
-pub mod ValueLemmas
 pub mod NumberLemmas
 pub mod ReadingLemmas
 pub mod OneLemmas
 pub mod OrderLemmas
+pub mod RowLemmas
+pub mod RuleLemmas
+pub mod StepLemmas
+pub mod WalkLemmas
+pub mod KindLemmas
+pub mod FaultLemmas
+pub mod ParseLemmas

@@ -1,10 +1,14 @@
 -- Words ask for one thing at most.
-use Rattle.std.proofs.Common.{ℕ, List, Option, Some, None, IfSome, IfNone, subst}
+use Rattle.std.proofs.Common.{◌≡◌, ◌≤◌, ◌<◌, ℕ, List, length, Option, Some, None, IfSome, IfNone, refl, sym, subst, arith}
 use Rattle.std.specs.Option.{option_map}
-use Rattle.tt_words.specs.Asked.{Asked, AsksFor, IsReading, Reads, values_in}
+use Rattle.tt_words.specs.Asked.{Asked, AsksFor, IsReading, Reads, values_in, values_of}
+use Rattle.clap.specs.declared.parser.matches.ArgMatches.{ArgMatches}
+use Rattle.tt_words.specs.Program.{bare}
+use Rattle.tt_words.specs.declared.setting.Setting.TheVariants.{Workers, Steps, Limit, Record, Replay, Generate}
 use Rattle.tt_words.specs.Splitting.{Given, Splits}
-use Rattle.tt_words.specs.Told.{IsOnce, told_asked}
+use Rattle.tt_words.specs.Told.{HasParts, IsOnceBy, given_in, told_asked, values_by}
 use Rattle.tt_words.specs.declared.asked.Asked.{Asked as CodeAsked}
+use Rattle.tt_words.specs.declared.setting.Setting.{Setting}
 use Rattle.tt_words.proofs.SplitLemmas.{one_split}
 
 -- what words ask for, by the one way in which they split
@@ -16,14 +20,14 @@ asks_of words options ordinary asked splits reads =
     (subst (λ (w : List (List ℕ)). AsksFor (values_in reads.options) w asked) same.1 reads.asks)
 
 pub once_of : (words : List (List ℕ)) (options : List Given) (ordinary : List (List ℕ)) (asked : Asked) →
-    Splits words options ordinary → Reads words asked → IsOnce options
+    Splits words options ordinary → Reads words asked → ((setting : Setting) → length (values_of setting options) ≤ 1)
 once_of words options ordinary asked splits reads =
     let same = one_split words reads.options options reads.ordinary ordinary reads.splits splits in
-    subst IsOnce same.0 reads.once
+    subst (λ (o : List Given). (setting : Setting) → length (values_of setting o) ≤ 1) same.0 reads.once
 
 -- what the code answers to words that split, where each option comes at most once
 pub reading_is : (words : List (List ℕ)) (options : List Given) (ordinary : List (List ℕ)) →
-    Splits words options ordinary → IsOnce options → (asked : Option CodeAsked) →
+    Splits words options ordinary → ((setting : Setting) → length (values_of setting options) ≤ 1) → (asked : Option CodeAsked) →
     IfSome asked (λ a. AsksFor (values_in options) ordinary (told_asked a)) →
     IfNone asked ((a : Asked) → ¬ (AsksFor (values_in options) ordinary a)) →
     IsReading words (option_map told_asked asked)
@@ -36,3 +40,39 @@ reading_is words options ordinary splits once (Some asked) found none = record {
 }
 reading_is words options ordinary splits once None found none =
     λ asked reads. none asked (asks_of words options ordinary asked splits reads)
+
+-- ---- what was found
+
+if_none : {X : Type 0} (o : Option X) (P : Type 0) → P → IfNone o P
+if_none None P p = p
+if_none (Some x) P p = tt
+
+few_not_many : (n : ℕ) → n ≤ 1 → 1 < n → ⊥
+few_not_many n few many = omega arith
+
+-- an option that comes twice
+pub not_once : {X : Type 0} (o : Option X) (given : Setting → List (List ℕ)) (setting : Setting) →
+    1 < length (given setting) → IfNone o (¬ (IsOnceBy given))
+not_once o given setting many =
+    if_none o (¬ (IsOnceBy given)) (λ once. few_not_many (length (given setting)) (once setting) many)
+
+-- the values that were found are those of the options
+pub values_are : (words : List (List ℕ)) (matches : ArgMatches) (parts : HasParts words matches) →
+    values_by (λ setting. given_in matches (bare setting)) ≡ values_in parts.options
+values_are words matches parts =
+    rw (
+      parts.of_options Workers,
+      parts.of_options Steps,
+      parts.of_options Limit,
+      parts.of_options Record,
+      parts.of_options Replay,
+      parts.of_options Generate,
+    ) refl
+
+pub once_is : (words : List (List ℕ)) (matches : ArgMatches) (parts : HasParts words matches) →
+    IsOnceBy (λ setting. given_in matches (bare setting)) → (setting : Setting) → length (values_of setting parts.options) ≤ 1
+once_is words matches parts once setting = subst (λ (v : List (List ℕ)). length v ≤ 1) (parts.of_options setting) (once setting)
+
+pub once_back : (words : List (List ℕ)) (matches : ArgMatches) (parts : HasParts words matches) →
+    ((setting : Setting) → length (values_of setting parts.options) ≤ 1) → IsOnceBy (λ setting. given_in matches (bare setting))
+once_back words matches parts once = λ setting. subst (λ (v : List (List ℕ)). length v ≤ 1) (sym (parts.of_options setting)) (once setting)

@@ -1,4 +1,5 @@
 pub mod Asked
 pub mod Laws
+pub mod Program
 pub mod Splitting
 pub mod Told

@@ -68,8 +68,10 @@ pub enum Asked<'a> {
 
 /// What the options and the ordinary words ask for; `None` exactly where they ask for nothing.
 pub(crate) fn asked_by<'a>(values: &Values<'a>, ordinary: Vec<&'a str>) -> Option<Asked<'a>>
-    ensures found { IfSome result (λ asked. spec.AsksFor (told_values values.now) (map text_of ordinary.entry.items) (told_asked asked)) }
-    ensures none { IfNone result ((asked : spec.Asked) → ¬ spec.AsksFor (told_values values.now) (map text_of ordinary.entry.items) asked) }
+    ensures found { IfSome result (λ asked.
+        spec.AsksFor (told_values values.now) (map text_of ordinary.entry.items) (told_asked asked)) }
+    ensures none { IfNone result ((asked : spec.Asked) →
+        ¬ spec.AsksFor (told_values values.now) (map text_of ordinary.entry.items) asked) }
 {
     match (values.replay, values.generate) {
         (None, None) => match read_plain(values, ordinary) {
@@ -90,8 +92,10 @@ pub(crate) fn asked_by<'a>(values: &Values<'a>, ordinary: Vec<&'a str>) -> Optio
 
 /// A run on workers, if that is asked for.
 fn read_plain<'a>(values: &Values<'a>, ordinary: Vec<&'a str>) -> Option<Plain<'a>>
-    ensures found { IfSome result (λ plain. spec.IsPlain (told_values values.now) (map text_of ordinary.entry.items) (told_plain plain)) }
-    ensures none { IfNone result ((plain : spec.Plain) → ¬ spec.IsPlain (told_values values.now) (map text_of ordinary.entry.items) plain) }
+    ensures found { IfSome result (λ plain.
+        spec.IsPlain (told_values values.now) (map text_of ordinary.entry.items) (told_plain plain)) }
+    ensures none { IfNone result ((plain : spec.Plain) →
+        ¬ spec.IsPlain (told_values values.now) (map text_of ordinary.entry.items) plain) }
 {
     if values.replay.is_some() || values.generate.is_some() {
         return None;
@@ -113,8 +117,10 @@ fn read_plain<'a>(values: &Values<'a>, ordinary: Vec<&'a str>) -> Option<Plain<'
 
 /// A replay, if that is asked for.
 fn read_replay<'a>(values: &Values<'a>, ordinary: Vec<&'a str>) -> Option<Replay<'a>>
-    ensures found { IfSome result (λ replay. spec.IsReplay (told_values values.now) (map text_of ordinary.entry.items) (told_replay replay)) }
-    ensures none { IfNone result ((replay : spec.Replay) → ¬ spec.IsReplay (told_values values.now) (map text_of ordinary.entry.items) replay) }
+    ensures found { IfSome result (λ replay.
+        spec.IsReplay (told_values values.now) (map text_of ordinary.entry.items) (told_replay replay)) }
+    ensures none { IfNone result ((replay : spec.Replay) →
+        ¬ spec.IsReplay (told_values values.now) (map text_of ordinary.entry.items) replay) }
 {
     if values.workers.is_some() || values.steps.is_some() {
         return None;
@@ -135,8 +141,10 @@ fn read_replay<'a>(values: &Values<'a>, ordinary: Vec<&'a str>) -> Option<Replay
 
 /// A run of a script that is made of a number, if that is asked for.
 fn read_generate<'a>(values: &Values<'a>, ordinary: &[&'a str]) -> Option<Generate<'a>>
-    ensures found { IfSome result (λ generate. spec.IsGenerate (told_values values.now) (map text_of ordinary.now) (told_generate generate)) }
-    ensures none { IfNone result ((generate : spec.Generate) → ¬ spec.IsGenerate (told_values values.now) (map text_of ordinary.now) generate) }
+    ensures found { IfSome result (λ generate.
+        spec.IsGenerate (told_values values.now) (map text_of ordinary.now) (told_generate generate)) }
+    ensures none { IfNone result ((generate : spec.Generate) →
+        ¬ spec.IsGenerate (told_values values.now) (map text_of ordinary.now) generate) }
 {
     if values.workers.is_some() || values.replay.is_some() {
         return None;
@@ -171,8 +179,10 @@ fn file(value: Option<&str>) -> Option<Option<&str>>
 
 /// The script and its arguments; `None` exactly where there is no word, or the first is empty.
 fn script<'a>(ordinary: Vec<&'a str>) -> Option<(&'a str, Vec<&'a str>)>
-    ensures found { IfSome result (λ found. spec.HasScript (map text_of ordinary.entry.items) found.0.now (map text_of found.1.items)) }
-    ensures none { IfNone result ((script : List ℕ) (arguments : List (List ℕ)) → ¬ spec.HasScript (map text_of ordinary.entry.items) script arguments) }
+    ensures found { IfSome result (λ found.
+        spec.HasScript (map text_of ordinary.entry.items) found.0.now (map text_of found.1.items)) }
+    ensures none { IfNone result ((script : List ℕ) (arguments : List (List ℕ)) →
+        ¬ spec.HasScript (map text_of ordinary.entry.items) script arguments) }
 {
     let mut arguments = ordinary;
     if arguments.is_empty() {

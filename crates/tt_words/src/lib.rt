@@ -2,10 +2,10 @@
 #![tactic(auto)]
 
 mod asked;
-mod first;
+mod command;
 pub mod laws;
 mod numbers;
-mod parts;
+mod parsing;
 mod reading;
 mod setting;
 mod values;

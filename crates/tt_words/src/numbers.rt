@@ -14,7 +14,8 @@ pub(crate) fn number(value: Option<&str>, least: u64, most: u64, default: u64) -
     requires { default ≤ most }
     ensures found { IfSome result (λ number. HasNumber least most default (option_map text_of value.entry) number) }
     ensures within { IfSome result (λ number. number ≤ most) }
-    ensures none { IfNone result ((number : ℕ) → ¬ HasNumber least most default (option_map text_of value.entry) number) }
+    ensures none { IfNone result ((number : ℕ) →
+        ¬ HasNumber least most default (option_map text_of value.entry) number) }
 {
     match value {
         None => Some(default),

@@ -4,8 +4,8 @@ ghost use Rattle.tt_words.specs.Asked.{IsReading};
 ghost use Rattle.tt_words.specs.Told.{told_asked};
 
 use crate::asked::{Asked, asked_by};
-use crate::parts::split;
-use crate::values::read_values;
+use crate::parsing::parse;
+use crate::values::{ordinary, read_values};
 use std::alloc::Global;
 use tt_text::NoMemory;
 
@@ -21,12 +21,13 @@ use tt_text::NoMemory;
 pub fn read_words(alloc: Global, words: &[String]) -> Result<Option<Asked<'_>>, NoMemory>
     ensures { IfOk result (λ asked. IsReading (map string_bytes words.now) (option_map told_asked asked)) }
 {
-    let Some(parts) = split(alloc, words)? else {
+    let Some(matches) = parse(alloc, words)? else {
         return Ok(None);
     };
-    let Some(values) = read_values(&parts.options) else {
+    let Some(values) = read_values(&matches) else {
         return Ok(None);
     };
-    let asked = asked_by(&values, parts.ordinary);
+    let ordinary = ordinary(alloc, &matches)?;
+    let asked = asked_by(&values, ordinary);
     Ok(asked)
 }

@@ -1,10 +1,14 @@
-ghost use Rattle.std.specs.Prelude.{◌≡◌, ◌≤◌, ◌<◌, IfSome, IfNone, map, length};
+ghost use Rattle.std.specs.Prelude.{◌≡◌, ◌≤◌, ◌<◌, IfSome, IfNone, IfOk, map, length};
 ghost use Rattle.std.specs.Option.{option_map};
-ghost use Rattle.tt_words.specs.Asked.{first, values_in, values_of};
-ghost use Rattle.tt_words.specs.Told.{IsOnce, given_of, text_of, told_values};
+ghost use Rattle.tt_words.specs.Asked.{first};
+ghost use Rattle.tt_words.specs.Program.{bare, words_name};
+ghost use Rattle.tt_words.specs.Told.{IsOnceBy, given_in, text_of, told_values, values_by};
 
-use crate::first::Given;
+use crate::command::WORDS;
 use crate::setting::Setting;
+use clap::ArgMatches;
+use std::alloc::Global;
+use tt_text::NoMemory;
 
 /// What each option has.
 #[derive(Clone, Copy)]
@@ -18,35 +22,49 @@ pub(crate) struct Values<'a> {
 }
 
 /// What each option has; `None` exactly where one comes twice.
-pub(crate) fn read_values<'a>(options: &[Given<'a>]) -> Option<Values<'a>>
-    ensures found { IfSome result (λ values. told_values values ≡ values_in (map given_of options.now)) }
-    ensures once { IfSome result (λ values. IsOnce (map given_of options.now)) }
-    ensures none { IfNone result (¬ IsOnce (map given_of options.now)) }
+pub(crate) fn read_values<'a>(matches: &ArgMatches<'a>) -> Option<Values<'a>>
+    ensures found { IfSome result (λ values.
+        told_values values ≡ values_by (λ setting. given_in matches.now (bare setting))) }
+    ensures once { IfSome result (λ values. IsOnceBy (λ setting. given_in matches.now (bare setting))) }
+    ensures none { IfNone result (¬ IsOnceBy (λ setting. given_in matches.now (bare setting))) }
 {
     Some(Values {
-        workers: value(options, Setting::Workers)?,
-        steps: value(options, Setting::Steps)?,
-        limit: value(options, Setting::Limit)?,
-        kept: value(options, Setting::Record)?,
-        replay: value(options, Setting::Replay)?,
-        generate: value(options, Setting::Generate)?,
+        workers: value(matches, Setting::Workers)?,
+        steps: value(matches, Setting::Steps)?,
+        limit: value(matches, Setting::Limit)?,
+        kept: value(matches, Setting::Record)?,
+        replay: value(matches, Setting::Replay)?,
+        generate: value(matches, Setting::Generate)?,
     })
 }
 
 /// The value that an option is given, if it is given one; `None` exactly where it is given two.
-fn value<'a>(options: &[Given<'a>], setting: Setting) -> Option<Option<&'a str>>
-    ensures found { IfSome result (λ value. option_map text_of value ≡ first (values_of setting (map given_of options.now))) }
-    ensures once { IfSome result (λ value. length (values_of setting (map given_of options.now)) ≤ 1) }
-    ensures none { IfNone result (1 < length (values_of setting (map given_of options.now))) }
+fn value<'a>(matches: &ArgMatches<'a>, setting: Setting) -> Option<Option<&'a str>>
+    ensures found { IfSome result (λ value. option_map text_of value ≡ first (given_in matches.now (bare setting))) }
+    ensures once { IfSome result (λ value. length (given_in matches.now (bare setting)) ≤ 1) }
+    ensures none { IfNone result (1 < length (given_in matches.now (bare setting))) }
 {
-    let mut value = None;
-    for given in options {
-        if given.setting == setting {
-            if value.is_some() {
-                return None;
-            }
-            value = Some(given.value);
-        }
+    match matches.get_raw(setting.name()) {
+        None | Some([]) => Some(None),
+        Some([value]) => Some(Some(*value)),
+        Some(_) => None,
     }
-    Some(value)
+}
+
+/// The ordinary words.
+///
+/// `NoMemory` where memory for their list is refused.
+pub(crate) fn ordinary<'a>(
+    alloc: Global,
+    matches: &ArgMatches<'a>,
+) -> Result<Vec<&'a str>, NoMemory>
+    ensures { IfOk result (λ words. map text_of words.items ≡ given_in matches.now words_name) }
+{
+    match matches.get_raw(WORDS) {
+        Some(words) => {
+            let words = Vec::from_slice(alloc, words)?;
+            Ok(words)
+        }
+        None => Ok(Vec::new(alloc)),
+    }
 }

@@ -1,15 +1,29 @@
-use Rattle.std.proofs.Common.{◌≤◌, length, map}
-use Rattle.tt_words.specs.Asked.{values_of}
-use Rattle.tt_words.specs.Told.{given_of}
+use Rattle.tt_words.specs.Program.{bare}
+use Rattle.tt_words.specs.Told.{given_in}
 use Rattle.tt_words.specs.declared.setting.Setting.TheVariants.{Workers, Steps, Limit, Record, Replay, Generate}
+use Rattle.tt_words.proofs.ReadingLemmas.{not_once}
 use Rattle.tt_words.proofs.values.read_values.Goals as goal
 
-pub returns-clause-once : goal.returns-clause-once
-returns-clause-once c = λ setting. elim setting as (λ s. length (values_of s (map given_of c.args.options.now)) ≤ 1) [
-  | Workers ↦ c.in_ok-value.ensures.once
-  | Steps ↦ c.in_ok-value-2.ensures.once
-  | Limit ↦ c.in_ok-value-3.ensures.once
-  | Record ↦ c.in_ok-value-4.ensures.once
-  | Replay ↦ c.in_ok-value-5.ensures.once
-  | Generate ↦ c.in_ok-value-6.ensures.once
-]
+pub returns-in_err-value-clause-none : goal.returns-in_err-value-clause-none
+returns-in_err-value-clause-none c =
+    not_once c.from_residual.result (λ setting. given_in c.args.matches.now (bare setting)) Workers c.in_err-value.ensures.none
+
+pub returns-in_err-value-2-clause-none : goal.returns-in_err-value-2-clause-none
+returns-in_err-value-2-clause-none c =
+    not_once c.from_residual-in_err-value-2.result (λ setting. given_in c.args.matches.now (bare setting)) Steps c.in_err-value-2.ensures.none
+
+pub returns-in_err-value-3-clause-none : goal.returns-in_err-value-3-clause-none
+returns-in_err-value-3-clause-none c =
+    not_once c.from_residual-in_err-value-3.result (λ setting. given_in c.args.matches.now (bare setting)) Limit c.in_err-value-3.ensures.none
+
+pub returns-in_err-value-4-clause-none : goal.returns-in_err-value-4-clause-none
+returns-in_err-value-4-clause-none c =
+    not_once c.from_residual-in_err-value-4.result (λ setting. given_in c.args.matches.now (bare setting)) Record c.in_err-value-4.ensures.none
+
+pub returns-in_err-value-5-clause-none : goal.returns-in_err-value-5-clause-none
+returns-in_err-value-5-clause-none c =
+    not_once c.from_residual-in_err-value-5.result (λ setting. given_in c.args.matches.now (bare setting)) Replay c.in_err-value-5.ensures.none
+
+pub returns-in_err-value-6-clause-none : goal.returns-in_err-value-6-clause-none
+returns-in_err-value-6-clause-none c =
+    not_once c.from_residual-in_err-value-6.result (λ setting. given_in c.args.matches.now (bare setting)) Generate c.in_err-value-6.ensures.none

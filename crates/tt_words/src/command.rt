@@ -1,0 +1,43 @@
+ghost use Rattle.std.specs.Prelude.{◌≡◌, IfOk, false};
+ghost use Rattle.clap.specs.Words.{app_of, rule_of};
+ghost use Rattle.tt_words.specs.Program.{option_rule, program};
+
+use crate::setting::Setting;
+use clap::{Arg, ArgAction, Command, Error};
+use std::alloc::Global;
+
+/// Under what name the ordinary words are found.
+pub(crate) const WORDS: &str = "words";
+
+/// The program's options and its ordinary words. There is no `--help` among them.
+pub(crate) fn command<'a>(alloc: Global) -> Result<Command<'a>, Error>
+    ensures { IfOk result (λ command. app_of command ≡ program) }
+{
+    let workers = option(alloc, Setting::Workers.name());
+    let steps = option(alloc, Setting::Steps.name());
+    let limit = option(alloc, Setting::Limit.name());
+    let record = option(alloc, Setting::Record.name());
+    let replay = option(alloc, Setting::Replay.name());
+    let generate = option(alloc, Setting::Generate.name());
+    let words = Arg::new(alloc, WORDS).action(ArgAction::Append);
+    let command = Command::new(alloc, "tclthread")
+        .no_binary_name(true)
+        .disable_help_flag(true)
+        .disable_version_flag(true)
+        .arg(workers)?
+        .arg(steps)?
+        .arg(limit)?
+        .arg(record)?
+        .arg(replay)?
+        .arg(generate)?
+        .arg(words)?;
+    Ok(command)
+}
+
+/// An option with a value. How often it may come is tested after the parse.
+fn option<'a>(alloc: Global, name: &'a str) -> Arg<'a>
+    ensures rule { rule_of result ≡ option_rule name.entry.now }
+    ensures local { result.global ≡ false }
+{
+    Arg::new(alloc, name).long(name).action(ArgAction::Append)
+}
