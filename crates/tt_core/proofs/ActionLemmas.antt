@@ -244,6 +244,11 @@ at-fault : (kept : Option StepFault) (is : StepFault) (shared : State) (left : O
     → kept ≡ Some is → is ≢ fault.NotEnabled → IsAt kept shared left Where machine
 at-fault kept is shared left Where machine met other = subst (λ (k : Option StepFault). IsAt k shared left Where machine) (sym met) other
 
+at-anew : (kept : Option StepFault) (is : StepFault) (shared : State) (left : Option (List ℕ)) (Old New : Machine → Type 0) (machine : Machine)
+    → kept ≡ Some is → IsAt kept shared left Old machine → IsAt kept shared left New machine
+at-anew kept is shared left Old New machine met at =
+    at-fault kept is shared left New machine met (subst (λ (k : Option StepFault). IsAt k shared left Old machine) met at)
+
 pub at-none : (kept : Option StepFault) (shared : State) (left : Option (List ℕ)) (Where : Machine → Type 0) (machine : Machine)
     → kept ≡ None → IsIts shared left machine × Where machine → IsAt kept shared left Where machine
 at-none kept shared left Where machine unmet its = subst (λ (k : Option StepFault). IsAt k shared left Where machine) (sym unmet) its
@@ -286,6 +291,41 @@ module _ {S K E : Type 0} (held : S → Option (List ℕ)) (got_out : K → Opti
       → IsFaithful false (start_machine setup input) desk.schedule (got_out began.output) (got_out desk.devices.output) (got_err began.errors) (got_err desk.devices.errors) machine
   whole-so-far setup began desk Where input machine unmet is =
       subst (λ (k : Option StepFault). IsFaithful (is_cut k) (start_machine setup input) desk.schedule (got_out began.output) (got_out desk.devices.output) (got_err began.errors) (got_err desk.devices.errors) machine) unmet is.faithful
+
+  -- where its threads are is told anew
+  pub restood : (setup : Setup) (began : Began S K E) (desk : Ground S K E) (Old New : Machine → Type 0)
+      → desk.kept ≡ None
+      → ((machine : Machine) → machine.setup ≡ setup → IsIts desk.shared (unread held desk.devices) machine → Old machine → New machine)
+      → Stood setup began desk Old → Stood setup began desk New
+  restood setup began desk Old New unmet anew stood =
+      told-map (held began.input) _ _ stood (λ input standing.
+      let machine = standing.0 in
+      let is = standing.1 in
+      let its = going desk.kept desk.shared (unread held desk.devices) Old machine unmet is.at in (
+        machine,
+        record {
+          setup = is.setup;
+          ran = is.ran;
+          at = at-none desk.kept desk.shared (unread held desk.devices) New machine unmet (its.0, anew machine is.setup its.0 its.1);
+          faithful = is.faithful;
+        },
+      ))
+
+  -- after a fault or want of memory nothing is said of it
+  pub restood-kept : (setup : Setup) (began : Began S K E) (desk : Ground S K E) (Old New : Machine → Type 0) (is : StepFault)
+      → desk.kept ≡ Some is
+      → Stood setup began desk Old → Stood setup began desk New
+  restood-kept setup began desk Old New is met stood =
+      told-map (held began.input) _ _ stood (λ input standing.
+      let machine = standing.0 in (
+        machine,
+        record {
+          setup = standing.1.setup;
+          ran = standing.1.ran;
+          at = at-anew desk.kept is desk.shared (unread held desk.devices) Old New machine met standing.1.at;
+          faithful = standing.1.faithful;
+        },
+      ))
 
   -- the machine after the step, with what sinks got of it
   record After (setup : Setup) (began : Began S K E) (old new : Ground S K E) (number : ℕ) (request : Request) (line : Line) (cut : Bool) (input : List ℕ) (machine : Machine) : Type 0 where

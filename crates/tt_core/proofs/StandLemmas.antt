@@ -25,8 +25,9 @@ use Rattle.tt_threads.specs.declared.row.Row.{Row}
 use Rattle.tt_core.proofs.ActionLemmas as actions
 use Rattle.tt_core.proofs.ActionLemmas.{AsksIn, Becomes, Failed, Of, Stood, able, acted, acted-without-memory, barred-asking, of-machine, some-none}
 use Rattle.tt_core.proofs.CrewLemmas as crew
-use Rattle.tt_core.proofs.CrewLemmas.{joined-placed, replied-placed, stands-asking, stands-for}
-use Rattle.tt_core.specs.Crew.{AllBegin, AreBusy, AreIdle, ArePlaced, able as can_be, ended as has_ended, IsReadyAfter, IsReplied, Places, StandsIn, asked_by, can_act_at, interp_of, is_ready}
+use Rattle.tt_core.proofs.PlaceLemmas.{joined-each}
+use Rattle.tt_core.proofs.CrewLemmas.{replied-placed, stands-asking, stands-for}
+use Rattle.tt_core.specs.Crew.{AllBegin, AreBusy, AreIdle, ArePlaced, able as can_be, ended as has_ended, IsReadyAfter, IsPlaced, IsReplied, Places, StandsIn, asked_by, can_act_at, interp_of, is_ready}
 use Rattle.tt_core.specs.Faithful.{AsksLine, StepWrites}
 use Rattle.tt_core.specs.Stage.{Began, IsNextAfter}
 use Rattle.tt_core.specs.Standing.{InPlaces, IsIts}
@@ -83,7 +84,7 @@ places-after : (setup : Setup) (number : ℕ) (reply : Reply) (rows : List Row) 
 places-after setup number reply rows old mid new replied_is begin = λ machine next is same are is_joined.
     let here = subst (λ (one : Setup). ArePlaced one 1 machine.threads old) is are in
     let one = replied-placed setup number reply machine.threads old mid here replied_is in
-    let all = joined-placed setup rows (replied machine.threads number reply) mid new one begin in
+    let all = joined-each (IsPlaced setup) rows (replied machine.threads number reply) mid new one begin in
     subst (λ (one : Setup). ArePlaced one 1 next.threads new) (sym same)
     (subst (λ (some : List _). ArePlaced setup 1 some new) (sym is_joined) all)
 
@@ -231,8 +232,8 @@ module _ {S K E : Type 0} (held : S → Option (List ℕ)) (got_out : K → Opti
   in-turn setup began desk places after next kept is stood =
       of-machine held got_out got_err setup began desk (InPlaces places) (IsNextAfter after next) kept stood (λ machine its are.
       turn-of after next is
-          (λ number unready. barred-at desk number places machine (interp_of places number) its are kept refl unready)
-          (λ number ready. ready-at desk number places machine its are ready))
+      (λ number unready. barred-at desk number places machine (interp_of places number) its are kept refl unready)
+      (λ number ready. ready-at desk number places machine its are ready))
 
   -- ---- what a fault is met at ----
 
