@@ -1,2 +1,4 @@
+pub mod ActionLemmas
 pub mod CrewLemmas
+pub mod PlaceLemmas
 pub mod StandLemmas

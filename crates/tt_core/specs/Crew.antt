@@ -50,13 +50,15 @@ abbrev pub IsPlaced : Setup → (number : ℕ) → Thread → Option Interpreter
 IsPlaced setup number thread (Some interp) = StandsIn interp setup number thread
 IsPlaced setup number thread None = IsSilent setup number thread
 
--- each thread has its place, from a number on
+-- each thread has its place, from a number on, as this says of a thread and a place
+abbrev pub AreEach : {P : Type 0} → (Is : ℕ → Thread → P → Type 0) → (number : ℕ) → List Thread → List P → Type 0
+AreEach Is number [] [] = ⊤
+AreEach Is number (thread ∷ threads) (place ∷ places) = Is number thread place × AreEach Is (suc number) threads places
+AreEach Is number [] (place ∷ places) = ⊥
+AreEach Is number (thread ∷ threads) [] = ⊥
+
 abbrev pub ArePlaced : Setup → (number : ℕ) → List Thread → Places → Type 0
-ArePlaced setup number [] [] = ⊤
-ArePlaced setup number (thread ∷ threads) (place ∷ places) =
-    IsPlaced setup number thread place × ArePlaced setup (suc number) threads places
-ArePlaced setup number [] (place ∷ places) = ⊥
-ArePlaced setup number (thread ∷ threads) [] = ⊥
+ArePlaced setup number threads places = AreEach (IsPlaced setup) number threads places
 
 -- ---- what becomes of them ----
 
@@ -66,11 +68,15 @@ pub record Begins (setup : Setup) (start : Thread) (old new : Places) : Type 0 w
   pub pushed : new ≡ old ++ Some interp ∷ []
   pub stands : StandsIn interp setup (suc (length old)) start
 
--- all of them begin
-pub record AllBegin (setup : Setup) (rows : List Row) (old new : Places) : Type 0 where
-  pub more : Places
+-- all that were made have their places
+pub record AllMade {P : Type 0} (Is : ℕ → Thread → P → Type 0) (rows : List Row) (old new : List P) : Type 0 where
+  pub more : List P
   pub pushed : new ≡ old ++ more
-  pub placed : ArePlaced setup (suc (length old)) (map new_thread (drop (length old) rows)) more
+  pub placed : AreEach Is (suc (length old)) (map new_thread (drop (length old) rows)) more
+
+-- all of them begin
+abbrev pub AllBegin : Setup → List Row → (old new : Places) → Type 0
+AllBegin setup rows old new = AllMade (IsPlaced setup) rows old new
 
 -- an interpreter goes on with a reply, or has ended
 abbrev pub GoesOn : Interpreter → Reply → Option Interpreter → Type 0

@@ -1,4 +1,4 @@
--- Where a system stands in its run: what ties its parts to the machine.
+-- Where a run stands: what ties its parts to the machine after its schedule.
 use Rattle.std.specs.Prelude.{◌≡◌, ◌≢◌, ℕ, List, Option, Some, None, IfSome}
 use Rattle.tt_desk.specs.Desk.{unread}
 use Rattle.tt_desk.specs.declared.fault.StepFault.{StepFault}
@@ -9,24 +9,23 @@ use Rattle.tt_core.specs.Crew.{ArePlaced, Places}
 use Rattle.tt_core.specs.Faithful.{IsFaithful, is_cut}
 use Rattle.tt_core.specs.Stage.{Stage}
 
--- what the threads share, what standard input still has, and the interpreters are the machine's
-pub record IsIts (shared : State) (left : Option (List ℕ)) (places : Places) (machine : Machine) : Type 0 where
+-- what the threads share, and what standard input still has, are the machine's
+pub record IsIts (shared : State) (left : Option (List ℕ)) (machine : Machine) : Type 0 where
   pub is_shared : shared ≡ machine.shared
   pub is_left : left ≡ Some machine.input
-  pub are_placed : ArePlaced machine.setup 1 machine.threads places
 
--- they are, until a fault or want of memory
-abbrev pub IsAt : Option StepFault → State → Option (List ℕ) → Places → Machine → Type 0
-IsAt None shared left places machine = IsIts shared left places machine
-IsAt (Some fault) shared left places machine = fault ≢ NotEnabled
+-- they are, and its threads are where this says, until a fault or want of memory
+abbrev pub IsAt : Option StepFault → State → Option (List ℕ) → (Where : Machine → Type 0) → Machine → Type 0
+IsAt None shared left Where machine = IsIts shared left machine × Where machine
+IsAt (Some fault) shared left Where machine = fault ≢ NotEnabled
 
 -- the machine after the steps of the schedule, where its threads are, and what the sinks got of it
 pub record Stands {S K E : Type 0}
     (held : S → Option (List ℕ)) (got_out : K → Option (List ℕ)) (got_err : E → Option (List ℕ))
-    (stage : Stage S K E) (places : Places) (begun machine : Machine) : Type 0 where
+    (stage : Stage S K E) (Where : Machine → Type 0) (begun machine : Machine) : Type 0 where
   pub setup : machine.setup ≡ stage.setup
   pub ran : Runs begun stage.desk.schedule machine
-  pub at : IsAt stage.desk.kept stage.desk.shared (unread held stage.desk.devices) places machine
+  pub at : IsAt stage.desk.kept stage.desk.shared (unread held stage.desk.devices) Where machine
   pub faithful :
       IsFaithful (is_cut stage.desk.kept) begun stage.desk.schedule
       (got_out stage.began.output) (got_out stage.desk.devices.output)
@@ -36,7 +35,11 @@ pub record Stands {S K E : Type 0}
 abbrev pub IsStanding :
     {S K E : Type 0} →
     (held : S → Option (List ℕ)) → (got_out : K → Option (List ℕ)) → (got_err : E → Option (List ℕ)) →
-    Stage S K E → Places → Type 0
-IsStanding held got_out got_err stage places =
+    Stage S K E → (Where : Machine → Type 0) → Type 0
+IsStanding held got_out got_err stage Where =
     IfSome (held stage.began.input) (λ input.
-    (machine : Machine) × Stands held got_out got_err stage places (start_machine stage.setup input) machine)
+    (machine : Machine) × Stands held got_out got_err stage Where (start_machine stage.setup input) machine)
+
+-- its threads are in these places
+abbrev pub InPlaces : Places → Machine → Type 0
+InPlaces places machine = ArePlaced machine.setup 1 machine.threads places

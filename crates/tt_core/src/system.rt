@@ -29,14 +29,14 @@ pub struct System<S: Source, K: Sink, E: Sink> {
 
 impl<S: Source, K: Sink, E: Sink> Model for System<S, K, E> {
     ghost use Rattle.tt_core.specs.Stage.{Stage};
-    ghost use Rattle.tt_core.specs.Standing.{IsStanding};
+    ghost use Rattle.tt_core.specs.Standing.{InPlaces, IsStanding};
 
     ghost Value = { Stage S K E };
 
     ghost view = { λ system. record { setup = system.setup; began = system.began; desk = system.desk } };
 
     ghost invariant = { λ system. IsStanding S.held K.got E.got
-        (record { setup = system.setup; began = system.began; desk = system.desk }) system.crew };
+        (record { setup = system.setup; began = system.began; desk = system.desk }) (InPlaces system.crew) };
 }
 
 impl<S: Source, K: Sink, E: Sink> System<S, K, E> {

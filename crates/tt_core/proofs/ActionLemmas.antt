@@ -1,0 +1,589 @@
+-- An action of a desk as a step of the machine, wherever its threads are said to be.
+use Rattle.std.proofs.Common.{◌≡◌, ◌≢◌, ◌∙◌, ◌+◌, ◌<◌, ◌&&◌, arith, length, ℕ, Bool, true, false, IsTrue, IsFalse, List, [], ◌∷◌, ◌++◌, Option, Some, None, IfSome, IfErr, OnOk, Result, is_err, Ok, Err, ◌⊎◌, inl, inr, is_none, is_some, not, ap, append-nil, append_assoc, refl, sym, subst}
+use Rattle.tt_calls.specs.declared.reply.Reply.{Reply}
+use Rattle.tt_calls.specs.declared.request.Request.{Request}
+use Rattle.tt_calls.specs.declared.start.Start.TheVariants as start
+use Rattle.tt_desk.specs.Acting.{Happens, ReadsBy, ReadsNothing, Writes}
+use Rattle.tt_desk.specs.Desk.{Devices, Ground, can_act, unread}
+use Rattle.tt_desk.specs.declared.fault.StepFault.{StepFault}
+use Rattle.tt_desk.specs.declared.fault.StepFault.TheVariants as fault
+use Rattle.tt_devices.proofs.StreamLemmas.{Grows-append, Grows-same}
+use Rattle.tt_devices.specs.Streams.{Grows, GrowsByPart}
+use Rattle.tt_interp.specs.declared.setup.Setup.{Setup}
+use Rattle.tt_lines.specs.Lines.{IsLine, ReadsKnown, reads_line}
+use Rattle.std.proofs.lemmas.List.{append_cancel_left, length-append}
+use Rattle.tt_happenings.proofs.Drawn.{few_fit}
+use Rattle.tt_machine.proofs.RunActionLemmas.{few_channels, steps_orderly}
+use Rattle.tt_machine.proofs.Steps.{one_more}
+use Rattle.tt_machine.specs.RunActions.{StepsOrderly}
+use Rattle.tt_schedule.specs.ScheduleText.{most_steps}
+use Rattle.tt_machine.specs.Machine.{Asks, CanStep, IsBarred, Machine, Reads, Runs, Steps, after_act, joined, none, replied, start_machine, over, silent, waits}
+use Rattle.tt_shared.specs.Acts.{act}
+use Rattle.tt_shared.specs.Enabled.{enabled}
+use Rattle.tt_shared.specs.State.{State, start_state}
+use Rattle.tt_shared.specs.declared.applied.Line.{Line}
+use Rattle.tt_threads.specs.Rows.{is_living}
+use Rattle.tt_threads.specs.declared.row.Row.{Row}
+use Rattle.tt_core.specs.Faithful.{AsksLine, IsCutShort, IsFaithful, StepWrites, is_cut}
+use Rattle.tt_core.specs.Stage.{Began, OfMachine}
+use Rattle.tt_core.specs.Standing.{IsAt, IsIts, IsStanding, Stands}
+
+-- ---- tests ----
+
+pub both : (a b : Bool) → IsTrue (a && b) → IsTrue a × IsTrue b
+both true b is = (refl, is)
+both false b is = absurd (cc is)
+
+pub some-none : {X : Type 0} {x : X} → Some x ≡ None → ⊥
+some-none is = cc
+
+true-false : {b : Bool} → IsTrue b → b ≡ false → ⊥
+true-false is also = cc
+
+none-of : {X : Type 0} (found : Option X) → IsTrue (is_none found) → found ≡ None
+none-of None is = refl
+none-of (Some x) is = absurd (cc is)
+
+decide : (b : Bool) → (IsFalse b → ⊥) → IsTrue b
+decide true f = refl
+decide false f = absurd (f refl)
+
+err-is : {T : Type 0} {result : Result T StepFault} {one other : StepFault} → result ≡ Err one → result ≡ Err other → one ≡ other
+err-is is also = cc
+
+-- what a result that is no error has
+pub on-ok : {T F : Type 0} (P : Type 0) (result : Result T F) → is_err result ≡ false → OnOk result P → P
+on-ok P (Ok x) fine is = is
+on-ok P (Err e) fine is = absurd (cc fine)
+
+-- what a request that can be answered has
+pub record Able {S K E : Type 0} (desk : Ground S K E) (number : ℕ) (request : Request) : Type 0 where
+  pub nothing_met : desk.kept ≡ None
+  pub going : desk.shared.over ≡ None
+  pub lives : IsTrue (is_living desk.shared.rows number)
+  pub enabled : IsTrue (enabled desk.shared number request)
+
+pub able : {S K E : Type 0} (desk : Ground S K E) (number : ℕ) (request : Request) → IsTrue (can_act desk number request) → Able desk number request
+able desk number request is =
+    let a = both ((is_none desk.kept && is_none desk.shared.over) && is_living desk.shared.rows number) (enabled desk.shared number request) is in
+    let b = both (is_none desk.kept && is_none desk.shared.over) (is_living desk.shared.rows number) a.0 in
+    let c = both (is_none desk.kept) (is_none desk.shared.over) b.0 in
+    record { nothing_met = none-of desk.kept c.0; going = none-of desk.shared.over c.1; lives = b.1; enabled = a.1 }
+
+-- it could have been answered, where something else was met
+pub could-be : {S K E T : Type 0} (desk : Ground S K E) (number : ℕ) (request : Request) (result : Result T StepFault) (is : StepFault)
+    → desk.kept ≡ None → (desk.kept ≡ None → IsFalse (can_act desk number request) → result ≡ Err fault.NotEnabled)
+    → result ≡ Err is → is ≢ fault.NotEnabled → IsTrue (can_act desk number request)
+could-be desk number request result is kept refused failed other =
+    decide (can_act desk number request) (λ cannot. other (err-is failed (refused kept cannot)))
+
+-- ---- what is read ----
+
+record IsRead (is : Bool) (input : List ℕ) (line : Line) (left : Option (List ℕ)) : Type 0 where
+  rest : List ℕ
+  told : left ≡ Some rest
+  reads : Reads is input line rest
+
+known-read : (old new : Option (List ℕ)) (input : List ℕ) (line : Line) → old ≡ Some input → ReadsKnown old new line → IsRead true input line new
+known-read None new input line is reads = absurd (cc is)
+known-read (Some held) None input line is reads = absurd reads
+known-read (Some held) (Some left) input line is reads =
+    let same : held ≡ input = cc is in
+    record { rest = left; told = refl; reads = subst (λ (bytes : List ℕ). IsLine bytes line left) same reads }
+
+was-read : {S K E : Type 0} (held : S → Option (List ℕ)) (is : Bool) (old new : Devices S K E) (input : List ℕ) (line : Line)
+    → unread held old ≡ Some input → ReadsBy is held old new line → IsRead is input line (unread held new)
+was-read held true old new input line told reads = known-read (unread held old) (unread held new) input line told reads
+was-read held false old new input line told reads = record {
+  rest = input;
+  told = rw (reads.1, reads.2) told;
+  reads = (reads.0, refl);
+}
+
+-- ---- a step of the machine ----
+
+-- wherever its threads are, this one asks so, where it lives
+abbrev pub AsksIn : (Machine → Type 0) → (number : ℕ) → Request → (serving : List ℕ) → Type 0
+AsksIn Where number request serving =
+    (machine : Machine) → Where machine → IsTrue (is_living machine.shared.rows number) → Asks machine number request serving
+
+pub can-go : {S K E : Type 0} (held : S → Option (List ℕ)) (desk : Ground S K E) (number : ℕ) (request : Request) (serving : List ℕ) (machine : Machine)
+    → IsIts desk.shared (unread held desk.devices) machine
+    → Able desk number request
+    → Asks machine number request serving
+    → CanStep machine number
+can-go held desk number request serving machine its can asking = record {
+  request = request;
+  serving = serving;
+  going = rw (← its.is_shared) can.going;
+  asks = asking;
+  enabled = rw (← its.is_shared) can.enabled;
+}
+
+-- the step that answering a request is
+pub record Goes {S K E : Type 0} (held : S → Option (List ℕ)) (old new : Ground S K E)
+    (number : ℕ) (request : Request) (line : Line) (machine : Machine) : Type 0 where
+  pub next : Machine
+  pub steps : Steps machine number next
+  pub setup : next.setup ≡ machine.setup
+  pub shared : new.shared ≡ next.shared
+  pub left : unread held new.devices ≡ Some next.input
+  pub threads : next.threads ≡ joined (replied machine.threads number (act old.shared number request line).gives.reply) new.shared.rows
+  pub out : next.out ≡ machine.out ++ (act old.shared number request line).gives.out
+  pub err : next.err ≡ machine.err ++ (act old.shared number request line).gives.err
+
+goes : {S K E : Type 0} (held : S → Option (List ℕ)) (old new : Ground S K E) (number : ℕ) (request : Request) (serving : List ℕ) (line : Line) (machine : Machine)
+    → IsIts old.shared (unread held old.devices) machine
+    → Able old number request
+    → Asks machine number request serving
+    → ReadsBy (reads_line request) held old.devices new.devices line
+    → new.shared ≡ (act old.shared number request line).state
+    → Goes held old new number request line machine
+goes held old new number request serving line machine its can asking read did =
+    let was = was-read held (reads_line request) old.devices new.devices machine.input line its.is_left read in
+    record {
+      next = after_act machine number (act machine.shared number request line) was.rest;
+      steps = record {
+        can = record {
+          request = request;
+          serving = serving;
+          going = rw (← its.is_shared) can.going;
+          asks = asking;
+          enabled = rw (← its.is_shared) can.enabled;
+        };
+        line = line;
+        left = was.rest;
+        read = was.reads;
+        becomes = refl;
+      };
+      setup = refl;
+      shared = rw (← its.is_shared) did;
+      left = was.told;
+      threads = rw (did, its.is_shared) refl;
+      out = rw its.is_shared refl;
+      err = rw its.is_shared refl;
+    }
+
+-- a thread that is asked nothing that can be answered takes no step
+pub barred-asking : {S K E : Type 0} (held : S → Option (List ℕ)) (desk : Ground S K E) (number : ℕ) (request : Request) (serving : List ℕ) (machine : Machine)
+    → IsIts desk.shared (unread held desk.devices) machine → desk.kept ≡ None
+    → (IsTrue (is_living machine.shared.rows number) → Asks machine number request serving)
+    → IsFalse (can_act desk number request)
+    → IsBarred machine number
+barred-asking held desk number request serving machine its kept asking unable =
+    by-cases desk.kept machine.shared.over (is_living machine.shared.rows number) (enabled machine.shared number request) kept refl refl refl
+    (rw (← its.is_shared) unable)
+  where
+    by-cases : (met : Option StepFault) (ended : Option ℕ) (lives enables : Bool)
+        → met ≡ None → machine.shared.over ≡ ended → is_living machine.shared.rows number ≡ lives → enabled machine.shared number request ≡ enables
+        → IsFalse (((is_none met && is_none ended) && lives) && enables)
+        → IsBarred machine number
+    by-cases (Some met) ended lives enables is_none is_over is_living is_enabled unable = absurd (some-none is_none)
+    by-cases None (Some code) lives enables is_none is_over is_living is_enabled unable = over is_over
+    by-cases None None false enables is_none is_over is_living is_enabled unable =
+        silent (λ other during other_asks. true-false other_asks.lives is_living)
+    by-cases None None true false is_none is_over is_living is_enabled unable = waits (asking is_living) is_enabled
+    by-cases None None true true is_none is_over is_living is_enabled unable = absurd (cc unable)
+
+-- ---- what sinks got ----
+
+same-grows : (old new : Option (List ℕ)) (before after : List ℕ) → after ≡ before → Grows old new before → Grows old new after
+same-grows old new before after same grew = rw same grew
+
+whole : (old mid new : Option (List ℕ)) (before piece after : List ℕ)
+    → Grows old mid before → Grows mid new piece → after ≡ before ++ piece → Grows old new after
+whole old mid new before piece after first more is = same-grows old new (before ++ piece) after is (Grows-append old mid new before piece first more)
+
+part-of : (begun before next : Machine) (earlier : List ℕ) (number : ℕ) (old mid new : Option (List ℕ)) (written : Machine → List ℕ) (piece : List ℕ)
+    → Runs begun earlier before → Grows old mid (written before) → GrowsByPart mid new piece
+    → written next ≡ written before ++ piece
+    → IsCutShort begun (earlier ++ number ∷ []) old new written next
+part-of begun before next earlier number old mid new written piece ran grew more is = record {
+  earlier = earlier;
+  last = number;
+  entries = refl;
+  before = before;
+  ran = ran;
+  part = more.part;
+  rest = more.rest;
+  cut = is ∙ ap (λ (bytes : List ℕ). written before ++ bytes) more.cut ∙ sym (append_assoc (written before) more.part more.rest);
+  grew = Grows-append old mid new (written before) more.part grew more.grew;
+}
+
+cut-at : (begun before next : Machine) (earlier schedule : List ℕ) (number : ℕ) (old mid new : Option (List ℕ)) (written : Machine → List ℕ) (piece : List ℕ)
+    → Runs begun earlier before → Grows old mid (written before) → GrowsByPart mid new piece → written next ≡ written before ++ piece
+    → schedule ≡ earlier ++ number ∷ []
+    → IsCutShort begun schedule old new written next
+cut-at begun before next earlier schedule number old mid new written piece ran grew more is entry =
+    subst (λ (numbers : List ℕ). IsCutShort begun numbers old new written next) (sym entry)
+    (part-of begun before next earlier number old mid new written piece ran grew more is)
+
+ran-on : (begun machine next : Machine) (earlier schedule : List ℕ) (number : ℕ)
+    → Runs begun earlier machine → Steps machine number next → schedule ≡ earlier ++ number ∷ [] → Runs begun schedule next
+ran-on begun machine next earlier schedule number ran step is =
+    subst (λ (numbers : List ℕ). Runs begun numbers next) (sym is) (one_more begun machine next earlier number ran step)
+
+faithful-by : (kept : Option StepFault) (cut : Bool) (begun : Machine) (schedule : List ℕ) (old_out new_out old_err new_err : Option (List ℕ)) (machine : Machine)
+    → is_cut kept ≡ cut → IsFaithful cut begun schedule old_out new_out old_err new_err machine
+    → IsFaithful (is_cut kept) begun schedule old_out new_out old_err new_err machine
+faithful-by kept cut begun schedule old_out new_out old_err new_err machine is faithful =
+    subst (λ (b : Bool). IsFaithful b begun schedule old_out new_out old_err new_err machine) (sym is) faithful
+
+-- ---- where a run stands ----
+
+pub told-map : (told : Option (List ℕ)) (P Q : List ℕ → Type 0) → IfSome told P → ((input : List ℕ) → P input → Q input) → IfSome told Q
+told-map None P Q is f = tt
+told-map (Some input) P Q is f = f input is
+
+-- it goes on
+pub going : (kept : Option StepFault) (shared : State) (left : Option (List ℕ)) (Where : Machine → Type 0) (machine : Machine)
+    → kept ≡ None → IsAt kept shared left Where machine → IsIts shared left machine × Where machine
+going kept shared left Where machine unmet at = subst (λ (k : Option StepFault). IsAt k shared left Where machine) unmet at
+
+at-fault : (kept : Option StepFault) (is : StepFault) (shared : State) (left : Option (List ℕ)) (Where : Machine → Type 0) (machine : Machine)
+    → kept ≡ Some is → is ≢ fault.NotEnabled → IsAt kept shared left Where machine
+at-fault kept is shared left Where machine met other = subst (λ (k : Option StepFault). IsAt k shared left Where machine) (sym met) other
+
+at-anew : (kept : Option StepFault) (is : StepFault) (shared : State) (left : Option (List ℕ)) (Old New : Machine → Type 0) (machine : Machine)
+    → kept ≡ Some is → IsAt kept shared left Old machine → IsAt kept shared left New machine
+at-anew kept is shared left Old New machine met at =
+    at-fault kept is shared left New machine met (subst (λ (k : Option StepFault). IsAt k shared left Old machine) met at)
+
+pub at-none : (kept : Option StepFault) (shared : State) (left : Option (List ℕ)) (Where : Machine → Type 0) (machine : Machine)
+    → kept ≡ None → IsIts shared left machine × Where machine → IsAt kept shared left Where machine
+at-none kept shared left Where machine unmet its = subst (λ (k : Option StepFault). IsAt k shared left Where machine) (sym unmet) its
+
+-- where its threads are after a reply, and those that were made with it
+abbrev pub Becomes : Setup → (Old New : Machine → Type 0) → (number : ℕ) → Reply → List Row → Type 0
+Becomes setup Old New number reply rows =
+    (machine next : Machine)
+    → machine.setup ≡ setup → next.setup ≡ setup → Old machine
+    → next.threads ≡ joined (replied machine.threads number reply) rows
+    → New next
+
+module _ {S K E : Type 0} (held : S → Option (List ℕ)) (got_out : K → Option (List ℕ)) (got_err : E → Option (List ℕ)) where
+  -- all is as the machine has it
+  abbrev pub Stood : (setup : Setup) → (began : Began S K E) → (desk : Ground S K E) → (Where : Machine → Type 0) → Type 0
+  Stood setup began desk Where = IsStanding held got_out got_err (record { setup = setup; began = began; desk = desk }) Where
+
+  abbrev pub StandsAt : (setup : Setup) → (began : Began S K E) → (desk : Ground S K E) → (Where : Machine → Type 0) → (input : List ℕ) → Machine → Type 0
+  StandsAt setup began desk Where input machine =
+      Stands held got_out got_err (record { setup = setup; began = began; desk = desk }) Where (start_machine setup input) machine
+
+  -- this holds of the machine after the schedule
+  abbrev pub Of : (setup : Setup) → (began : Began S K E) → (desk : Ground S K E) → (Machine → Type 0) → Type 0
+  Of setup began desk fact = OfMachine held (record { setup = setup; began = began; desk = desk }) fact
+
+  -- it follows from where the threads are
+  pub of-machine : (setup : Setup) (began : Began S K E) (desk : Ground S K E) (Where fact : Machine → Type 0)
+      → desk.kept ≡ None → Stood setup began desk Where
+      → ((machine : Machine) → IsIts desk.shared (unread held desk.devices) machine → Where machine → fact machine)
+      → Of setup began desk fact
+  of-machine setup began desk Where fact unmet stood follows =
+      told-map (held began.input) _ _ stood (λ input standing.
+      let machine = standing.0 in
+      let its = going desk.kept desk.shared (unread held desk.devices) Where machine unmet standing.1.at in
+      (machine, standing.1.ran, follows machine its.0 its.1))
+
+  -- what a machine that goes on is faithful to
+  whole-so-far : (setup : Setup) (began : Began S K E) (desk : Ground S K E) (Where : Machine → Type 0) (input : List ℕ) (machine : Machine)
+      → desk.kept ≡ None → StandsAt setup began desk Where input machine
+      → IsFaithful false (start_machine setup input) desk.schedule (got_out began.output) (got_out desk.devices.output) (got_err began.errors) (got_err desk.devices.errors) machine
+  whole-so-far setup began desk Where input machine unmet is =
+      subst (λ (k : Option StepFault). IsFaithful (is_cut k) (start_machine setup input) desk.schedule (got_out began.output) (got_out desk.devices.output) (got_err began.errors) (got_err desk.devices.errors) machine) unmet is.faithful
+
+  -- where its threads are is told anew
+  pub restood : (setup : Setup) (began : Began S K E) (desk : Ground S K E) (Old New : Machine → Type 0)
+      → desk.kept ≡ None
+      → ((machine : Machine) → machine.setup ≡ setup → IsIts desk.shared (unread held desk.devices) machine → Old machine → New machine)
+      → Stood setup began desk Old → Stood setup began desk New
+  restood setup began desk Old New unmet anew stood =
+      told-map (held began.input) _ _ stood (λ input standing.
+      let machine = standing.0 in
+      let is = standing.1 in
+      let its = going desk.kept desk.shared (unread held desk.devices) Old machine unmet is.at in (
+        machine,
+        record {
+          setup = is.setup;
+          ran = is.ran;
+          at = at-none desk.kept desk.shared (unread held desk.devices) New machine unmet (its.0, anew machine is.setup its.0 its.1);
+          faithful = is.faithful;
+        },
+      ))
+
+  -- after a fault or want of memory nothing is said of it
+  pub restood-kept : (setup : Setup) (began : Began S K E) (desk : Ground S K E) (Old New : Machine → Type 0) (is : StepFault)
+      → desk.kept ≡ Some is
+      → Stood setup began desk Old → Stood setup began desk New
+  restood-kept setup began desk Old New is met stood =
+      told-map (held began.input) _ _ stood (λ input standing.
+      let machine = standing.0 in (
+        machine,
+        record {
+          setup = standing.1.setup;
+          ran = standing.1.ran;
+          at = at-anew desk.kept is desk.shared (unread held desk.devices) Old New machine met standing.1.at;
+          faithful = standing.1.faithful;
+        },
+      ))
+
+  -- the machine after the step, with what sinks got of it
+  record After (setup : Setup) (began : Began S K E) (old new : Ground S K E) (number : ℕ) (request : Request) (line : Line) (cut : Bool) (input : List ℕ) (machine : Machine) : Type 0 where
+    goes : Goes held old new number request line machine
+    same : goes.next.setup ≡ setup
+    ran : Runs (start_machine setup input) new.schedule goes.next
+    faithful : IsFaithful cut (start_machine setup input) new.schedule (got_out began.output) (got_out new.devices.output) (got_err began.errors) (got_err new.devices.errors) goes.next
+
+  after-whole : (setup : Setup) (began : Began S K E) (old new : Ground S K E) (number : ℕ) (request : Request) (serving : List ℕ) (line : Line) (Where : Machine → Type 0) (input : List ℕ) (machine : Machine)
+      → StandsAt setup began old Where input machine
+      → IsTrue (can_act old number request) → AsksIn Where number request serving
+      → Happens held got_out got_err Grows old number request line new
+      → After setup began old new number request line false input machine
+  after-whole setup began old new number request serving line Where input machine is able_to asking did =
+      let can = able old number request able_to in
+      let its = going old.kept old.shared (unread held old.devices) Where machine can.nothing_met is.at in
+      let asks = asking machine its.1 (rw (← its.0.is_shared) can.lives) in
+      let went = goes held old new number request serving line machine its.0 can asks did.read did.shared in
+      let far = whole-so-far setup began old Where input machine can.nothing_met is in
+      record {
+        goes = went;
+        same = went.setup ∙ is.setup;
+        ran = ran-on (start_machine setup input) machine went.next old.schedule new.schedule number is.ran went.steps did.entry;
+        faithful = record {
+          out = whole (got_out began.output) (got_out old.devices.output) (got_out new.devices.output) machine.out (act old.shared number request line).gives.out went.next.out far.out did.out went.out;
+          err = whole (got_err began.errors) (got_err old.devices.errors) (got_err new.devices.errors) machine.err (act old.shared number request line).gives.err went.next.err far.err did.err went.err;
+        };
+      }
+
+  after-cut : (setup : Setup) (began : Began S K E) (old new : Ground S K E) (number : ℕ) (request : Request) (serving : List ℕ) (line : Line) (Where : Machine → Type 0) (input : List ℕ) (machine : Machine)
+      → StandsAt setup began old Where input machine
+      → IsTrue (can_act old number request) → AsksIn Where number request serving
+      → Happens held got_out got_err GrowsByPart old number request line new
+      → After setup began old new number request line true input machine
+  after-cut setup began old new number request serving line Where input machine is able_to asking did =
+      let can = able old number request able_to in
+      let its = going old.kept old.shared (unread held old.devices) Where machine can.nothing_met is.at in
+      let asks = asking machine its.1 (rw (← its.0.is_shared) can.lives) in
+      let went = goes held old new number request serving line machine its.0 can asks did.read did.shared in
+      let far = whole-so-far setup began old Where input machine can.nothing_met is in
+      record {
+        goes = went;
+        same = went.setup ∙ is.setup;
+        ran = ran-on (start_machine setup input) machine went.next old.schedule new.schedule number is.ran went.steps did.entry;
+        faithful = record {
+          out = cut-at (start_machine setup input) machine went.next old.schedule new.schedule number (got_out began.output) (got_out old.devices.output) (got_out new.devices.output) (λ m. m.out) (act old.shared number request line).gives.out is.ran far.out did.out went.out did.entry;
+          err = cut-at (start_machine setup input) machine went.next old.schedule new.schedule number (got_err began.errors) (got_err old.devices.errors) (got_err new.devices.errors) (λ m. m.err) (act old.shared number request line).gives.err is.ran far.err did.err went.err did.entry;
+        };
+      }
+
+  -- a step was taken
+  pub acted : (setup : Setup) (began : Began S K E) (old new : Ground S K E) (number : ℕ) (request : Request) (serving : List ℕ) (line : Line) (Old New : Machine → Type 0)
+      → IsTrue (can_act old number request) → AsksIn Old number request serving
+      → Happens held got_out got_err Grows old number request line new → new.kept ≡ None
+      → Becomes setup Old New number (act old.shared number request line).gives.reply new.shared.rows
+      → Stood setup began old Old → Stood setup began new New
+  acted setup began old new number request serving line Old New can asking did goes_on becomes stood =
+      told-map (held began.input) _ _ stood (λ input standing.
+      let machine = standing.0 in
+      let is = standing.1 in
+      let went = after-whole setup began old new number request serving line Old input machine is can asking did in
+      let its = going old.kept old.shared (unread held old.devices) Old machine (able old number request can).nothing_met is.at in (
+        went.goes.next,
+        record {
+          setup = went.same;
+          ran = went.ran;
+          at = at-none new.kept new.shared (unread held new.devices) New went.goes.next goes_on (
+            record { is_shared = went.goes.shared; is_left = went.goes.left },
+            becomes machine went.goes.next is.setup went.same its.1 went.goes.threads,
+          );
+          faithful = faithful-by new.kept false (start_machine setup input) new.schedule (got_out began.output) (got_out new.devices.output) (got_err began.errors) (got_err new.devices.errors) went.goes.next (ap is_cut goes_on) went.faithful;
+        },
+      ))
+
+  -- a step was taken, and then there was no memory
+  pub acted-without-memory : (setup : Setup) (began : Began S K E) (old new last : Ground S K E) (number : ℕ) (request : Request) (serving : List ℕ) (line : Line) (Old New : Machine → Type 0)
+      → IsTrue (can_act old number request) → AsksIn Old number request serving
+      → Happens held got_out got_err Grows old number request line new
+      → last ≡ record new { kept = Some fault.NoMemory }
+      → Stood setup began old Old → Stood setup began last New
+  acted-without-memory setup began old new last number request serving line Old New can asking did is_last stood =
+      subst (λ (desk : Ground S K E). Stood setup began desk New) (sym is_last)
+      (told-map (held began.input) _ _ stood (λ input standing.
+      let machine = standing.0 in
+      let went = after-whole setup began old new number request serving line Old input machine standing.1 can asking did in (
+        went.goes.next,
+        record {
+          setup = went.same;
+          ran = went.ran;
+          at = λ same. cc;
+          faithful = went.faithful;
+        },
+      )))
+
+  -- a write failed
+  failed-write : (setup : Setup) (began : Began S K E) (old new : Ground S K E) (number : ℕ) (request : Request) (serving : List ℕ) (line : Line) (Old New : Machine → Type 0)
+      → IsTrue (can_act old number request) → AsksIn Old number request serving
+      → Happens held got_out got_err GrowsByPart old number request line new → new.kept ≡ Some fault.WriteFault
+      → Stood setup began old Old → Stood setup began new New
+  failed-write setup began old new number request serving line Old New can asking did met stood =
+      told-map (held began.input) _ _ stood (λ input standing.
+      let machine = standing.0 in
+      let went = after-cut setup began old new number request serving line Old input machine standing.1 can asking did in (
+        went.goes.next,
+        record {
+          setup = went.same;
+          ran = went.ran;
+          at = at-fault new.kept fault.WriteFault new.shared (unread held new.devices) New went.goes.next met (λ same. cc);
+          faithful = faithful-by new.kept true (start_machine setup input) new.schedule (got_out began.output) (got_out new.devices.output) (got_err began.errors) (got_err new.devices.errors) went.goes.next (ap is_cut met) went.faithful;
+        },
+      ))
+
+  -- nothing was done
+  pub stopped : (setup : Setup) (began : Began S K E) (old new : Ground S K E) (Old New : Machine → Type 0) (is : StepFault)
+      → old.kept ≡ None → new.kept ≡ Some is → is ≢ fault.NotEnabled → is_cut (Some is) ≡ false
+      → new.schedule ≡ old.schedule → new.devices.output ≡ old.devices.output → new.devices.errors ≡ old.devices.errors
+      → Stood setup began old Old → Stood setup began new New
+  stopped setup began old new Old New is unmet met other cut same out err stood =
+      told-map (held began.input) _ _ stood (λ input standing.
+      let machine = standing.0 in
+      let far = whole-so-far setup began old Old input machine unmet standing.1 in (
+        machine,
+        record {
+          setup = standing.1.setup;
+          ran = rw same standing.1.ran;
+          at = at-fault new.kept is new.shared (unread held new.devices) New machine met other;
+          faithful = faithful-by new.kept false (start_machine setup input) new.schedule (got_out began.output) (got_out new.devices.output) (got_err began.errors) (got_err new.devices.errors) machine (ap is_cut met ∙ cut)
+              (rw (same, out, err) (record { out = far.out; err = far.err }));
+        },
+      ))
+
+  begins : (setup : Setup) (output : K) (errors : E) (Where : Machine → Type 0) (given : S) (bytes : List ℕ)
+      → held given ≡ Some bytes
+      → Where (start_machine setup bytes)
+      → StandsAt setup (record { input = given; output = output; errors = errors }) (record { shared = start_state (start.Script setup.script); schedule = []; devices = record { input = given; ahead = []; output = output; errors = errors }; kept = None }) Where bytes (start_machine setup bytes)
+  begins setup output errors Where given bytes told there = record {
+    setup = refl;
+    ran = none;
+    at = (record { is_shared = refl; is_left = rw told refl }, there);
+    faithful = record { out = Grows-same (got_out output); err = Grows-same (got_err errors) };
+  }
+
+  at-start : (setup : Setup) (output : K) (errors : E) (Where : Machine → Type 0) (given : S) (told : Option (List ℕ))
+      → held given ≡ told
+      → ((bytes : List ℕ) → Where (start_machine setup bytes))
+      → IfSome told (λ bytes. (machine : Machine) × StandsAt setup (record { input = given; output = output; errors = errors }) (record { shared = start_state (start.Script setup.script); schedule = []; devices = record { input = given; ahead = []; output = output; errors = errors }; kept = None }) Where bytes machine)
+  at-start setup output errors Where given None is there = tt
+  at-start setup output errors Where given (Some bytes) is there =
+      (start_machine setup bytes, begins setup output errors Where given bytes is (there bytes))
+
+  -- it began
+  pub begun : (setup : Setup) (input : S) (output : K) (errors : E) (Where : Machine → Type 0) (desk : Ground S K E)
+      → desk ≡ record { shared = start_state (start.Script setup.script); schedule = []; devices = record { input = input; ahead = []; output = output; errors = errors }; kept = None }
+      → ((bytes : List ℕ) → Where (start_machine setup bytes))
+      → Stood setup (record { input = input; output = output; errors = errors }) desk Where
+  begun setup input output errors Where desk is there =
+      subst (λ (one : Ground S K E). Stood setup (record { input = input; output = output; errors = errors }) one Where) (sym is)
+      (at-start setup output errors Where input (held input) refl there)
+
+  -- the machine after the schedule can take the step
+  pub could : (setup : Setup) (began : Began S K E) (desk : Ground S K E) (number : ℕ) (request : Request) (serving : List ℕ) (Where : Machine → Type 0)
+      → IsTrue (can_act desk number request) → AsksIn Where number request serving
+      → Stood setup began desk Where
+      → Of setup began desk (λ machine. CanStep machine number)
+  could setup began desk number request serving Where can asking stood =
+      let has = able desk number request can in
+      of-machine setup began desk Where (λ machine. CanStep machine number) has.nothing_met stood (λ machine its there.
+      can-go held desk number request serving machine its has (asking machine there (rw (← its.is_shared) has.lives)))
+
+  -- ---- what was met ----
+
+  -- what was met is kept, or nothing was done
+  pub record Failed {T : Type 0} (old new : Ground S K E) (number : ℕ) (request : Request) (result : Result T StepFault) : Type 0 where
+    pub nothing_met : old.kept ≡ None
+    pub refused : old.kept ≡ None → IsFalse (can_act old number request) → result ≡ Err fault.NotEnabled
+    pub unchanged : result ≡ Err fault.NotEnabled → new ≡ old
+    pub kept : IfErr result (λ is. (is ≡ fault.NotEnabled) ⊎ (new.kept ≡ Some is))
+    pub read_nothing : result ≡ Err fault.ReadFault → ReadsNothing held old new
+    pub cut : result ≡ Err fault.WriteFault → old.kept ≡ None →
+        (line : Line) × Happens held got_out got_err GrowsByPart old number request line new × Writes (act old.shared number request line).gives
+    pub no_entry : result ≡ Err fault.NoMemory → new.schedule ≡ old.schedule
+    pub no_piece : result ≡ Err fault.NoMemory → (new.devices.output ≡ old.devices.output) × (new.devices.errors ≡ old.devices.errors)
+
+  pub met : {T : Type 0} (new : Ground S K E) (result : Result T StepFault) (is : StepFault)
+      → IfErr result (λ one. (one ≡ fault.NotEnabled) ⊎ (new.kept ≡ Some one)) → result ≡ Err is → is ≢ fault.NotEnabled → new.kept ≡ Some is
+  met {T = T} new result is kept failed other =
+      go (subst (λ (r : Result T StepFault). IfErr r (λ one. (one ≡ fault.NotEnabled) ⊎ (new.kept ≡ Some one))) failed kept)
+    where
+      go : (is ≡ fault.NotEnabled) ⊎ (new.kept ≡ Some is) → new.kept ≡ Some is
+      go (inl not) = absurd (other not)
+      go (inr known) = known
+
+  pub failed : {T : Type 0} (setup : Setup) (began : Began S K E) (old new : Ground S K E) (number : ℕ) (request : Request) (serving : List ℕ) (Where : Machine → Type 0) (result : Result T StepFault) (is : StepFault)
+      → AsksIn Where number request serving → result ≡ Err is → Failed old new number request result
+      → Stood setup began old Where → Stood setup began new Where
+  failed setup began old new number request serving Where result fault.NotEnabled asks was f stood =
+      subst (λ (desk : Ground S K E). Stood setup began desk Where) (sym (f.unchanged was)) stood
+  failed setup began old new number request serving Where result fault.ReadFault asks was f stood =
+      let nothing = f.read_nothing was in
+      stopped setup began old new Where Where fault.ReadFault f.nothing_met (met new result fault.ReadFault f.kept was (λ same. cc)) (λ same. cc) refl nothing.schedule nothing.output nothing.errors stood
+  failed setup began old new number request serving Where result fault.WriteFault asks was f stood =
+      let cut = f.cut was f.nothing_met in
+      let can = could-be old number request result fault.WriteFault f.nothing_met f.refused was (λ same. cc) in
+      failed-write setup began old new number request serving cut.0 Where Where can asks cut.1 (met new result fault.WriteFault f.kept was (λ same. cc)) stood
+  failed setup began old new number request serving Where result fault.NoMemory asks was f stood =
+      let pieces = f.no_piece was in
+      stopped setup began old new Where Where fault.NoMemory f.nothing_met (met new result fault.NoMemory f.kept was (λ same. cc)) (λ same. cc) refl (f.no_entry was) pieces.0 pieces.1 stood
+
+  -- ---- what a fault is met at ----
+
+  -- it asks for a line
+  pub asked-line : (setup : Setup) (began : Began S K E) (desk : Ground S K E) (number : ℕ) (request : Request) (serving : List ℕ) (Where : Machine → Type 0)
+      → AsksIn Where number request serving → IsTrue (can_act desk number request) → reads_line request ≡ true
+      → Stood setup began desk Where
+      → Of setup began desk (AsksLine number)
+  asked-line setup began desk number request serving Where asking can line stood =
+      let has = able desk number request can in
+      of-machine setup began desk Where (AsksLine number) has.nothing_met stood (λ machine its there.
+      record { request = request; serving = serving; asks = asking machine there (rw (← its.is_shared) has.lives); line = line })
+
+  longer : (before piece after : List ℕ) → after ≡ before ++ piece → piece ≢ [] → after ≢ before
+  longer before piece after is some = λ same. some (append_cancel_left before piece [] (sym is ∙ (same ∙ sym (append-nil before))))
+
+  -- its step writes something
+  pub wrote : (setup : Setup) (began : Began S K E) (old new : Ground S K E) (number : ℕ) (request : Request) (serving : List ℕ) (Where : Machine → Type 0)
+      → AsksIn Where number request serving → IsTrue (can_act old number request)
+      → ((line : Line) × Happens held got_out got_err GrowsByPart old number request line new × Writes (act old.shared number request line).gives)
+      → Stood setup began old Where
+      → Of setup began old (StepWrites number)
+  wrote setup began old new number request serving Where asking can cut stood =
+      let has = able old number request can in
+      of-machine setup began old Where (StepWrites number) has.nothing_met stood (λ machine its there.
+      let asks = asking machine there (rw (← its.is_shared) has.lives) in
+      let went = goes held old new number request serving cut.0 machine its has asks cut.1.read cut.1.shared in
+      record { next = went.next; steps = went.steps; writes = grown cut.0 machine went cut.2 })
+    where
+      grown : (line : Line) (machine : Machine) → (went : Goes held old new number request line machine) → Writes (act old.shared number request line).gives
+          → (went.next.out ≢ machine.out) ⊎ (went.next.err ≢ machine.err)
+      grown line machine went (inl some) = inl (longer machine.out (act old.shared number request line).gives.out went.next.out went.out some)
+      grown line machine went (inr some) = inr (longer machine.err (act old.shared number request line).gives.err went.next.err went.err some)
+
+  -- ---- what a step keeps to ----
+
+  pub keeps-to : (setup : Setup) (began : Began S K E) (old new : Ground S K E) (number : ℕ) (request : Request) (serving : List ℕ) (line : Line) (Where : Machine → Type 0)
+      → AsksIn Where number request serving → IsTrue (can_act old number request)
+      → Happens held got_out got_err Grows old number request line new
+      → length old.schedule < most_steps
+      → Stood setup began old Where
+      → Of setup began old (StepsOrderly number)
+  keeps-to setup began old new number request serving line Where asking can did room stood =
+      told-map (held began.input) _ _ stood (λ input standing.
+      let machine = standing.0 in
+      let has = able old number request can in
+      let its = going old.kept old.shared (unread held old.devices) Where machine has.nothing_met standing.1.at in
+      let asks = asking machine its.1 (rw (← its.0.is_shared) has.lives) in
+      let went = goes held old new number request serving line machine its.0 has asks did.read did.shared in
+      let longer = old.schedule ++ number ∷ [] in
+      let few = few_channels setup input went.next longer (one_more (start_machine setup input) machine went.next old.schedule number standing.1.ran went.steps) in
+      let count : length longer ≡ length old.schedule + 1 = length-append old.schedule (number ∷ []) in
+      let fits = few_fit went.next.shared.channels.next (length longer) few (omega (arith, count, room)) in
+      (machine, standing.1.ran, steps_orderly setup input machine went.next old.schedule number standing.1.ran went.steps fits))
