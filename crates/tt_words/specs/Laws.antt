@@ -1,0 +1,37 @@
+-- Laws of the reading of command lines.
+use Rattle.std.specs.Prelude.{◌≡◌, ◌↔◌, ℕ, false, List, [], ◌∷◌, ◌++◌}
+use Rattle.tt_words.specs.Asked.{Asked, Reads}
+use Rattle.tt_words.specs.Splitting.{BeginsWith, Given, is_dashed}
+
+-- words ask for one thing at most
+abbrev pub OneReadingLaw : Type 0
+OneReadingLaw = (words : List (List ℕ)) (one other : Asked) → Reads words one → Reads words other → one ≡ other
+
+-- ordinary words, and options with their values, and no end mark
+pub data AreWhole : List (List ℕ) → Type 0 where
+  none : AreWhole []
+  ordinary : {word : List ℕ} {rest : List (List ℕ)} → is_dashed word ≡ false → AreWhole rest → AreWhole (word ∷ rest)
+  option : {words rest : List (List ℕ)} {given : Given} → BeginsWith words given rest → AreWhole rest → AreWhole words
+
+-- the words of one option, with its value
+abbrev pub IsOption : List (List ℕ) → Given → Type 0
+IsOption words given = BeginsWith words given []
+
+-- two options that stand side by side ask for the same in either order
+abbrev pub OptionsSwapLaw : Type 0
+OptionsSwapLaw =
+    (before one other after : List (List ℕ)) (first second : Given) (asked : Asked) →
+    AreWhole before →
+    IsOption one first →
+    IsOption other second →
+    Reads (before ++ (one ++ (other ++ after))) asked →
+    Reads (before ++ (other ++ (one ++ after))) asked
+
+-- and so do an option and an ordinary word
+abbrev pub WordSwapLaw : Type 0
+WordSwapLaw =
+    (before one after : List (List ℕ)) (word : List ℕ) (given : Given) (asked : Asked) →
+    AreWhole before →
+    IsOption one given →
+    is_dashed word ≡ false →
+    Reads (before ++ (one ++ (word ∷ after))) asked ↔ Reads (before ++ (word ∷ (one ++ after))) asked

@@ -1,0 +1,186 @@
+ghost use Rattle.std.specs.Prelude.{◌≡◌, ◌≤◌, ℕ, List, map, IfSome, IfNone, Some};
+ghost use Rattle.std.specs.Option.{option_map};
+ghost use Rattle.tt_words.specs.Asked as spec;
+ghost use Rattle.tt_words.specs.Told.{text_of, told_asked, told_generate, told_plain, told_replay, told_values};
+
+use crate::numbers::{number, number_within};
+use crate::values::Values;
+
+const MOST_WORKERS: u64 = 64;
+
+const DEFAULT_WORKERS: u64 = 4;
+
+const MOST_STEPS: u64 = 16_777_216;
+
+const MOST_UNITS: u64 = 4_611_686_018_427_387_904;
+
+const MOST_JOBS: u64 = 2000;
+
+/// A script with its arguments, on workers that choose the schedule.
+#[derive(Debug, Drop)]
+pub struct Plain<'a> {
+    /// The name of the script's file, which is not empty.
+    pub script: &'a str,
+    pub arguments: Vec<&'a str>,
+    /// How many workers carry the threads, from 1 to 64.
+    pub workers: u32,
+    /// The most steps of the run, from 1 to 16,777,216.
+    pub steps: u32,
+    /// The most units of one thread, from 1 to 2^62.
+    pub limit: u64,
+    /// The name of the file that keeps the schedule, if one does. It is not empty.
+    pub kept: Option<&'a str>,
+}
+
+/// A script with its arguments, after the schedule in a file.
+#[derive(Debug, Drop)]
+pub struct Replay<'a> {
+    /// The name of the schedule's file, which is not empty.
+    pub schedule: &'a str,
+    /// The name of the script's file, which is not empty.
+    pub script: &'a str,
+    pub arguments: Vec<&'a str>,
+    /// The most units of one thread, from 1 to 2^62.
+    pub limit: u64,
+}
+
+/// A script that is made of a number.
+#[derive(Clone, Copy, Debug)]
+pub struct Generate<'a> {
+    pub number: u64,
+    /// How many jobs the script has, from 0 to 2000.
+    pub size: u32,
+    /// The most steps of the run, from 1 to 16,777,216.
+    pub steps: u32,
+    /// The most units of one thread, from 1 to 2^62.
+    pub limit: u64,
+    /// The name of the file that keeps the schedule, if one does. It is not empty.
+    pub kept: Option<&'a str>,
+}
+
+/// What a command line asks for.
+#[derive(Debug, Drop)]
+pub enum Asked<'a> {
+    Plain(Plain<'a>),
+    Replay(Replay<'a>),
+    Generate(Generate<'a>),
+}
+
+/// What the options and the ordinary words ask for; `None` exactly where they ask for nothing.
+pub(crate) fn asked_by<'a>(values: &Values<'a>, ordinary: Vec<&'a str>) -> Option<Asked<'a>>
+    ensures found { IfSome result (λ asked. spec.AsksFor (told_values values.now) (map text_of ordinary.entry.items) (told_asked asked)) }
+    ensures none { IfNone result ((asked : spec.Asked) → ¬ spec.AsksFor (told_values values.now) (map text_of ordinary.entry.items) asked) }
+{
+    match (values.replay, values.generate) {
+        (None, None) => match read_plain(values, ordinary) {
+            Some(plain) => Some(Asked::Plain(plain)),
+            None => None,
+        },
+        (Some(_), None) => match read_replay(values, ordinary) {
+            Some(replay) => Some(Asked::Replay(replay)),
+            None => None,
+        },
+        (None, Some(_)) => match read_generate(values, &ordinary) {
+            Some(generate) => Some(Asked::Generate(generate)),
+            None => None,
+        },
+        (Some(_), Some(_)) => None,
+    }
+}
+
+/// A run on workers, if that is asked for.
+fn read_plain<'a>(values: &Values<'a>, ordinary: Vec<&'a str>) -> Option<Plain<'a>>
+    ensures found { IfSome result (λ plain. spec.IsPlain (told_values values.now) (map text_of ordinary.entry.items) (told_plain plain)) }
+    ensures none { IfNone result ((plain : spec.Plain) → ¬ spec.IsPlain (told_values values.now) (map text_of ordinary.entry.items) plain) }
+{
+    if values.replay.is_some() || values.generate.is_some() {
+        return None;
+    }
+    let workers = number(values.workers, 1, MOST_WORKERS, DEFAULT_WORKERS)?;
+    let steps = number(values.steps, 1, MOST_STEPS, MOST_STEPS)?;
+    let limit = number(values.limit, 1, MOST_UNITS, MOST_UNITS)?;
+    let kept = file(values.kept)?;
+    let (script, arguments) = script(ordinary)?;
+    Some(Plain {
+        script,
+        arguments,
+        workers: workers as u32,
+        steps: steps as u32,
+        limit,
+        kept,
+    })
+}
+
+/// A replay, if that is asked for.
+fn read_replay<'a>(values: &Values<'a>, ordinary: Vec<&'a str>) -> Option<Replay<'a>>
+    ensures found { IfSome result (λ replay. spec.IsReplay (told_values values.now) (map text_of ordinary.entry.items) (told_replay replay)) }
+    ensures none { IfNone result ((replay : spec.Replay) → ¬ spec.IsReplay (told_values values.now) (map text_of ordinary.entry.items) replay) }
+{
+    if values.workers.is_some() || values.steps.is_some() {
+        return None;
+    }
+    if values.kept.is_some() || values.generate.is_some() {
+        return None;
+    }
+    let limit = number(values.limit, 1, MOST_UNITS, MOST_UNITS)?;
+    let schedule = file(values.replay)??;
+    let (script, arguments) = script(ordinary)?;
+    Some(Replay {
+        schedule,
+        script,
+        arguments,
+        limit,
+    })
+}
+
+/// A run of a script that is made of a number, if that is asked for.
+fn read_generate<'a>(values: &Values<'a>, ordinary: &[&'a str]) -> Option<Generate<'a>>
+    ensures found { IfSome result (λ generate. spec.IsGenerate (told_values values.now) (map text_of ordinary.now) (told_generate generate)) }
+    ensures none { IfNone result ((generate : spec.Generate) → ¬ spec.IsGenerate (told_values values.now) (map text_of ordinary.now) generate) }
+{
+    if values.workers.is_some() || values.replay.is_some() {
+        return None;
+    }
+    let [word] = ordinary else {
+        return None;
+    };
+    let size = number_within(word, 0, MOST_JOBS)?;
+    let number_given = number_within(values.generate?, 0, u64::MAX)?;
+    let steps = number(values.steps, 1, MOST_STEPS, MOST_STEPS)?;
+    let limit = number(values.limit, 1, MOST_UNITS, MOST_UNITS)?;
+    let kept = file(values.kept)?;
+    Some(Generate {
+        number: number_given,
+        size: size as u32,
+        steps: steps as u32,
+        limit,
+        kept,
+    })
+}
+
+/// The file that the option names, or none where it isn't given; `None` exactly where its name is empty.
+fn file(value: Option<&str>) -> Option<Option<&str>>
+    ensures found { IfSome result (λ file. spec.HasFile (option_map text_of value.entry) (option_map text_of file)) }
+    ensures none { IfNone result ((file : _) → ¬ spec.HasFile (option_map text_of value.entry) file) }
+{
+    match value {
+        Some(name) if name.is_empty() => None,
+        _ => Some(value),
+    }
+}
+
+/// The script and its arguments; `None` exactly where there is no word, or the first is empty.
+fn script<'a>(ordinary: Vec<&'a str>) -> Option<(&'a str, Vec<&'a str>)>
+    ensures found { IfSome result (λ found. spec.HasScript (map text_of ordinary.entry.items) found.0.now (map text_of found.1.items)) }
+    ensures none { IfNone result ((script : List ℕ) (arguments : List (List ℕ)) → ¬ spec.HasScript (map text_of ordinary.entry.items) script arguments) }
+{
+    let mut arguments = ordinary;
+    if arguments.is_empty() {
+        return None;
+    }
+    let script = arguments.remove(0);
+    if script.is_empty() {
+        return None;
+    }
+    Some((script, arguments))
+}
