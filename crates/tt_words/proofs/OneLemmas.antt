@@ -50,10 +50,11 @@ same_replay : (f f' s s' : List ℕ) (a a' : List (List ℕ)) (l l' : ℕ) → f
     ≡ replay (record { schedule = f'; script = s'; arguments = a'; limit = l' })
 same_replay f f' s s' a a' l l' p q r t = rw (p, q, r, t) refl
 
-same_generate : (m m' z z' n n' l l' : ℕ) (k k' : Option (List ℕ)) → m ≡ m' → z ≡ z' → n ≡ n' → l ≡ l' → k ≡ k' →
-    generate (record { number = m; size = z; steps = n; limit = l; kept = k })
-    ≡ generate (record { number = m'; size = z'; steps = n'; limit = l'; kept = k' })
-same_generate m m' z z' n n' l l' k k' p q r t u = rw (p, q, r, t, u) refl
+same_generate : (s s' : List ℕ) (m m' z z' n n' l l' : ℕ) (k k' : Option (List ℕ)) →
+    s ≡ s' → m ≡ m' → z ≡ z' → n ≡ n' → l ≡ l' → k ≡ k' →
+    generate (record { script = s; number = m; size = z; steps = n; limit = l; kept = k })
+    ≡ generate (record { script = s'; number = m'; size = z'; steps = n'; limit = l'; kept = k' })
+same_generate s s' m m' z z' n n' l l' k k' o p q r t u = rw (o, p, q, r, t, u) refl
 
 one_plain : (values : Values) (ordinary : List (List ℕ)) (one other : Plain) →
     IsPlain values ordinary one → IsPlain values ordinary other → plain one ≡ plain other
@@ -82,14 +83,14 @@ one_replay values ordinary one other a b =
 one_generate : (values : Values) (ordinary : List (List ℕ)) (one other : Generate) →
     IsGenerate values ordinary one → IsGenerate values ordinary other → generate one ≡ generate other
 one_generate values ordinary one other a b =
-    let word : a.word ≡ b.word = same_first a.word b.word [] [] (sym a.words ∙ b.words) in
+    let script : one.script ≡ other.script = same_first one.script other.script [] [] (sym a.words ∙ b.words) in
     let value : a.value ≡ b.value = same_some a.value b.value (sym a.given ∙ b.given) in
-    same_generate one.number other.number one.size other.size one.steps other.steps one.limit other.limit
-    one.kept other.kept
+    same_generate one.script other.script one.number other.number one.size other.size one.steps other.steps one.limit other.limit
+    one.kept other.kept script
     (one_written 0 18446744073709551615 b.value one.number other.number
     (subst (λ (t : List ℕ). WritesWithin 0 18446744073709551615 t one.number) value a.number) b.number)
-    (one_written 0 2000 b.word one.size other.size
-    (subst (λ (t : List ℕ). WritesWithin 0 2000 t one.size) word a.size) b.size)
+    (one_written 0 2000 other.script one.size other.size
+    (subst (λ (t : List ℕ). WritesWithin 0 2000 t one.size) script a.size) b.size)
     (one_number 1 16777216 16777216 values.steps one.steps other.steps a.steps b.steps)
     (one_number 1 4611686018427387904 4611686018427387904 values.limit one.limit other.limit a.limit b.limit)
     (one_file values.kept one.kept other.kept a.kept b.kept)

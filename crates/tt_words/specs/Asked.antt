@@ -25,8 +25,9 @@ pub record Replay : Type 0 where
   pub arguments : List (List ℕ)
   pub limit : ℕ
 
--- a script that is made of a number, of this many jobs, its schedule kept in a file or not
+-- a script that is made of a number, of as many jobs as the word in its place says, its schedule kept in a file or not
 pub record Generate : Type 0 where
+  pub script : List ℕ
   pub number : ℕ
   pub size : ℕ
   pub steps : ℕ
@@ -136,9 +137,8 @@ pub record IsReplay (values : Values) (ordinary : List (List ℕ)) (replay : Rep
 
 -- `--generate` excludes `--workers`, and the one ordinary word is the count of jobs
 pub record IsGenerate (values : Values) (ordinary : List (List ℕ)) (generate : Generate) : Type 0 where
-  pub word : List ℕ
-  pub words : ordinary ≡ word ∷ []
-  pub size : WritesWithin 0 2000 word generate.size
+  pub words : ordinary ≡ generate.script ∷ []
+  pub size : WritesWithin 0 2000 generate.script generate.size
   pub value : List ℕ
   pub given : values.generate ≡ Some value
   pub number : WritesWithin 0 18446744073709551615 value generate.number

@@ -57,6 +57,7 @@ told_replay asked = record {
 
 abbrev pub told_generate : Generate → spec.Generate
 told_generate asked = record {
+  script = asked.script.now;
   number = asked.number;
   size = asked.size;
   steps = asked.steps;

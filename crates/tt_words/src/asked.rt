@@ -47,6 +47,8 @@ pub struct Replay<'a> {
 /// A script that is made of a number.
 #[derive(Clone, Copy, Debug)]
 pub struct Generate<'a> {
+    /// The word in the script's place, which writes how many jobs the script has.
+    pub script: &'a str,
     pub number: u64,
     /// How many jobs the script has, from 0 to 2000.
     pub size: u32,
@@ -150,6 +152,7 @@ fn read_generate<'a>(values: &Values<'a>, ordinary: &[&'a str]) -> Option<Genera
     let limit = number(values.limit, 1, MOST_UNITS, MOST_UNITS)?;
     let kept = file(values.kept)?;
     Some(Generate {
+        script: word,
         number: number_given,
         size: size as u32,
         steps: steps as u32,
