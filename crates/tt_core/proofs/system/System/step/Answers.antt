@@ -2,7 +2,8 @@ use Rattle.std.proofs.Common.{◌≡◌, ◌∙◌, ◌<◌, false, None, Some, 
 use Rattle.tt_core.specs.Crew.{AllBegin, IsReplied, Places, asked_by}
 use Rattle.tt_core.specs.Stage.{Stage}
 use Rattle.tt_schedule.specs.ScheduleText.{most_steps}
-use Rattle.tt_core.proofs.StandLemmas.{asked-could, asked-line, could-be, failed, keeps-to, on-ok, ran-out, unable, unasked, went-on, wrote}
+use Rattle.tt_core.proofs.ActionLemmas.{could-be, on-ok}
+use Rattle.tt_core.proofs.StandLemmas.{asked-could, asked-line, failed, keeps-to, ran-out, unable, unasked, went-on, wrote}
 use Rattle.tt_core.proofs.system.System.step.Goals as goal
 use Rattle.tt_desk.specs.declared.fault.StepFault.TheVariants as fault
 
@@ -61,7 +62,7 @@ returns-in-Err-clause-tried g c = λ other was_none.
     let kept : c.self.inside.desk.kept ≡ None = sym c.kept.ensures.kept ∙ c.in_default.is in
     rw (← c.self.view_is) (asked-could g.S.Source.held g.K.Sink.got g.E.Sink.got c.self.inside.setup c.self.inside.began c.self.inside.desk c.args.thread c.in-Some-request.request.now c.self.inside.crew
     c.in-Some-request.ensures.asks
-    (could-be g.S.Source.held g.K.Sink.got g.E.Sink.got c.self.inside.desk c.args.thread c.in-Some-request.request.now c.act.result c.in-Err.fault kept c.act.ensures.refused c.in-Err.is other)
+    (could-be c.self.inside.desk c.args.thread c.in-Some-request.request.now c.act.result c.in-Err.fault kept c.act.ensures.refused c.in-Err.is other)
     c.self.invariant)
 
 pub returns-else-is_err-clause-could : goal.returns-else-is_err-clause-could
@@ -76,7 +77,7 @@ returns-in-Err-clause-a_line g c e = λ was_none.
     let kept : c.self.inside.desk.kept ≡ None = sym c.kept.ensures.kept ∙ c.in_default.is in
     rw (← c.self.view_is) (asked-line g.S.Source.held g.K.Sink.got g.E.Sink.got c.self.inside.setup c.self.inside.began c.self.inside.desk c.args.thread c.in-Some-request.request.now c.self.inside.crew
     c.in-Some-request.ensures.asks
-    (could-be g.S.Source.held g.K.Sink.got g.E.Sink.got c.self.inside.desk c.args.thread c.in-Some-request.request.now c.act.result fault.ReadFault kept c.act.ensures.refused was (λ is. cc))
+    (could-be c.self.inside.desk c.args.thread c.in-Some-request.request.now c.act.result fault.ReadFault kept c.act.ensures.refused was (λ is. cc))
     (c.act.ensures.read_fault was kept).1 c.self.invariant)
 
 pub returns-in-Err-clause-a_piece : goal.returns-in-Err-clause-a_piece
@@ -86,7 +87,7 @@ returns-in-Err-clause-a_piece g c e = λ was_none.
     let kept : c.self.inside.desk.kept ≡ None = sym c.kept.ensures.kept ∙ c.in_default.is in
     rw (← c.self.view_is) (wrote g.S.Source.held g.K.Sink.got g.E.Sink.got c.self.inside.setup c.self.inside.began c.self.inside.desk c.act.new.self c.args.thread c.in-Some-request.request.now c.self.inside.crew
     c.in-Some-request.ensures.asks
-    (could-be g.S.Source.held g.K.Sink.got g.E.Sink.got c.self.inside.desk c.args.thread c.in-Some-request.request.now c.act.result fault.WriteFault kept c.act.ensures.refused was (λ is. cc))
+    (could-be c.self.inside.desk c.args.thread c.in-Some-request.request.now c.act.result fault.WriteFault kept c.act.ensures.refused was (λ is. cc))
     (c.act.ensures.cut was kept) c.self.invariant)
 
 pub returns-else-is_err-clause-orderly : goal.returns-else-is_err-clause-orderly
