@@ -5,8 +5,9 @@ use Rattle.tt_devices.specs.Faults.{Rises}
 use Rattle.tt_core.specs.Stage.{OfMachine, SameBeginning, Stage}
 use Rattle.tt_machine.proofs.Steps.{same_run}
 use Rattle.tt_machine.specs.Machine.{IsBarred, Machine, Runs, start_machine}
-use Rattle.tclthread.specs.Answer.{IsFirstPart, IsRefused}
-use Rattle.tclthread.specs.Following.{AtMachine}
+use Rattle.tclthread.specs.Choosing.{IsFirstPart, Replaying}
+use Rattle.tclthread.specs.Ending.{IsRefused}
+use Rattle.tclthread.specs.Following.{AtRun}
 
 -- a system has taken the steps of a list up to a place
 pub record IsFollowing {S K E : Type 0} (reads : S → ℕ) (faults : K → ℕ) (errors : E → ℕ) (old now : Stage S K E) (list : List ℕ) (place : ℕ) : Type 0 where
@@ -37,11 +38,11 @@ first-more taken list place thread within is thread_is = record {
   cut = rw (thread_is, append_assoc taken (slice_index list place ∷ []) (drop (place + 1) list)) (next-is taken list place within is);
 }
 
-pub refused-at : (schedule list : List ℕ) (place thread : ℕ) (machine : Machine) → place < length list → schedule ≡ take place list → thread ≡ slice_index list place → IsBarred machine thread → IsRefused (place + 1) machine schedule list
+pub refused-at : (schedule list : List ℕ) (place thread : ℕ) (machine : Machine) → place < length list → schedule ≡ take place list → thread ≡ slice_index list place → IsBarred machine thread → IsRefused (place + 1) (Replaying list) machine schedule
 refused-at schedule list place thread machine within taken thread_is barred = record {
   thread = slice_index list place;
   later = drop (place + 1) list;
-  next = next-is schedule list place within taken;
+  next = ap Replaying (next-is schedule list place within taken);
   number_is = rw (taken, length-take-le place list (omega arith)) (omega arith);
   refused = rw (← thread_is) barred;
 }
@@ -54,23 +55,34 @@ some-entry (one ∷ taken) new thread is none = cc
 -- ---- the machine after a schedule ----
 
 -- what holds of it holds of each
-pub at-machine : {S K E : Type 0} (held : S → Option (List ℕ)) (stage : Stage S K E) (P Q : Machine → Type 0)
-    → OfMachine held stage P → ((machine : Machine) → P machine → Q machine) → AtMachine held stage Q
-at-machine held stage P Q is f = go (held stage.began.input) is
+pub at-run : {S K E : Type 0} (held : S → Option (List ℕ)) (stage : Stage S K E) (P : Machine → Type 0) (Q : Machine → Machine → Type 0)
+    → OfMachine held stage P → ((begun machine : Machine) → P machine → Q begun machine) → AtRun held stage Q
+at-run held stage P Q is f = go (held stage.began.input) is
   where
-    go : (told : Option (List ℕ)) → IfSome told (λ input. (machine : Machine) × Runs (start_machine stage.setup input) stage.desk.schedule machine × P machine) → IfSome told (λ input. (machine : Machine) → Runs (start_machine stage.setup input) stage.desk.schedule machine → Q machine)
+    go : (told : Option (List ℕ)) → IfSome told (λ input. (machine : Machine) × Runs (start_machine stage.setup input) stage.desk.schedule machine × P machine) → IfSome told (λ input. (machine : Machine) → Runs (start_machine stage.setup input) stage.desk.schedule machine → Q (start_machine stage.setup input) machine)
     go None is = tt
     go (Some input) is = λ machine ran.
         let same : is.0 ≡ machine = same_run (start_machine stage.setup input) is.0 machine stage.desk.schedule is.1 ran in
-        subst Q same (f is.0 is.2)
+        subst (Q (start_machine stage.setup input)) same (f (start_machine stage.setup input) is.0 is.2)
 
 -- of any machine
-pub of-any : {S K E : Type 0} (held : S → Option (List ℕ)) (stage : Stage S K E) (Q : Machine → Type 0) → ((machine : Machine) → Q machine) → AtMachine held stage Q
+pub of-any : {S K E : Type 0} (held : S → Option (List ℕ)) (stage : Stage S K E) (Q : Machine → Machine → Type 0) → ((begun machine : Machine) → Q begun machine) → AtRun held stage Q
 of-any held stage Q f = go (held stage.began.input)
   where
-    go : (told : Option (List ℕ)) → IfSome told (λ input. (machine : Machine) → Runs (start_machine stage.setup input) stage.desk.schedule machine → Q machine)
+    go : (told : Option (List ℕ)) → IfSome told (λ input. (machine : Machine) → Runs (start_machine stage.setup input) stage.desk.schedule machine → Q (start_machine stage.setup input) machine)
     go None = tt
-    go (Some input) = λ machine ran. f machine
+    go (Some input) = λ machine ran. f (start_machine stage.setup input) machine
+
+-- and another fact with it
+pub at-both : {S K E : Type 0} (held : S → Option (List ℕ)) (stage : Stage S K E) (P Q R : Machine → Machine → Type 0)
+    → AtRun held stage P → AtRun held stage Q → ((begun machine : Machine) → P begun machine → Q begun machine → R begun machine) → AtRun held stage R
+at-both held stage P Q R one other f = go (held stage.began.input) one other
+  where
+    go : (told : Option (List ℕ)) → IfSome told (λ input. (machine : Machine) → Runs (start_machine stage.setup input) stage.desk.schedule machine → P (start_machine stage.setup input) machine)
+        → IfSome told (λ input. (machine : Machine) → Runs (start_machine stage.setup input) stage.desk.schedule machine → Q (start_machine stage.setup input) machine)
+        → IfSome told (λ input. (machine : Machine) → Runs (start_machine stage.setup input) stage.desk.schedule machine → R (start_machine stage.setup input) machine)
+    go None one other = tt
+    go (Some input) one other = λ machine ran. f (start_machine stage.setup input) machine (one machine ran) (other machine ran)
 
 -- ---- what stays ----
 

@@ -1,3 +1,5 @@
 pub mod AnswerLemmas
+pub mod CloseLemmas
 pub mod FollowLemmas
-pub mod LeftLemmas
+pub mod LineLemmas
+pub mod TurnLemmas

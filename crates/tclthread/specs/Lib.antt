@@ -1,6 +1,12 @@
 pub mod Answer
-pub mod CommandLine
+pub mod Asking
+pub mod Choosing
 pub mod Ended
+pub mod Ending
 pub mod Following
+pub mod Keeping
+pub mod Laws
+pub mod Left
+pub mod Lines
 pub mod Prepared
 pub mod Status

@@ -1,11 +1,13 @@
-//! Scripts of threads, run after a schedule.
+//! Scripts of threads, run after a schedule or without one.
 #![tactic(auto)]
 
 mod alone;
-mod command_line;
 mod ended;
+mod keep;
 pub mod laws;
+mod line;
 mod prepare;
+mod run;
 mod session;
 mod status;
 #[cfg(test)]
@@ -13,6 +15,7 @@ mod tests;
 mod words;
 
 use ended::Ended;
+use line::tell;
 use session::session;
 use std::process::ExitCode;
 use tt_devices::{OpenGate, RealFiles, StdSink, StdSource};
@@ -21,7 +24,10 @@ use words::words;
 fn main(rt: HostRuntime) -> ExitCode {
     let words = match words(&rt) {
         Ok(words) => words,
-        Err(status) => return ExitCode::from(status.exit()),
+        Err(status) => {
+            tell(&status, 0, &mut StdSink::new(rt.stderr()));
+            return ExitCode::from(status.exit());
+        }
     };
     let mut files = RealFiles::new(&rt);
     let Ended { status, .. } = session(

@@ -1,47 +1,96 @@
 ghost use Rattle.std.specs.Prelude.{◌≡◌, ◌≢◌, ◌⊎◌, map, string_bytes, Some, Err, IfOk, IfErr, IsErrOf};
+ghost use Rattle.std.specs.Borrow.{Bor};
 ghost use Rattle.tt_devices.specs.Faults.{Rises};
 ghost use Rattle.tt_devices.specs.Names.{Tells};
-ghost use Rattle.tclthread.specs.Answer.{AsksFor};
-ghost use Rattle.tclthread.specs.CommandLine.{reads};
-ghost use Rattle.tclthread.specs.Prepared.{IsFileRefusal, IsRefusal};
+ghost use Rattle.tt_words.specs.Asked.{Reads};
+ghost use Rattle.tt_words.specs.Asked as words_asked;
+ghost use Rattle.tt_words.specs.Told.{text_of, told_asked, told_generate, told_plain, told_replay};
+ghost use Rattle.tclthread.specs.Answer.{IsRefusal, IsWordRefusal};
+ghost use Rattle.tclthread.specs.Asking.{BeginsGenerated, BeginsPlain, BeginsReplay};
+ghost use Rattle.tclthread.specs.Choosing.{Freely, InTurn, Replaying};
+ghost use Rattle.tclthread.specs.Prepared.{IsFileRefusal};
 
-use crate::command_line::{Replay, read_words};
 use crate::status::{Place, Status};
 use std::alloc::Global;
 use tt_core::Setup;
 use tt_devices::{Files, ReadAnswer};
+use tt_generate::workload;
 use tt_schedule::{ReadSchedule, Schedule, read};
 use tt_text::{NoMemory, Text, Texts};
+use tt_words::{Asked, Generate, Plain, Replay, read_words};
 
-/// The most units of a thread, where the words give no limit.
-const DEFAULT_LIMIT: u64 = 4_611_686_018_427_387_904;
+/// What the words ask for.
+///
+/// `Usage` exactly where they ask for nothing, and `NoMemory` where memory to read them is refused.
+pub(crate) fn ask(alloc: Global, words: &[String]) -> Result<Asked<'_>, Status>
+    ensures asked { IfOk result (λ asked. Reads (map string_bytes words.now) (told_asked asked)) }
+    ensures refused { IfErr result (λ status. IsWordRefusal status (map string_bytes words.now)) }
+{
+    match read_words(alloc, words) {
+        Ok(Some(asked)) => Ok(asked),
+        Ok(None) => Err(Status::Usage),
+        Err(_) => Err(Status::NoMemory),
+    }
+}
 
-/// What a replay begins with.
+/// What a plain run begins with.
+///
+/// Else the status that says why there is none.
+pub(crate) fn prepare_plain<F: Files>(
+    alloc: Global,
+    plain: &Plain<'_>,
+    files: &mut F,
+) -> Result<Setup, Status>
+    ensures ready { IfOk result (λ setup. BeginsPlain (told_plain plain.now) (F.map files.old) setup (Freely plain.now.steps)) }
+    ensures refused { IfErr result (λ status. IsRefusal (words_asked.plain (told_plain plain.now)) status (record {
+      map = F.map;
+      reads = F.read_fault_count;
+      writes = F.write_fault_count;
+      old = files.old;
+      new = files.new;
+    })) }
+    ensures steady { (result ≢ Err Status.ReadFault) → F.read_fault_count files.new ≡ F.read_fault_count files.old }
+    ensures same { F.map files.new ≡ F.map files.old }
+    ensures no_write { F.write_fault_count files.new ≡ F.write_fault_count files.old }
+{
+    let script = match read_file(alloc, files, plain.script) {
+        Ok(script) => script,
+        Err(status) => return Err(status),
+    };
+    match setup_of(alloc, &script, plain.script, &plain.arguments, plain.limit) {
+        Ok(setup) => Ok(setup),
+        Err(_) => Err(Status::NoMemory),
+    }
+}
+
+/// What a replay begins with, and the schedule that it follows.
 #[derive(Drop)]
 pub(crate) struct Prepared {
     pub(crate) setup: Setup,
     pub(crate) given: Schedule,
 }
 
-/// Reads the words, the script, the schedule and its text, in this order.
+/// What a replay begins with: reads the script, the schedule and its text, in this order.
 ///
 /// Else the status that says which of them is wrong.
-pub(crate) fn prepare<F: Files>(
+pub(crate) fn prepare_replay<F: Files>(
     alloc: Global,
-    words: &[String],
+    replay: &Replay<'_>,
     files: &mut F,
 ) -> Result<Prepared, Status>
-    ensures ready { IfOk result (λ prepared. AsksFor (reads (map string_bytes words.now)) (F.map files.old)
-        prepared.setup prepared.given.threads) }
-    ensures refused { IfErr result (λ status. IsRefusal status (reads (map string_bytes words.now)) (F.map files.old)) }
-    ensures cause { IsErrOf result Status.ReadFault → Rises (F.read_fault_count files.old) (F.read_fault_count files.new) }
+    ensures ready { IfOk result (λ prepared. BeginsReplay (told_replay replay.now) (F.map files.old) prepared.setup
+        (Replaying prepared.given.threads)) }
+    ensures refused { IfErr result (λ status. IsRefusal (words_asked.replay (told_replay replay.now)) status (record {
+      map = F.map;
+      reads = F.read_fault_count;
+      writes = F.write_fault_count;
+      old = files.old;
+      new = files.new;
+    })) }
     ensures steady { (result ≢ Err Status.ReadFault) → F.read_fault_count files.new ≡ F.read_fault_count files.old }
     ensures same { F.map files.new ≡ F.map files.old }
     ensures no_write { F.write_fault_count files.new ≡ F.write_fault_count files.old }
 {
-    let Some(replay) = read_words(words) else {
-        return Err(Status::Usage);
-    };
     let script = match read_file(alloc, files, replay.script) {
         Ok(script) => script,
         Err(status) => return Err(status),
@@ -57,30 +106,54 @@ pub(crate) fn prepare<F: Files>(
         ReadSchedule::Read(given) => given,
         ReadSchedule::Bad(fault) => return Err(Status::BadSchedule(Place::Byte(fault.place))),
     };
-    let Ok(setup) = setup_of(alloc, replay, &script) else {
+    let Ok(setup) = setup_of(
+        alloc,
+        &script,
+        replay.script,
+        &replay.arguments,
+        replay.limit,
+    ) else {
         return Err(Status::NoMemory);
     };
     Ok(Prepared { setup, given })
 }
 
+/// What a run of a script begins with that is made of a number.
+pub(crate) fn prepare_generated(alloc: Global, generate: &Generate<'_>) -> Result<Setup, NoMemory>
+    ensures { IfOk result (λ setup. BeginsGenerated (told_generate generate.now) setup (InTurn generate.now.steps)) }
+{
+    Ok(Setup {
+        script: workload(alloc, generate.number, generate.size)?,
+        name: Text::from_bytes(alloc, generate.script.as_bytes())?,
+        arguments: Texts::new(alloc),
+        limit: generate.limit,
+    })
+}
+
 /// What a run of the script begins with.
-fn setup_of(alloc: Global, replay: Replay<'_>, script: &[u8]) -> Result<Setup, NoMemory>
+fn setup_of(
+    alloc: Global,
+    script: &[u8],
+    name: &str,
+    arguments: &[&str],
+    limit: u64,
+) -> Result<Setup, NoMemory>
     ensures script { IfOk result (λ setup. setup.script ≡ script.now) }
-    ensures name { IfOk result (λ setup. setup.name ≡ replay.entry.script.now) }
-    ensures arguments { IfOk result (λ setup. setup.arguments ≡ map string_bytes replay.entry.arguments.now) }
-    ensures limit { IfOk result (λ setup. setup.limit ≡ DEFAULT_LIMIT) }
+    ensures name { IfOk result (λ setup. setup.name ≡ name.now) }
+    ensures arguments { IfOk result (λ setup. setup.arguments ≡ map text_of arguments.now) }
+    ensures limit { IfOk result (λ setup. setup.limit ≡ limit) }
 {
     Ok(Setup {
         script: Text::from_bytes(alloc, script)?,
-        name: Text::from_bytes(alloc, replay.script.as_bytes())?,
-        arguments: texts(alloc, replay.arguments)?,
-        limit: DEFAULT_LIMIT,
+        name: Text::from_bytes(alloc, name.as_bytes())?,
+        arguments: texts(alloc, arguments)?,
+        limit,
     })
 }
 
 /// The words as texts.
-fn texts(alloc: Global, words: &[String]) -> Result<Texts, NoMemory>
-    ensures { IfOk result (λ texts. texts ≡ map string_bytes words.now) }
+fn texts(alloc: Global, words: &[&str]) -> Result<Texts, NoMemory>
+    ensures { IfOk result (λ texts. texts ≡ map text_of words.now) }
 {
     let mut texts = Texts::new(alloc);
     for word in words {
@@ -88,7 +161,6 @@ fn texts(alloc: Global, words: &[String]) -> Result<Texts, NoMemory>
     }
     Ok(texts)
 }
-
 /// The bytes of a file.
 ///
 /// Else the status that says why there are none.

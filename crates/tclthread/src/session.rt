@@ -1,20 +1,32 @@
-ghost use Rattle.std.specs.Prelude.{◌≡◌, ◌≢◌, ◌↔◌, ◌⊎◌, None, map, string_bytes};
+ghost use Rattle.std.specs.Prelude.{◌≡◌, ◌≢◌, ◌≤◌, ◌⊎◌, map, string_bytes};
 ghost use Rattle.tt_devices.specs.Faults.{Rises};
-ghost use Rattle.tclthread.specs.Answer.{Answers};
-ghost use Rattle.tclthread.specs.CommandLine.{reads};
+ghost use Rattle.tt_schedule.specs.ScheduleText.{most_steps};
+ghost use Rattle.tt_words.specs.Asked.{Reads};
+ghost use Rattle.tt_words.specs.Asked as words_asked;
+ghost use Rattle.tt_words.specs.Told.{told_plain};
+ghost use Rattle.tclthread.specs.Answer.{Answers, AnswersTo, IsAnswered, IsUsage};
+ghost use Rattle.tclthread.specs.Choosing.{Freely};
+ghost use Rattle.tclthread.specs.Ending.{IsRunStatus};
+ghost use Rattle.tclthread.specs.Prepared.{RanOrIdle};
 
-use crate::alone::alone;
+use crate::alone::{alone, refuse};
 use crate::ended::{Alone, Ended};
+use crate::keep::close;
+use crate::prepare::{ask, prepare_plain};
+use crate::run::{Course, run};
 use crate::status::Status;
 use std::alloc::Global;
 use std::sync::Wait;
 use std::thread::Threads;
+use tt_core::Setup;
 use tt_devices::{Files, Gate, Sink, Source};
+use tt_words::{Asked, Plain};
 
-/// Runs a script as the words say, over these files and streams.
+/// Runs a script as the words say, over these files and streams, and tells on standard error how that ended.
 ///
-/// The words are `--replay FILE SCRIPT [ARG ...]`, and all else is `Usage`. The runtime and the gate are for runs on workers,
-/// which there are none of yet.
+/// The words are those of `tt_words::read_words`. With `--replay` the steps are those of a schedule, and with
+/// `--generate` the threads take their steps in turn; else the threads take their steps in any order. The runtime and
+/// the gate are for runs on workers, which there are none of yet.
 pub fn session<
     R: Threads + Wait + Sync,
     F: Files,
@@ -33,36 +45,102 @@ pub fn session<
     _gate: &G,
 ) -> Ended<S, K, E>
     // What is answered, and what is left of the run.
-    ensures answer { Answers result.status (reads (map string_bytes words.now)) (F.map files.old) (record {
-      schedule = result.schedule.threads;
-      held = S.held;
-      old_input = input;
-      new_input = result.input;
-      got_out = K.got;
-      old_output = output;
-      new_output = result.output;
-      got_err = E.got;
-      old_errors = errors;
-      new_errors = result.errors;
-    }) }
-    ensures usage { result.status ≡ Status.Usage ↔ (reads (map string_bytes words.now) ≡ None) }
+    ensures answer { IsAnswered
+        (Answers result.status (map string_bytes words.now) (record { map = F.map; reads = F.read_fault_count; writes = F.write_fault_count; old = files.old; new = files.new }))
+        result.status (record {
+          schedule = result.schedule.threads;
+          input = record { tells = S.held; faults = S.fault_count; old = input; new = result.input };
+          output = record { tells = K.got; faults = K.fault_count; old = output; new = result.output };
+          errors = record { tells = E.got; faults = E.fault_count; old = errors; new = result.errors };
+        }) }
+    ensures usage { IsUsage result.status (map string_bytes words.now) }
+{
+    match alone(alloc, words, files, input, output, errors) {
+        Alone::Ended(ended) => ended,
+        Alone::Plain(input, output, errors) => plain(alloc, words, files, input, output, errors),
+    }
+}
 
-    // A fault is answered, and comes of its own object alone.
-    ensures read_fault { result.status ≡ Status.ReadFault →
-        Rises (F.read_fault_count files.old) (F.read_fault_count files.new) ⊎ Rises (S.fault_count input) (S.fault_count result.input) }
-    ensures reads_steady { result.status ≢ Status.ReadFault →
-        (F.read_fault_count files.new ≡ F.read_fault_count files.old) × (S.fault_count result.input ≡ S.fault_count input) }
+/// Does what the words ask for, which is a plain run.
+fn plain<F: Files, S: Source, K: Sink, E: Sink>(
+    alloc: Global,
+    words: &[String],
+    files: &mut F,
+    input: S,
+    output: K,
+    errors: E,
+) -> Ended<S, K, E>
+    requires { (named : words_asked.Plain) × Reads (map string_bytes words.now) (words_asked.plain named) }
+    ensures { IsAnswered
+        (Answers result.status (map string_bytes words.now) (record { map = F.map; reads = F.read_fault_count; writes = F.write_fault_count; old = files.old; new = files.new }))
+        result.status (record {
+          schedule = result.schedule.threads;
+          input = record { tells = S.held; faults = S.fault_count; old = input; new = result.input };
+          output = record { tells = K.got; faults = K.fault_count; old = output; new = result.output };
+          errors = record { tells = E.got; faults = E.fault_count; old = errors; new = result.errors };
+        }) }
+{
+    match ask(alloc, words) {
+        Err(status) => refuse(alloc, status, input, output, errors),
+        Ok(Asked::Plain(asked)) => start(alloc, &asked, files, input, output, errors),
+        Ok(Asked::Replay(_)) => unreachable!(),
+        Ok(Asked::Generate(_)) => unreachable!(),
+    }
+}
+
+/// Runs a script whose threads take their steps in any order.
+fn start<F: Files, S: Source, K: Sink, E: Sink>(
+    alloc: Global,
+    asked: &Plain<'_>,
+    files: &mut F,
+    input: S,
+    output: K,
+    errors: E,
+) -> Ended<S, K, E>
+    requires { asked.now.steps ≤ most_steps }
+    ensures { IsAnswered
+        (AnswersTo (words_asked.plain (told_plain asked.now)) result.status (record { map = F.map; reads = F.read_fault_count; writes = F.write_fault_count; old = files.old; new = files.new }))
+        result.status (record {
+          schedule = result.schedule.threads;
+          input = record { tells = S.held; faults = S.fault_count; old = input; new = result.input };
+          output = record { tells = K.got; faults = K.fault_count; old = output; new = result.output };
+          errors = record { tells = E.got; faults = E.fault_count; old = errors; new = result.errors };
+        }) }
+{
+    let before = errors.faults();
+    match prepare_plain(alloc, asked, files) {
+        Err(status) => refuse(alloc, status, input, output, errors),
+        Ok(setup) => {
+            let ran = run_freely(alloc, setup, asked.steps, input, output, errors);
+            close(alloc, asked.kept, files, before, ran)
+        }
+    }
+}
+
+/// Runs a script whose threads take their steps in any order, at most so many: on one carrier, in turn.
+fn run_freely<S: Source, K: Sink, E: Sink>(
+    alloc: Global,
+    setup: Setup,
+    steps: u32,
+    input: S,
+    output: K,
+    errors: E,
+) -> Ended<S, K, E>
+    requires { steps ≤ most_steps }
+    ensures left { RanOrIdle result.status setup (Freely steps) (record {
+      schedule = result.schedule.threads;
+      input = record { tells = S.held; faults = S.fault_count; old = input; new = result.input };
+      output = record { tells = K.got; faults = K.fault_count; old = output; new = result.output };
+      errors = record { tells = E.got; faults = E.fault_count; old = errors; new = result.errors };
+    }) }
+    ensures ran { IsRunStatus result.status }
+    ensures read_fault { result.status ≡ Status.ReadFault → Rises (S.fault_count input) (S.fault_count result.input) }
+    ensures reads_steady { result.status ≢ Status.ReadFault → S.fault_count result.input ≡ S.fault_count input }
     ensures write_fault { result.status ≡ Status.WriteFault →
         Rises (K.fault_count output) (K.fault_count result.output) ⊎ Rises (E.fault_count errors) (E.fault_count result.errors) }
     ensures writes_steady { result.status ≢ Status.WriteFault →
         (K.fault_count result.output ≡ K.fault_count output) × (E.fault_count result.errors ≡ E.fault_count errors) }
-
-    // What stays.
-    ensures files { F.map files.new ≡ F.map files.old }
-    ensures no_write { F.write_fault_count files.new ≡ F.write_fault_count files.old }
 {
-    match alone(alloc, words, files, input, output, errors) {
-        Alone::Ended(ended) => ended,
-        Alone::Plain(_, _, _) => unreachable!(),
-    }
+    let course = Course::InTurn(steps);
+    run(alloc, setup, &course, input, output, errors)
 }

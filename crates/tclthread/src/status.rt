@@ -17,7 +17,7 @@ pub enum Place {
 pub enum Status {
     /// The run is over, with this code.
     Done(u8),
-    /// The words are not `--replay FILE SCRIPT [ARG ...]`, or FILE or SCRIPT is empty.
+    /// The words ask for nothing.
     Usage,
     /// There is no file of this name.
     NoFile(Text),
@@ -25,9 +25,13 @@ pub enum Status {
     BadSchedule(Place),
     /// All steps of the schedule were taken, and the run isn't over.
     ScheduleEnded,
+    /// No thread can take a step, and the run isn't over.
+    Stalled,
+    /// As many steps were taken as there may be, and a thread could go on.
+    StepLimit(u64),
     /// A file or standard input could not be read.
     ReadFault,
-    /// Standard output or standard error could not be written.
+    /// Standard output, standard error or the file that keeps the schedule could not be written.
     WriteFault,
     /// Memory was refused.
     NoMemory,
@@ -44,6 +48,8 @@ impl Status {
             Status::NoFile(_) => 107,
             Status::BadSchedule(_) => 108,
             Status::ScheduleEnded => 109,
+            Status::Stalled => 101,
+            Status::StepLimit(_) => 102,
             Status::ReadFault => 104,
             Status::WriteFault => 105,
             Status::NoMemory => 103,

@@ -1,15 +1,18 @@
-use Rattle.std.proofs.Common.{refl}
-use Rattle.tclthread.proofs.LeftLemmas.{refused, replayed, usage-by-words}
+use Rattle.std.proofs.Common.{◌∙◌}
+use Rattle.tclthread.proofs.CloseLemmas.{by-words, no-plain, not-generate, not-replay}
 use Rattle.tclthread.proofs.alone.alone.Goals as goal
 
-pub returns-in-Err-clause-answer : goal.returns-in-Err-clause-answer
-returns-in-Err-clause-answer g c = refused c.in-Err.status _ _ _ c.in-Err.ensures.refused (record { no_step = c.new.ensures.empty; input = refl; output = refl; errors = refl })
+pub returns-in-Err-clause-not_plain : goal.returns-in-Err-clause-not_plain
+returns-in-Err-clause-not_plain g c = λ some. no-plain c.in-Err.status _ c.in-Err.ensures.refused (λ is. some (c.refuse.ensures.status ∙ is))
 
-pub returns-in-Err-clause-usage : goal.returns-in-Err-clause-usage
-returns-in-Err-clause-usage g c = usage-by-words c.in-Err.status _ _ _ (returns-in-Err-clause-answer g c)
+pub returns-in-Ok-Replay-clause-answer : goal.returns-in-Ok-Replay-clause-answer
+returns-in-Ok-Replay-clause-answer g c = by-words _ _ _ _ _ (rw c.in-Ok-Replay.field-0-is at c.in-Ok-Replay.ensures.asked) c.replay-ended.ensures
 
-pub returns-in-Ok-clause-answer : goal.returns-in-Ok-clause-answer
-returns-in-Ok-clause-answer g c = replayed c.replay.result.status _ _ _ _ _ c.replay.ensures.ran c.in-Ok.ensures.ready c.replay.ensures.left
+pub returns-in-Ok-Replay-clause-not_plain : goal.returns-in-Ok-Replay-clause-not_plain
+returns-in-Ok-Replay-clause-not_plain g c = λ some named reads. not-replay _ named _ reads (rw c.in-Ok-Replay.field-0-is at c.in-Ok-Replay.ensures.asked)
 
-pub returns-in-Ok-clause-usage : goal.returns-in-Ok-clause-usage
-returns-in-Ok-clause-usage g c = usage-by-words c.replay.result.status _ _ _ (returns-in-Ok-clause-answer g c)
+pub returns-clause-answer : goal.returns-clause-answer
+returns-clause-answer g c = by-words _ _ _ _ _ (rw c.in-Ok-Generate.field-0-is at c.in-Ok-Generate.ensures.asked) c.generate-ended.ensures
+
+pub returns-clause-not_plain : goal.returns-clause-not_plain
+returns-clause-not_plain g c = λ some named reads. not-generate _ named _ reads (rw c.in-Ok-Generate.field-0-is at c.in-Ok-Generate.ensures.asked)

@@ -1,5 +1,5 @@
 use Rattle.tclthread.proofs.FollowLemmas.{IsFollowing}
-use Rattle.tclthread.proofs.alone.follow.Given as goal
+use Rattle.tclthread.proofs.run.follow.Given as goal
 
 abbrev pub invariant-loop-place : goal.invariant-loop-place
 invariant-loop-place g l =

@@ -1,9 +1,10 @@
-use Rattle.std.proofs.Common.{◌≡◌, ◌∙◌, ◌≤◌, ◌<◌, ◌⊎◌, Err, ap, arith, inl, inr, length, refl}
-use Rattle.tclthread.proofs.FollowLemmas.{at-machine, either-rises, first-more, first-or-more, first-part, followed, nothing-put, refused-at, rises-from, same-beginning}
-use Rattle.tclthread.proofs.alone.follow.Goals as goal
+use Rattle.std.proofs.Common.{◌≡◌, ◌∙◌, ◌≤◌, ◌<◌, ◌⊎◌, Err, None, Some, ap, arith, inl, inr, length, refl, sym}
+use Rattle.tclthread.proofs.FollowLemmas.{at-run, either-rises, first-more, first-or-more, first-part, followed, nothing-put, refused-at, rises-from, same-beginning}
+use Rattle.tclthread.specs.Choosing.{Replaying}
+use Rattle.tclthread.proofs.run.follow.Goals as goal
 
-pub returns-in-Err-NotEnabled-clause-follows : goal.returns-in-Err-NotEnabled-clause-follows
-returns-in-Err-NotEnabled-clause-follows g c =
+pub returns-in-Err-NotEnabled-clause-allowed : goal.returns-in-Err-NotEnabled-clause-allowed
+returns-in-Err-NotEnabled-clause-allowed g c =
     let same : c.step.new.self ≡ c.loop-place.system = c.in-Err-NotEnabled.ensures.unchanged (ap Err c.in-Err-NotEnabled.field-0-is) in
     rw same (first-part c.loop-place.system.desk.schedule c.args.given.now.threads c.loop-place.place c.loop-place.invariant.taken)
 
@@ -12,7 +13,7 @@ returns-in-Err-NotEnabled-clause-ends g c =
     let same : c.step.new.self ≡ c.loop-place.system = c.in-Err-NotEnabled.ensures.unchanged (ap Err c.in-Err-NotEnabled.field-0-is) in
     let not = c.in-Err-NotEnabled.ensures.not_enabled (ap Err c.in-Err-NotEnabled.field-0-is) in
     let within : c.loop-place.place < length c.args.given.now.threads = omega arith in
-    rw same (at-machine g.S.Source.held c.loop-place.system _ _ not.1 (λ machine barred.
+    rw same (at-run g.S.Source.held c.loop-place.system _ _ not.1 (λ begun machine barred.
     refused-at c.loop-place.system.desk.schedule c.args.given.now.threads c.loop-place.place c.at.result machine within c.loop-place.invariant.taken c.at.ensures.thread barred))
 
 pub returns-in-Err-NotEnabled-clause-no_output : goal.returns-in-Err-NotEnabled-clause-no_output
@@ -42,8 +43,8 @@ returns-in-Err-NotEnabled-clause-same_beginning g c =
     let same : c.step.new.self ≡ c.loop-place.system = c.in-Err-NotEnabled.ensures.unchanged (ap Err c.in-Err-NotEnabled.field-0-is) in
     rw same c.loop-place.invariant.same
 
-pub returns-in-Err-ReadFault-clause-follows : goal.returns-in-Err-ReadFault-clause-follows
-returns-in-Err-ReadFault-clause-follows g c =
+pub returns-in-Err-ReadFault-clause-allowed : goal.returns-in-Err-ReadFault-clause-allowed
+returns-in-Err-ReadFault-clause-allowed g c =
     let same = c.in-Err-ReadFault.ensures.no_entry (ap Err c.in-Err-ReadFault.field-0-is) in
     rw same (first-part c.loop-place.system.desk.schedule c.args.given.now.threads c.loop-place.place c.loop-place.invariant.taken)
 
@@ -63,8 +64,8 @@ pub returns-in-Err-ReadFault-clause-read_fault : goal.returns-in-Err-ReadFault-c
 returns-in-Err-ReadFault-clause-read_fault g c = λ is.
     rises-from _ _ _ c.loop-place.invariant.reads_steady (c.in-Err-ReadFault.ensures.read_fault (ap Err c.in-Err-ReadFault.field-0-is) c.loop-place.invariant.going)
 
-pub returns-in-Err-WriteFault-clause-follows : goal.returns-in-Err-WriteFault-clause-follows
-returns-in-Err-WriteFault-clause-follows g c =
+pub returns-in-Err-WriteFault-clause-allowed : goal.returns-in-Err-WriteFault-clause-allowed
+returns-in-Err-WriteFault-clause-allowed g c =
     let added = c.in-Err-WriteFault.ensures.entry_added (ap Err c.in-Err-WriteFault.field-0-is) c.loop-place.invariant.going in
     let within : c.loop-place.place < length c.args.given.now.threads = omega arith in
     rw added (first-more c.loop-place.system.desk.schedule c.args.given.now.threads c.loop-place.place c.at.result within c.loop-place.invariant.taken c.at.ensures.thread)
@@ -85,8 +86,8 @@ pub returns-in-Err-WriteFault-clause-write_fault : goal.returns-in-Err-WriteFaul
 returns-in-Err-WriteFault-clause-write_fault g c = λ is.
     either-rises _ _ _ _ _ _ c.loop-place.invariant.steady c.loop-place.invariant.errors_steady (c.in-Err-WriteFault.ensures.write_fault (ap Err c.in-Err-WriteFault.field-0-is) c.loop-place.invariant.going)
 
-pub returns-in-Err-NoMemory-clause-follows : goal.returns-in-Err-NoMemory-clause-follows
-returns-in-Err-NoMemory-clause-follows g c =
+pub returns-in-Err-NoMemory-clause-allowed : goal.returns-in-Err-NoMemory-clause-allowed
+returns-in-Err-NoMemory-clause-allowed g c =
     let either = c.in-Err-NoMemory.ensures.at_most_one (ap Err c.in-Err-NoMemory.field-0-is) in
     let within : c.loop-place.place < length c.args.given.now.threads = omega arith in
     first-or-more c.loop-place.system.desk.schedule c.step.new.self.desk.schedule c.args.given.now.threads c.loop-place.place c.at.result within c.loop-place.invariant.taken c.at.ensures.thread either
@@ -119,10 +120,12 @@ pub returns-in-Some-clause-ends : goal.returns-in-Some-clause-ends
 returns-in-Some-clause-ends g c =
     let past : length c.args.given.now.threads ≤ c.loop-place.place = omega arith in
     let whole = followed c.loop-place.place c.loop-place.system.desk.schedule c.args.given.now.threads past c.loop-place.invariant.taken in
-    at-machine g.S.Source.held c.loop-place.system _ _ (c.in-Some.ensures.ended c.loop-place.invariant.going) (λ machine over. (whole, over))
+    at-run g.S.Source.held c.loop-place.system _ (λ begun machine. (c.loop-place.system.desk.schedule ≡ c.args.given.now.threads) × (machine.shared.over ≡ Some c.in-Some.code))
+    (c.in-Some.ensures.ended c.loop-place.invariant.going) (λ begun machine over. (whole, over))
 
 pub returns-in-None-clause-ends : goal.returns-in-None-clause-ends
 returns-in-None-clause-ends g c =
     let past : length c.args.given.now.threads ≤ c.loop-place.place = omega arith in
     let whole = followed c.loop-place.place c.loop-place.system.desk.schedule c.args.given.now.threads past c.loop-place.invariant.taken in
-    at-machine g.S.Source.held c.loop-place.system _ _ (c.in-None.ensures.ended c.loop-place.invariant.going) (λ machine over. (whole, over))
+    at-run g.S.Source.held c.loop-place.system _ (λ begun machine. (Replaying c.args.given.now.threads ≡ Replaying c.loop-place.system.desk.schedule) × (machine.shared.over ≡ None))
+    (c.in-None.ensures.ended c.loop-place.invariant.going) (λ begun machine over. (ap Replaying (sym whole), over))

@@ -1,0 +1,11 @@
+use Rattle.std.proofs.Common.{◌∙◌}
+use Rattle.tclthread.proofs.CloseLemmas.{kept-after, ran-answer}
+use Rattle.tclthread.proofs.alone.replay.Goals as goal
+
+pub returns-in-Ok : goal.returns-in-Ok
+returns-in-Ok g c =
+    rw (c.close.ensures.schedule, c.close.ensures.streams.0, c.close.ensures.streams.1)
+    (ran-answer _ c.run-ran.result.status _ _ _ _ _ c.run-ran.result.errors c.in-Ok.ensures.ready c.run-ran.ensures.left c.run-ran.ensures.ran
+    (record { read_fault = c.run-ran.ensures.read_fault; reads_steady = c.run-ran.ensures.reads_steady; write_fault = c.run-ran.ensures.write_fault; writes_steady = c.run-ran.ensures.writes_steady })
+    (kept-after g.F.Files.map g.F.Files.read_fault_count g.F.Files.write_fault_count _ _ _ _ c.args.files.now c.prepare_replay.new.files c.close.new.files c.in-Ok.ensures.same c.in-Ok.ensures.no_write c.close.ensures.kept)
+    (c.close.ensures.no_read ∙ c.in-Ok.ensures.steady (λ other. cc)) (rw c.faults-before.ensures at c.close.ensures.told))

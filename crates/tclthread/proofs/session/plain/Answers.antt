@@ -1,0 +1,11 @@
+use Rattle.tclthread.proofs.CloseLemmas.{by-words, not-generate, not-replay}
+use Rattle.tclthread.proofs.session.plain.Goals as goal
+
+pub unreachable-requires : goal.unreachable-requires
+unreachable-requires g c = not-replay _ c.requires.0 _ c.requires.1 (rw c.in-Ok-Replay.field-0-is at c.in-Ok-Replay.ensures.asked)
+
+pub unreachable-requires-in-Ok-Generate : goal.unreachable-requires-in-Ok-Generate
+unreachable-requires-in-Ok-Generate g c = not-generate _ c.requires.0 _ c.requires.1 (rw c.in-Ok-Generate.field-0-is at c.in-Ok-Generate.ensures.asked)
+
+pub returns-in-Ok-Plain : goal.returns-in-Ok-Plain
+returns-in-Ok-Plain g c = by-words _ _ _ _ _ (rw c.in-Ok-Plain.field-0-is at c.in-Ok-Plain.ensures.asked) c.start.ensures

@@ -1,0 +1,42 @@
+-- How the steps of a run are chosen.
+use Rattle.std.specs.Prelude.{◌≡◌, ◌≤◌, ⊤, ℕ, List, [], ◌∷◌, ◌++◌, length, Option, Some, None}
+use Rattle.tt_core.specs.Stage.{IsNextAfter}
+use Rattle.tt_machine.specs.Machine.{Machine, Steps}
+
+-- a given list, or at most so many steps: of the threads in turn, or of any
+pub data Mode : Type 0 where
+  Replaying : (given : List ℕ) → Mode
+  InTurn : (steps : ℕ) → Mode
+  Freely : (steps : ℕ) → Mode
+
+-- the most steps, where no list is given
+abbrev pub limit_of : Mode → Option ℕ
+limit_of (Replaying given) = None
+limit_of (InTurn steps) = Some steps
+limit_of (Freely steps) = Some steps
+
+-- a list is the first part of another
+pub record IsFirstPart (part whole : List ℕ) : Type 0 where
+  pub rest : List ℕ
+  pub cut : whole ≡ part ++ rest
+
+-- the steps of a run are a first part of the list, or at most so many
+abbrev pub Allows : Mode → (schedule : List ℕ) → Type 0
+Allows (Replaying given) schedule = IsFirstPart schedule given
+Allows (InTurn steps) schedule = length schedule ≤ steps
+Allows (Freely steps) schedule = length schedule ≤ steps
+
+-- from this machine each step is of the thread that is next in turn after the one before it: at first after this number
+pub data TakesTurns : (after : ℕ) → Machine → (schedule : List ℕ) → Type 0 where
+  none : {after : ℕ} {machine : Machine} → TakesTurns after machine []
+  more : {after thread : ℕ} {old new : Machine} {schedule : List ℕ} →
+      IsNextAfter after (Some thread) old →
+      Steps old thread new →
+      TakesTurns thread new schedule →
+      TakesTurns after old (thread ∷ schedule)
+
+-- the machine before each step has a say in it where threads take turns
+abbrev pub Chooses : Mode → (begun : Machine) → (schedule : List ℕ) → Type 0
+Chooses (Replaying given) begun schedule = ⊤
+Chooses (InTurn steps) begun schedule = TakesTurns 0 begun schedule
+Chooses (Freely steps) begun schedule = ⊤
