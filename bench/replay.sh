@@ -62,7 +62,8 @@ done
 
 for mebibytes in 1 16; do
     lines=$((mebibytes * 16384))
-    yes 123456789012345678901234567890123456789012345678901234567890123 2>/dev/null | head -n "$lines" >"$folder/input"
+    # `yes` ends by the closed pipe, which is no failure.
+    head -n "$lines" >"$folder/input" < <(yes 123456789012345678901234567890123456789012345678901234567890123 2>/dev/null)
     echo 'while {[gets stdin line] >= 0} {}' >"$folder/lines.tcl"
     total=$((lines + 1 + (2 * (lines + 1) + 1) / 10000 + 1))
     printf 'schedule 1\n1 %d\n' "$total" >"$folder/lines.schedule"
@@ -71,12 +72,10 @@ done
 
 # The most resident memory of a replay, in KiB.
 resident() {
-    python3 -c '
-import resource, subprocess, sys
-subprocess.run(sys.argv[1:], check=True, stdout=subprocess.DEVNULL)
-print(resource.getrusage(resource.RUSAGE_CHILDREN).ru_maxrss)' "$program" --replay "$folder/$1.schedule" "$folder/$1.tcl"
+    command time -f %M -o "$folder/memory" "$program" --replay "$folder/$1.schedule" "$folder/$1.tcl" >/dev/null
+    tail -n 1 "$folder/memory"
 }
 
-if command -v python3 >/dev/null; then
+if type -P time >/dev/null; then
     echo "900 threads that wait: $((($(resident threads) - $(resident empty)) / 900)) KiB each"
 fi
