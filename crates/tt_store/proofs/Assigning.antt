@@ -1,5 +1,5 @@
 -- Texts are given to variables one after the other.
-use Rattle.std.proofs.Common.{◌≡◌, ℕ, ◌+◌, ◌<◌, ◌≤◌, List, [], ◌∷◌, Option, Some, None, length, get_or, drop, sym, subst}
+use Rattle.std.proofs.Common.{◌≡◌, ℕ, ◌+◌, ◌<◌, ◌≤◌, List, Option, Some, None, length, get_or, drop, sym, subst}
 use Rattle.std.proofs.lemmas.List.{drop_all}
 use Rattle.tt_store.specs.Held.{Held}
 use Rattle.tt_store.specs.Listed.{Assigns, AssignsOne, first_of, paired, none, more, fails}

@@ -6,10 +6,14 @@ use Rattle.tt_lists.specs.Answers.{insert_answer}
 use Rattle.tt_lists.specs.Messages.{list_message}
 use Rattle.tt_lists.specs.Reading.{split_of}
 use Rattle.tt_lists.specs.Spelling.{list_of}
+use Rattle.tt_lists.specs.declared.answer.ListAnswer.{ListAnswer}
+use Rattle.tt_lists.specs.declared.answer.ListAnswer.TheVariants.{Made, Bad}
 use Rattle.tt_lists.specs.declared.items.Split.{Split}
 use Rattle.tt_lists.specs.declared.items.Split.TheVariants as split
 use Rattle.tt_vars.specs.declared.answers.Written.{Written}
 use Rattle.tt_vars.specs.declared.answers.Written.TheVariants.{Yes, No}
+use Rattle.tt_store.specs.declared.listed.Longer.{Longer}
+use Rattle.tt_store.specs.declared.listed.Longer.TheVariants as longer
 use Rattle.tt_store.specs.Held.{Fails, Held, Meaning, Refuses, Sets}
 use Rattle.tt_store.specs.Messages.{cannot_set}
 use Rattle.tt_store.specs.Scalars.{Changes}
@@ -20,6 +24,11 @@ abbrev pub lappend : Meaning
 lappend usage (name ∷ values) old outcome new =
     Changes name [] (λ value. insert_answer value (codes "end") values) old outcome new
 lappend usage [] old outcome new = Refuses usage old outcome new
+
+-- the longer list, or the message
+abbrev pub answer_of : Longer → ListAnswer
+answer_of (longer.Made value) = Made value
+answer_of (longer.Bad message) = Bad message
 
 -- a text is given to a variable; the message, where it can't be
 abbrev pub message_of : (word : List ℕ) → Written → Option (List ℕ)

@@ -4,17 +4,25 @@ ghost use Rattle.tt_lists.specs.Answers.{insert_answer};
 ghost use Rattle.tt_lists.specs.Reading.{split_of};
 ghost use Rattle.tt_lists.specs.declared.items.Split.TheVariants.{Items};
 ghost use Rattle.tt_store.specs.Listed as listed;
-ghost use Rattle.tt_store.specs.Scalars.{Changes, made_of};
+ghost use Rattle.tt_store.specs.Scalars.{Changes, Counts, GivesMade, made_of};
 
 use crate::Store;
-use crate::messages::cannot_set;
-use crate::scalars::unread;
+use crate::messages::{cannot_read, cannot_set};
 use crate::spot::spot_of;
 use std::alloc::Global;
 use tt_calls::Outcome;
-use tt_lists::{ListAnswer, Split, insert, join_list, split};
+use tt_lists::{Split, join_list, split};
 use tt_text::{NoMemory, Text};
+use tt_value::Value;
 use tt_vars::{VarFault, Written};
+
+/// A list with more items, or why there is none.
+#[derive(Debug, Drop)]
+pub(crate) enum Longer {
+    Made(Value),
+    /// The message.
+    Bad(Text),
+}
 
 impl Store {
     pub(crate) fn lappend(&mut self, usage: &[u8], words: &[Text]) -> Result<Outcome, NoMemory>
@@ -29,10 +37,33 @@ impl Store {
     fn append_items(&mut self, word: &Text, values: &[Text]) -> Result<Outcome, NoMemory>
         ensures { IfOk result (λ outcome. Changes word.now [] (λ value. insert_answer value (codes "end") values.now) self.old outcome self.new) }
     {
-        let found = self.counted(word, b"")?;
-        let made = longer(self.alloc, word, values, found)?;
-        let outcome = self.give_made(word, made)?;
+        let found = self.listed(word)?;
+        let longer = made_longer(self.alloc, word, values, found)?;
+        let outcome = self.give_longer(word, longer)?;
         Ok(outcome)
+    }
+
+    // The value of a word's variable, where a missing one counts as the empty text.
+    fn listed(&self, word: &Text) -> Result<Result<Value, VarFault>, NoMemory>
+        ensures { IfOk result (Counts word.now [] self.now) }
+    {
+        let spot = spot_of(self.alloc, word.as_bytes())?;
+        let found = self.find_value(&spot)?;
+        match found {
+            Err(VarFault::NoSuchVariable | VarFault::NoSuchElement) => {
+                Ok(Ok(Value::from_text(Text::new(self.alloc))))
+            }
+            found => Ok(found),
+        }
+    }
+
+    fn give_longer(&mut self, word: &Text, longer: Longer) -> Result<Outcome, NoMemory>
+        ensures { IfOk result (λ outcome. GivesMade word.now (listed.answer_of longer) self.old outcome self.new) }
+    {
+        match longer {
+            Longer::Made(value) => self.give_value(word, value),
+            Longer::Bad(message) => Outcome::failed(message),
+        }
     }
 
     pub(crate) fn lassign(&mut self, usage: &[u8], words: &[Text]) -> Result<Outcome, NoMemory>
@@ -123,16 +154,29 @@ fn told_rest(alloc: Global, rest: &[Text], message: Option<Text>) -> Result<Outc
     }
 }
 
-fn longer(
+fn made_longer(
     alloc: Global,
     word: &Text,
     values: &[Text],
-    found: Result<Text, VarFault>,
-) -> Result<ListAnswer, NoMemory>
-    ensures { IfOk result (λ made. made ≡ made_of word.now (λ value. insert_answer value (codes "end") values.now) found) }
+    found: Result<Value, VarFault>,
+) -> Result<Longer, NoMemory>
+    ensures { IfOk result (λ longer. listed.answer_of longer ≡ made_of word.now (λ value. insert_answer value (codes "end") values.now) found) }
 {
     match found {
-        Ok(value) => insert(alloc, value.as_bytes(), b"end", values),
-        Err(fault) => unread(alloc, word, fault),
+        Ok(value) => grown(alloc, value, values),
+        Err(fault) => {
+            let message = cannot_read(alloc, word.as_bytes(), fault)?;
+            Ok(Longer::Bad(message))
+        }
+    }
+}
+
+fn grown(alloc: Global, value: Value, values: &[Text]) -> Result<Longer, NoMemory>
+    ensures { IfOk result (λ longer. listed.answer_of longer ≡ insert_answer value (codes "end") values.now) }
+{
+    let mut value = value;
+    match value.push_items(alloc, values)? {
+        None => Ok(Longer::Made(value)),
+        Some(message) => Ok(Longer::Bad(message)),
     }
 }

@@ -18,3 +18,25 @@ fn a_value_is_its_text(rt: HostRuntime) -> Result<(), Fail> {
     assert_eq!(rt; list.copy()?.into_text().as_bytes(), b"a b".as_slice());
     Ok(())
 }
+
+#[test]
+fn a_list_grows_at_its_end(rt: HostRuntime) -> Result<(), Fail> {
+    let alloc = rt.alloc();
+    let items = [
+        Text::from_bytes(alloc, b"c d")?,
+        Text::from_bytes(alloc, b"")?,
+    ];
+    let rows: [(&[u8], &[u8], bool); 3] = [
+        (b"", b"{c d} {} {c d} {}", true),
+        (b" a\n#b", b"a #b {c d} {} {c d} {}", true),
+        (b"a {b", b"a {b", false),
+    ];
+    for (before, after, is_list) in rows {
+        let mut list = Value::from_text(Text::from_bytes(alloc, before)?);
+        for _ in 0..2 {
+            assert_eq!(rt; list.push_items(alloc, &items)?.is_none(), is_list);
+        }
+        assert_eq!(rt; list.text().as_bytes(), after);
+    }
+    Ok(())
+}

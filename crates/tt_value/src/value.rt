@@ -1,13 +1,25 @@
-ghost use Rattle.std.specs.Prelude.{◌≡◌, IfOk};
+ghost use Rattle.std.specs.Prelude.{◌≡◌, IfOk, IsSome, OnOk, ◌++◌, ℕ, List, codes};
 ghost use Rattle.std.specs.Fmt.{signed_decimal};
+ghost use Rattle.tt_lists.specs.Answers.{insert_answer};
 ghost use Rattle.tt_lists.specs.Reading.{split_of};
+ghost use Rattle.tt_lists.specs.Spelling.{list_of};
 ghost use Rattle.tt_number.specs.Numerals.{whole_of};
+ghost use Rattle.tt_value.specs.Forms.{answer_of};
 
 use std::alloc::Global;
 use std::marker::Model;
-use tt_lists::{Split, split};
+use tt_lists::{ListAnswer, Split, insert, push_item, split};
 use tt_number::{NumberFault, read_whole, whole_text};
 use tt_text::{NoMemory, Text};
+
+/// What is known of a value's text.
+#[derive(Clone, Copy, Debug)]
+enum Form {
+    /// Nothing.
+    Any,
+    /// It is the canonical text of a list.
+    Listed,
+}
 
 /// A value, which is its text (Tcl(n)). Contracts see the text.
 ///
@@ -15,6 +27,7 @@ use tt_text::{NoMemory, Text};
 #[derive(Debug, Drop)]
 pub struct Value {
     text: Text,
+    form: Form,
 }
 
 impl Model for Value {
@@ -23,6 +36,10 @@ impl Model for Value {
     ghost Value = { List ℕ };
 
     ghost view = { λ value. value.text };
+
+    ghost use Rattle.tt_value.specs.Forms.{IsFormed};
+
+    ghost invariant = { λ value. IsFormed value.form value.text };
 }
 
 impl Value {
@@ -30,7 +47,10 @@ impl Value {
     pub fn from_text(text: Text) -> Self
         ensures text { result ≡ text }
     {
-        Value { text }
+        Value {
+            text,
+            form: Form::Any,
+        }
     }
 
     /// The value of a whole number, in decimal.
@@ -40,7 +60,10 @@ impl Value {
         ensures written { IfOk result (λ value. value ≡ signed_decimal number) }
     {
         let text = whole_text(alloc, number)?;
-        Ok(Value { text })
+        Ok(Value {
+            text,
+            form: Form::Any,
+        })
     }
 
     /// A second value of the same text.
@@ -50,7 +73,10 @@ impl Value {
         ensures copied { IfOk result (λ value. value ≡ self.now) }
     {
         let text = self.text.copy()?;
-        Ok(Value { text })
+        Ok(Value {
+            text,
+            form: self.form,
+        })
     }
 
     /// The text.
@@ -64,7 +90,7 @@ impl Value {
     pub fn into_text(self) -> Text
         ensures text { result ≡ self }
     {
-        let Value { text } = self;
+        let Value { text, form: _ } = self;
         text
     }
 
@@ -85,4 +111,47 @@ impl Value {
     {
         split(alloc, self.text.as_bytes())
     }
+
+    /// Puts items at the end of the value as a list (lappend(n)), which is then the canonical text of the longer list. In
+    /// time of these items alone, where the value was made so.
+    ///
+    /// The message of the fault where the text is no list, and then the value stays. `NoMemory` where memory is refused.
+    pub fn push_items(&mut self, alloc: Global, items: &[Text]) -> Result<Option<Text>, NoMemory>
+        ensures answer { IfOk result (λ message. insert_answer self.old (codes "end") items.now ≡ answer_of self.new message) }
+        ensures stays { IfOk result (λ message. IsSome message → self.new ≡ self.old) }
+    {
+        match self.form {
+            Form::Listed => {
+                push_all(alloc, &mut self.text, items)?;
+                Ok(None)
+            }
+            Form::Any => self.join_items(alloc, items),
+        }
+    }
+
+    // The text is split, and that of the longer list is made anew.
+    fn join_items(&mut self, alloc: Global, items: &[Text]) -> Result<Option<Text>, NoMemory>
+        ensures answer { IfOk result (λ message. insert_answer self.old (codes "end") items.now ≡ answer_of self.new message) }
+        ensures stays { IfOk result (λ message. IsSome message → self.new ≡ self.old) }
+    {
+        match insert(alloc, self.text.as_bytes(), b"end", items)? {
+            ListAnswer::Made(text) => {
+                self.text = text;
+                self.form = Form::Listed;
+                Ok(None)
+            }
+            ListAnswer::Bad(message) => Ok(Some(message)),
+        }
+    }
+}
+
+// Items go to the end of the canonical text of a list.
+fn push_all(alloc: Global, text: &mut Text, items: &[Text]) -> Result<(), NoMemory>
+    ensures pushed { OnOk result ((before : List (List ℕ)) → text.old ≡ list_of before → text.new ≡ list_of (before ++ items.now)) }
+    ensures listed { ((before : List (List ℕ)) × (text.old ≡ list_of before)) → (after : List (List ℕ)) × (text.new ≡ list_of after) }
+{
+    for item in items {
+        push_item(alloc, text, item.as_bytes())?;
+    }
+    Ok(())
 }
