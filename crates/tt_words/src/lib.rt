@@ -11,7 +11,7 @@ mod setting;
 mod values;
 
 pub use asked::{Asked, Generate, Plain, Replay};
-pub use reading::read_words;
+pub use reading::{USAGE, read_words};
 
 #[cfg(test)]
 mod tests;

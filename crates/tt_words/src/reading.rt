@@ -9,13 +9,16 @@ use crate::values::{ordinary, read_values};
 use std::alloc::Global;
 use tt_text::NoMemory;
 
-/// What the words after the program's name ask for.
+/// How the program is called.
+pub const USAGE: &[u8] =
+    b"tclthread [--workers N] [--steps N] [--limit N] [--record FILE] [--replay FILE] [--generate NUMBER] SCRIPT [ARG ...]";
+
+/// What the words after the program's name ask for (`USAGE`).
 ///
-/// `[--workers N] [--steps N] [--limit N] [--record FILE] [--replay FILE] [--generate NUMBER] SCRIPT [ARG ...]`: the
-/// value of an option is the next word, unless that begins with `-` and is longer than `-`, or follows `=` in the same
-/// word. Each option comes at most once, before or after other words, and up to the word `--`; the words after that are
-/// ordinary. A number is 1 to 20 digits, and a name is not empty. `--replay` excludes each other option but `--limit`;
-/// `--generate` excludes `--workers`, and then the one ordinary word is a number of jobs.
+/// The value of an option is the next word, unless that begins with `-` and is longer than `-`, or follows `=` in the
+/// same word. Each option comes at most once, before or after other words, and up to the word `--`; the words after that
+/// are ordinary. A number is 1 to 20 digits, and a name is not empty. `--replay` excludes each other option but
+/// `--limit`; `--generate` excludes `--workers`, and then the one ordinary word is a number of jobs.
 ///
 /// `None` exactly where the words are not so. `NoMemory` where memory for the words is refused.
 pub fn read_words(alloc: Global, words: &[String]) -> Result<Option<Asked<'_>>, NoMemory>

@@ -5,6 +5,8 @@
 //! words that are none of the program's, `plain SCRIPT (ARGUMENTS) WORKERS STEPS LIMIT FILE`, `replay FILE SCRIPT
 //! (ARGUMENTS) LIMIT`, or `generate NUMBER SIZE STEPS LIMIT FILE`, where `unkept` stands for no file. A line that begins
 //! with `#` is no row.
+//!
+//! The manual page stands there too, and the last line says whether its synopsis is the program's usage line.
 #![tactic(auto)]
 
 mod telling;
@@ -12,7 +14,10 @@ mod telling;
 use std::alloc::{AllocError, Global};
 use std::fs;
 use telling::told;
-use tt_words::read_words;
+use tt_words::{USAGE, read_words};
+
+/// What stands before the synopsis in the manual page.
+const HEADING: &str = ".SH SYNOPSIS\n.nf\n";
 
 fn main(rt: HostRuntime) -> anyhow::Result<()> {
     let text = fs::read_to_string(&rt, "words.rows")?;
@@ -28,7 +33,24 @@ fn main(rt: HostRuntime) -> anyhow::Result<()> {
         }
     }
     println!(rt; "{kept} of {rows} rows hold")?;
+    let page = fs::read_to_string(&rt, "tclthread.1")?;
+    let answer = if has_usage(rt.alloc(), page.as_str())? {
+        "is"
+    } else {
+        "is NOT"
+    };
+    println!(rt; "the manual page's synopsis {answer} the usage line")?;
     Ok(())
+}
+
+/// Whether the page's synopsis is the usage line. The page writes each `-` with a backslash before it.
+fn has_usage(alloc: Global, page: &str) -> Result<bool, AllocError> {
+    let Some((_, rest)) = page.split_once(HEADING) else {
+        return Ok(false);
+    };
+    let synopsis = rest.lines().next().unwrap_or("");
+    let plain = synopsis.replace(alloc, "\\-", "-")?;
+    Ok(plain.as_bytes() == USAGE)
 }
 
 /// Whether the row holds; else it is shown.
