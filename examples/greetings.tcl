@@ -1,5 +1,8 @@
-thread::create
-thread::create
-thread::send -async tid2 {puts {hello from tid2}}
-thread::send -async tid3 {puts {hello from tid3}}
+# Two threads write a line each, when they get to it. The main thread waits for their ends.
+set first [thread::create]
+set second [thread::create]
+thread::send -async $first {puts "hello from [thread::id]"}
+thread::send -async $second {puts "hello from [thread::id]"}
 puts {main has sent both}
+thread::release -wait $first
+thread::release -wait $second
