@@ -1,0 +1,146 @@
+-- How a run begins, and what it leaves.
+use Rattle.std.proofs.Common.{◌≡◌, ◌∙◌, ℕ, zero, suc, List, [], ◌∷◌, replicate, Option, Some, None, IfSome, arith, ap, refl, slice_get, sym, subst}
+use Rattle.tt_calls.specs.declared.start.Start.TheVariants as start
+use Rattle.tt_core.proofs.ActionLemmas as actions
+use Rattle.tt_core.proofs.ActionLemmas.{going, some-none, told-map}
+use Rattle.tt_core.specs.Faithful.{IsFaithful, is_cut}
+use Rattle.tt_desk.specs.Desk.{Ground, unread}
+use Rattle.tt_desk.specs.declared.fault.StepFault.{StepFault}
+use Rattle.tt_devices.proofs.StreamLemmas.{Grows-same}
+use Rattle.tt_devices.specs.declared.sink.Sink.{Ghosts as OfSink}
+use Rattle.tt_devices.specs.declared.source.Source.{Ghosts as OfSource}
+use Rattle.tt_machine.specs.Machine.{Machine, none, start_machine}
+use Rattle.tt_shared.specs.State.{start_state}
+use Rattle.tt_workers.proofs.WhereLemmas.{fresh-placed}
+use Rattle.tt_workers.specs.Ends.{IsEnd, kept_with}
+use Rattle.tt_workers.specs.Places.{AreWhere, Beginning, IsFresh, Note, noted_in}
+use Rattle.tt_workers.specs.Ran.{HasRun, IsRan, told_end}
+use Rattle.tt_workers.specs.World.{IsTied, StandsAs}
+use Rattle.tt_workers.specs.declared.next.RunEnd.{RunEnd}
+use Rattle.tt_workers.specs.declared.next.RunEnd.TheVariants as ends
+use Rattle.tt_workers.specs.declared.place.Place.{Place}
+use Rattle.tt_workers.specs.declared.ran.Ran.{Ran}
+
+get-replicate : {X : Type 0} (count : ℕ) (x y : X) (index : ℕ) → slice_get (replicate count x) index ≡ Some y → y ≡ x
+get-replicate zero x y index there = absurd (some-none (sym there))
+get-replicate (suc count) x y zero there = cc there
+get-replicate (suc count) x y (suc index) there = get-replicate count x y index there
+
+noted-replicate : {S K E : Type 0} (count : ℕ) (begun : Beginning S K E) (index : ℕ)
+    → noted_in (slice_get (replicate count (record { begun = begun; out = None })) index) ≡ None
+noted-replicate zero begun index = refl
+noted-replicate (suc count) begun zero = refl
+noted-replicate (suc count) begun (suc index) = noted-replicate count begun index
+
+module _ {S K E : Type 0} (source : OfSource S) (output : OfSink K) (errors : OfSink E) where
+  -- a world that has just begun fits notes by which nobody is out
+  pub begun-tied : (begun : Beginning S K E) (desk : Ground S K E) (places : List Place) (at : Place) (count : ℕ)
+      → desk ≡ record { shared = start_state (start.Script begun.setup.script); schedule = []; devices = record { input = begun.devices.input; ahead = []; output = begun.devices.output; errors = begun.devices.errors }; kept = None }
+      → places ≡ at ∷ []
+      → IsFresh begun.setup 1 (record { start = start.Script begun.setup.script; replies = [] }) at
+      → IsTied source output errors (record { begun = begun; desk = desk; places = places; end = None }) (replicate count (record { begun = begun; out = None }))
+  begun-tied begun desk places at count is are fresh = record {
+    same_run = λ index note there. ap (λ (n : Note S K E). n.begun) (get-replicate count (record { begun = begun; out = None }) note index there);
+    counted = record {
+      kept = rw is refl;
+      within = rw is (omega arith);
+      no_output = λ none. rw is refl;
+      no_errors = λ none. rw is refl;
+      reads = rw is refl;
+      writes = (rw is refl, rw is refl);
+    };
+    standing = actions.begun source.held output.got errors.got begun.setup begun.devices.input begun.devices.output begun.devices.errors
+        (AreWhere (replicate count (record { begun = begun; out = None })) places) desk is
+        (λ bytes. record {
+          placed = rw are (fresh-placed (replicate count (record { begun = begun; out = None })) begun.setup 1 (record { start = start.Script begun.setup.script; replies = [] }) at fresh, tt);
+          out = λ index task there. absurd (some-none (sym there ∙ noted-replicate count begun index));
+        });
+  }
+
+  -- ---- what is left ----
+
+  -- the counts of a run whose end is told
+  ends-of : (steps : ℕ) (schedule : List ℕ) (notes : List (Note S K E)) (places : List Place) (kept : Option StepFault) (end : RunEnd) (machine : Machine)
+      → kept ≡ kept_with end → (kept ≡ None → StandsAs (Some end) steps schedule notes places machine) → IsEnd steps schedule end machine
+  ends-of steps schedule notes places kept (ends.Over code) machine is at = at is
+  ends-of steps schedule notes places kept ends.Stuck machine is at = at is
+  ends-of steps schedule notes places kept ends.Limit machine is at = at is
+  ends-of steps schedule notes places kept ends.Read machine is at = tt
+  ends-of steps schedule notes places kept ends.Write machine is at = tt
+  ends-of steps schedule notes places kept ends.Memory machine is at = tt
+
+  finished-some : (begun : Beginning S K E) (desk : Ground S K E) (places : List Place) (end : RunEnd) (notes : List (Note S K E)) (ran : Ran S K E)
+      → ran.end ≡ end → ran.schedule.threads ≡ desk.schedule
+      → (ran.input ≡ desk.devices.input) × (ran.output ≡ desk.devices.output) × (ran.errors ≡ desk.devices.errors)
+      → IsTied source output errors (record { begun = begun; desk = desk; places = places; end = Some end }) notes
+      → IsRan source output errors begun ran
+  finished-some begun desk places end notes ran is schedule devices tied = record {
+    within = rw schedule tied.counted.within;
+    no_output = λ none. devices.1 ∙ tied.counted.no_output (sym schedule ∙ none);
+    no_errors = λ none. devices.2 ∙ tied.counted.no_errors (sym schedule ∙ none);
+    reads = rw (is, devices.0) tied.counted.reads;
+    writes = rw (is, devices.1, devices.2) tied.counted.writes;
+    has_run = told-map (source.held begun.devices.input) _ _ tied.standing (λ bytes standing.
+        let machine = standing.0 in
+        record {
+          machine = machine;
+          runs = rw schedule standing.1.ran;
+          faithful = rw (schedule, is, devices.1, devices.2) (subst (λ (kept : Option StepFault). IsFaithful (is_cut kept) (start_machine begun.setup bytes) desk.schedule
+              (output.got begun.devices.output) (output.got desk.devices.output) (errors.got begun.devices.errors) (errors.got desk.devices.errors) machine) tied.counted.kept standing.1.faithful);
+          ends = rw (schedule, is) (ends-of begun.steps desk.schedule notes places desk.kept end machine tied.counted.kept
+              (λ unmet. (going desk.kept desk.shared (unread source.held desk.devices) (IsEnd begun.steps desk.schedule end) machine unmet standing.1.at).1));
+        });
+  }
+
+  finished-none : (begun : Beginning S K E) (desk : Ground S K E) (places : List Place) (notes : List (Note S K E)) (ran : Ran S K E)
+      → ran.end ≡ ends.Memory → ran.schedule.threads ≡ desk.schedule
+      → (ran.input ≡ desk.devices.input) × (ran.output ≡ desk.devices.output) × (ran.errors ≡ desk.devices.errors)
+      → IsTied source output errors (record { begun = begun; desk = desk; places = places; end = None }) notes
+      → IsRan source output errors begun ran
+  finished-none begun desk places notes ran is schedule devices tied = record {
+    within = rw schedule tied.counted.within;
+    no_output = λ none. devices.1 ∙ tied.counted.no_output (sym schedule ∙ none);
+    no_errors = λ none. devices.2 ∙ tied.counted.no_errors (sym schedule ∙ none);
+    reads = rw (is, devices.0) tied.counted.reads;
+    writes = rw (is, devices.1, devices.2) tied.counted.writes;
+    has_run = told-map (source.held begun.devices.input) _ _ tied.standing (λ bytes standing.
+        let machine = standing.0 in
+        record {
+          machine = machine;
+          runs = rw schedule standing.1.ran;
+          faithful = rw (schedule, is, devices.1, devices.2) (subst (λ (kept : Option StepFault). IsFaithful (is_cut kept) (start_machine begun.setup bytes) desk.schedule
+              (output.got begun.devices.output) (output.got desk.devices.output) (errors.got begun.devices.errors) (errors.got desk.devices.errors) machine) tied.counted.kept standing.1.faithful);
+          ends = rw is tt;
+        });
+  }
+
+  pub finished : (begun : Beginning S K E) (desk : Ground S K E) (places : List Place) (end : Option RunEnd) (notes : List (Note S K E)) (ran : Ran S K E)
+      → ran.end ≡ told_end end → ran.schedule.threads ≡ desk.schedule
+      → (ran.input ≡ desk.devices.input) × (ran.output ≡ desk.devices.output) × (ran.errors ≡ desk.devices.errors)
+      → IsTied source output errors (record { begun = begun; desk = desk; places = places; end = end }) notes
+      → IsRan source output errors begun ran
+  finished begun desk places None notes ran is schedule devices tied = finished-none begun desk places notes ran is schedule devices tied
+  finished begun desk places (Some end) notes ran is schedule devices tied = finished-some begun desk places end notes ran is schedule devices tied
+
+  -- a run for which there was no memory
+  pub no-memory : (begun : Beginning S K E) (ran : Ran S K E)
+      → ran.end ≡ ends.Memory → ran.schedule.threads ≡ []
+      → (ran.input ≡ begun.devices.input) × (ran.output ≡ begun.devices.output) × (ran.errors ≡ begun.devices.errors)
+      → IsRan source output errors begun ran
+  no-memory begun ran is schedule devices = record {
+    within = rw schedule (omega arith);
+    no_output = λ none. devices.1;
+    no_errors = λ none. devices.2;
+    reads = rw (is, devices.0) refl;
+    writes = rw (is, devices.1, devices.2) (refl, refl);
+    has_run = by-told (source.held begun.devices.input);
+  }
+    where
+      by-told : (told : Option (List ℕ)) → IfSome told (λ bytes. HasRun source output errors begun bytes ran)
+      by-told None = tt
+      by-told (Some bytes) = record {
+        machine = start_machine begun.setup bytes;
+        runs = rw schedule none;
+        faithful = rw (schedule, is, devices.1, devices.2) (record { out = Grows-same (output.got begun.devices.output); err = Grows-same (errors.got begun.devices.errors) });
+        ends = rw is tt;
+      }

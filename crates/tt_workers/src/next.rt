@@ -1,0 +1,52 @@
+use crate::boxed_interp::BoxedInterp;
+use tt_calls::Reply;
+
+/// A thread that is handed out: its interpreter is to be resumed with this.
+#[derive(Debug, Drop)]
+pub struct Task {
+    /// The thread's number, from 1.
+    pub thread: u32,
+    /// Its interpreter.
+    pub interp: BoxedInterp,
+    /// The reply to what it asks, or nothing where it has not begun.
+    pub reply: Option<Reply>,
+}
+
+/// A thread that comes back.
+#[derive(Debug, Drop)]
+pub struct Done {
+    /// The thread's number, from 1.
+    pub thread: u32,
+    /// Its interpreter, as it was left.
+    pub interp: BoxedInterp,
+    /// Whether it was resumed; memory was refused otherwise.
+    pub fine: bool,
+}
+
+/// What a worker does next.
+#[derive(Debug, Drop)]
+pub enum Next {
+    /// It resumes this thread.
+    Run(Task),
+    /// It waits for another worker's turn.
+    Rest,
+    /// It ends.
+    Over,
+}
+
+/// How a run ends.
+#[derive(Clone, Copy, Debug, PartialEq, Eq)]
+pub enum RunEnd {
+    /// The run is over, with this exit code.
+    Over(u8),
+    /// No thread can take a step.
+    Stuck,
+    /// The most steps were taken.
+    Limit,
+    /// Standard input failed.
+    Read,
+    /// Standard output or standard error failed.
+    Write,
+    /// Memory was refused.
+    Memory,
+}
