@@ -98,20 +98,6 @@ kept-after map reads writes kept end status schedule old mid new same steady (ke
 kept-after map reads writes kept end status schedule old mid new same steady (keeping.failed name named some is rises others) =
     keeping.failed name named some is (rw (← steady) rises) (rw (← same) others)
 
--- a run in turn is one of any order
-pub freely-ends : (end : Status) (steps : ℕ) (machine : Machine) (schedule : List ℕ) → EndsAs end (InTurn steps) machine schedule → EndsAs end (Freely steps) machine schedule
-freely-ends (Done code) steps machine schedule ends = ends
-freely-ends ScheduleEnded steps machine schedule ends = absurd (cc ends.0)
-freely-ends (BadSchedule (Entry number)) steps machine schedule ends = absurd (cc ends.next)
-freely-ends Stalled steps machine schedule ends = ends
-freely-ends (StepLimit most) steps machine schedule ends = record { limit = ends.limit; full = ends.full; thread = ends.thread; can = ends.can }
-freely-ends ReadFault steps machine schedule ends = tt
-freely-ends WriteFault steps machine schedule ends = tt
-freely-ends NoMemory steps machine schedule ends = tt
-freely-ends Usage steps machine schedule ends = ends
-freely-ends (NoFile name) steps machine schedule ends = ends
-freely-ends (BadSchedule (Byte offset)) steps machine schedule ends = ends
-
 -- ---- by the words
 
 pub by-words : {F S K E : Type 0} (words : List (List ℕ)) (asked : Asked) (status : Status) (files : Store F) (left : Left S K E) → Reads words asked → IsAnswered (AnswersTo asked status files) status left → IsAnswered (Answers status words files) status left
@@ -170,9 +156,6 @@ not-generate words named other a b = let same = one_reading words (plain named) 
 few : (value : Option (List ℕ)) (steps : ℕ) → HasSteps value steps → steps ≤ most_steps
 few None steps is = omega arith
 few (Some text) steps is = is.at_most
-
-pub few-plain : (words : List (List ℕ)) (named : Plain) → Reads words (plain named) → named.steps ≤ most_steps
-few-plain words named is = few _ named.steps is.asks.steps
 
 pub few-generated : (words : List (List ℕ)) (named : Generate) → Reads words (generate named) → named.steps ≤ most_steps
 few-generated words named is = few _ named.steps is.asks.steps

@@ -1,5 +1,6 @@
 pub mod AnswerLemmas
 pub mod CloseLemmas
 pub mod FollowLemmas
+pub mod FreelyLemmas
 pub mod LineLemmas
 pub mod TurnLemmas

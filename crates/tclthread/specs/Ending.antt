@@ -3,6 +3,8 @@ use Rattle.std.specs.Prelude.{◌≡◌, ⊤, ℕ, suc, List, ◌∷◌, ◌++�
 use Rattle.tt_desk.specs.declared.fault.StepFault.{StepFault}
 use Rattle.tt_desk.specs.declared.fault.StepFault.TheVariants as fault
 use Rattle.tt_machine.specs.Machine.{CanStep, IsBarred, IsStuck, Machine}
+use Rattle.tt_workers.specs.declared.next.RunEnd.{RunEnd}
+use Rattle.tt_workers.specs.declared.next.RunEnd.TheVariants as run
 use Rattle.tclthread.specs.Choosing.{Mode, Replaying, InTurn, Freely, limit_of}
 use Rattle.tclthread.specs.declared.status.Place.TheVariants.{Byte, Entry}
 use Rattle.tclthread.specs.declared.status.Status.{Status}
@@ -70,3 +72,12 @@ kept_by (StepLimit steps) = None
 kept_by ReadFault = Some fault.ReadFault
 kept_by WriteFault = Some fault.WriteFault
 kept_by NoMemory = Some fault.NoMemory
+
+-- how a call ends whose run on workers ended so, in at most so many steps
+abbrev pub status_of : RunEnd → (steps : ℕ) → Status
+status_of (run.Over code) steps = Done code
+status_of run.Stuck steps = Stalled
+status_of run.Limit steps = StepLimit steps
+status_of run.Read steps = ReadFault
+status_of run.Write steps = WriteFault
+status_of run.Memory steps = NoMemory

@@ -7,10 +7,7 @@ ghost use Rattle.tclthread.specs.Lines.{IsSilent, IsTold, framed, line_of};
 use crate::status::{Place, Status};
 use itoa::Buffer;
 use tt_devices::{Failed, Sink};
-
-/// How the program is called.
-const USAGE: &[u8] =
-    b"usage: tclthread [--workers N] [--steps N] [--limit N] [--record FILE] [--replay FILE] [--generate NUMBER] SCRIPT [ARG ...]";
+use tt_words::USAGE;
 
 /// Puts the status line, for every status but `Done`. `before` is the count of faults of standard error when the call
 /// began: after a failure nothing is put. It takes no memory.
@@ -50,7 +47,7 @@ fn put_line<E: Sink>(status: &Status, errors: &mut E) -> Result<(), Failed>
 {
     match status {
         Status::Done(_) => put_words(errors, b"", b""),
-        Status::Usage => put_words(errors, USAGE, b""),
+        Status::Usage => put_words(errors, b"usage: ", USAGE),
         Status::NoFile(name) => put_words(errors, b"no file ", name.as_bytes()),
         Status::BadSchedule(place) => put_place(errors, *place),
         Status::ScheduleEnded => put_words(errors, b"schedule ended", b""),

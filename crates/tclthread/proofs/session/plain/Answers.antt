@@ -1,4 +1,6 @@
+use Rattle.tt_words.specs.Told.{told_plain}
 use Rattle.tclthread.proofs.CloseLemmas.{by-words, not-generate, not-replay}
+use Rattle.tclthread.proofs.FreelyLemmas.{plain-steps, plain-workers}
 use Rattle.tclthread.proofs.session.plain.Goals as goal
 
 pub unreachable-requires : goal.unreachable-requires
@@ -9,3 +11,9 @@ unreachable-requires-in-Ok-Generate g c = not-generate _ c.requires.0 _ c.requir
 
 pub returns-in-Ok-Plain : goal.returns-in-Ok-Plain
 returns-in-Ok-Plain g c = by-words _ _ _ _ _ (rw c.in-Ok-Plain.field-0-is at c.in-Ok-Plain.ensures.asked) c.start.ensures
+
+pub start-requires-clause-workers : goal.start-requires-clause-workers
+start-requires-clause-workers g c κs within = plain-workers _ (told_plain c.in-Ok-Plain.asked) (rw c.in-Ok-Plain.field-0-is at c.in-Ok-Plain.ensures.asked)
+
+pub start-requires-clause-steps : goal.start-requires-clause-steps
+start-requires-clause-steps g c κs within = plain-steps _ (told_plain c.in-Ok-Plain.asked) (rw c.in-Ok-Plain.field-0-is at c.in-Ok-Plain.ensures.asked)
