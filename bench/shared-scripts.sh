@@ -10,11 +10,7 @@ set -euo pipefail
 shopt -s inherit_errexit
 cd "$(dirname "$0")/.."
 runs=${1:-10}
-folder=$(mktemp -d)
-trap 'rm -rf "$folder"' EXIT
-
-beside=no
-if command -v tclsh >/dev/null && echo 'exit [catch {package require Thread}]' | tclsh; then beside=yes; fi
+. bench/lib/scripts.bash
 
 # The time in ns of RUNS runs of a command, whose output must be the wanted line.
 time_of() {
@@ -39,9 +35,6 @@ tell() {
     fi
     printf '\n'
 }
-
-# Builds the program where it is needed.
-./tclthread --replay examples/hello.schedule examples/hello.tcl >/dev/null
 
 # The first two workers are made with the pool, and one more by each of the third and the fourth job. Then all four take
 # a job, and do it one after the other: a hold, two increments and the hold's end, and the job is done. The main thread

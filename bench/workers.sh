@@ -11,11 +11,7 @@ set -euo pipefail
 shopt -s inherit_errexit
 cd "$(dirname "$0")/.."
 runs=${1:-5}
-folder=$(mktemp -d)
-trap 'rm -rf "$folder"' EXIT
-
-beside=no
-if command -v tclsh >/dev/null && echo 'exit [catch {package require Thread}]' | tclsh; then beside=yes; fi
+. bench/lib/scripts.bash
 
 # The least time in ms of RUNS runs of a command, and the greatest memory in KiB; its output must be the wanted line.
 least() {
@@ -51,9 +47,6 @@ tell() {
     fi
     printf '\n'
 }
-
-# Builds the program where it is needed.
-./tclthread --replay examples/hello.schedule examples/hello.tcl >/dev/null
 
 cat >"$folder/silent.tcl" <<'TCL'
 package require Thread
