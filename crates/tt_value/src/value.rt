@@ -112,8 +112,8 @@ impl Value {
         split(alloc, self.text.as_bytes())
     }
 
-    /// Puts items at the end of the value as a list (lappend(n)), which is then the canonical text of the longer list. In
-    /// time of these items alone, where the value was made so.
+    /// Puts items at the end of the value as a list (lappend(n)), which is then the canonical text of the longer list. A
+    /// value that was made so is not split again; a text that it shares is copied.
     ///
     /// The message of the fault where the text is no list, and then the value stays. `NoMemory` where memory is refused.
     pub fn push_items(&mut self, alloc: Global, items: &[Text]) -> Result<Option<Text>, NoMemory>
