@@ -1,4 +1,5 @@
 mod Assigning
+mod AtEnd
 mod Climbing
 mod Marking
 mod Setting

@@ -1,19 +1,15 @@
 -- Commands on variables and lists (lappend(n), lassign(n)).
-use Rattle.std.specs.Prelude.{◌≡◌, ℕ, List, [], ◌∷◌, length, drop, codes, Option, Some, None}
+use Rattle.std.specs.Prelude.{◌≡◌, ℕ, List, [], ◌∷◌, length, drop, Option, Some, None}
 use Rattle.tt_calls.specs.declared.outcome.Outcome.{Outcome}
 use Rattle.tt_calls.specs.Outcomes.{failed, fine}
-use Rattle.tt_lists.specs.Answers.{insert_answer}
 use Rattle.tt_lists.specs.Messages.{list_message}
 use Rattle.tt_lists.specs.Reading.{split_of}
 use Rattle.tt_lists.specs.Spelling.{list_of}
-use Rattle.tt_lists.specs.declared.answer.ListAnswer.{ListAnswer}
-use Rattle.tt_lists.specs.declared.answer.ListAnswer.TheVariants.{Made, Bad}
 use Rattle.tt_lists.specs.declared.items.Split.{Split}
 use Rattle.tt_lists.specs.declared.items.Split.TheVariants as split
+use Rattle.tt_value.specs.Growing.{listed}
 use Rattle.tt_vars.specs.declared.answers.Written.{Written}
 use Rattle.tt_vars.specs.declared.answers.Written.TheVariants.{Yes, No}
-use Rattle.tt_store.specs.declared.listed.Longer.{Longer}
-use Rattle.tt_store.specs.declared.listed.Longer.TheVariants as longer
 use Rattle.tt_store.specs.Held.{Fails, Held, Meaning, Refuses, Sets}
 use Rattle.tt_store.specs.Messages.{cannot_set}
 use Rattle.tt_store.specs.Scalars.{Changes}
@@ -21,14 +17,8 @@ use Rattle.tt_store.specs.Spots.{spot_of}
 
 -- lappend(n): without a value it writes the list as it is
 abbrev pub lappend : Meaning
-lappend usage (name ∷ values) old outcome new =
-    Changes name [] (λ value. insert_answer value (codes "end") values) old outcome new
+lappend usage (name ∷ values) old outcome new = Changes name [] (listed values) old outcome new
 lappend usage [] old outcome new = Refuses usage old outcome new
-
--- the longer list, or the message
-abbrev pub answer_of : Longer → ListAnswer
-answer_of (longer.Made value) = Made value
-answer_of (longer.Bad message) = Bad message
 
 -- a text is given to a variable; the message, where it can't be
 abbrev pub message_of : (word : List ℕ) → Written → Option (List ℕ)

@@ -1,7 +1,7 @@
 -- Commands on one variable (set(n), unset(n), incr(n), append(n)).
-use Rattle.std.specs.Prelude.{◌≡◌, ℕ, ℤ, Bool, false, ◌&&◌, not, ◌==◌, nat_lt, bytes_eq, List, [], ◌∷◌, ◌++◌, length, drop, take_while, codes, Option, Some, None, Result, Ok, Err, if◌then◌else◌}
+use Rattle.std.specs.Prelude.{◌≡◌, ℕ, ℤ, Bool, false, ◌&&◌, not, ◌==◌, nat_lt, bytes_eq, List, [], ◌∷◌, length, drop, take_while, codes, Option, Some, None, Result, Ok, Err, if◌then◌else◌}
 use Rattle.std.specs.Fmt.{signed_decimal}
-use Rattle.std.specs.List.{find, flat_map}
+use Rattle.std.specs.List.{find}
 use Rattle.std.specs.Option.{option_map}
 use Rattle.tt_calls.specs.declared.outcome.Outcome.{Outcome}
 use Rattle.tt_calls.specs.Outcomes.{failed, fine}
@@ -13,6 +13,7 @@ use Rattle.tt_number.specs.declared.operators.NumOp.TheVariants.{Add}
 use Rattle.tt_number.specs.Messages.{arith_message, number_message}
 use Rattle.tt_number.specs.Numerals.{whole_of}
 use Rattle.tt_number.specs.Operators.{binary_of}
+use Rattle.tt_value.specs.Growing.{appended}
 use Rattle.tt_vars.specs.declared.answers.VarFault.{VarFault}
 use Rattle.tt_vars.specs.declared.answers.VarFault.TheVariants.{NoSuchVariable, NoSuchElement, IsArray, NotArray}
 use Rattle.tt_store.specs.Held.{Drops, Fails, Finds, Gives, Held, Meaning, Reads, Refuses}
@@ -81,9 +82,6 @@ incr usage (name ∷ step ∷ []) old outcome new = Changes name (codes "0") (in
 incr usage words old outcome new = Refuses usage old outcome new
 
 -- append(n): without a value it reads
-abbrev pub appended : (values : List (List ℕ)) → (value : List ℕ) → ListAnswer
-appended values value = Made (value ++ flat_map (λ text. text) values)
-
 abbrev pub append : Meaning
 append usage [] old outcome new = Refuses usage old outcome new
 append usage (name ∷ []) old outcome new = Reads name old outcome × (new ≡ old)

@@ -6,6 +6,7 @@ mod answers;
 mod arrays;
 mod calling;
 mod command;
+mod growing;
 mod listed;
 mod messages;
 mod nesting;

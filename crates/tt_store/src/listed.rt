@@ -1,71 +1,19 @@
-//! Commands on variables and lists (lappend(n), lassign(n)).
-ghost use Rattle.std.specs.Prelude.{◌≡◌, [], IfOk, codes, drop};
-ghost use Rattle.tt_lists.specs.Answers.{insert_answer};
+//! The items of a list for variables (lassign(n)).
+ghost use Rattle.std.specs.Prelude.{◌≡◌, IfOk, drop};
 ghost use Rattle.tt_lists.specs.Reading.{split_of};
 ghost use Rattle.tt_lists.specs.declared.items.Split.TheVariants.{Items};
 ghost use Rattle.tt_store.specs.Listed as listed;
-ghost use Rattle.tt_store.specs.Scalars.{Changes, Counts, GivesMade, made_of};
 
 use crate::Store;
-use crate::messages::{cannot_read, cannot_set};
+use crate::messages::cannot_set;
 use crate::spot::spot_of;
 use std::alloc::Global;
 use tt_calls::Outcome;
 use tt_lists::{Split, join_list, split};
 use tt_text::{NoMemory, Text};
-use tt_value::Value;
-use tt_vars::{VarFault, Written};
-
-/// A list with more items, or why there is none.
-#[derive(Debug, Drop)]
-pub(crate) enum Longer {
-    Made(Value),
-    /// The message.
-    Bad(Text),
-}
+use tt_vars::Written;
 
 impl Store {
-    pub(crate) fn lappend(&mut self, usage: &[u8], words: &[Text]) -> Result<Outcome, NoMemory>
-        ensures { IfOk result (λ outcome. listed.lappend usage.now words.now self.old outcome self.new) }
-    {
-        match words {
-            [name, values @ ..] => self.append_items(name, values),
-            [] => self.refuse(usage),
-        }
-    }
-
-    fn append_items(&mut self, word: &Text, values: &[Text]) -> Result<Outcome, NoMemory>
-        ensures { IfOk result (λ outcome. Changes word.now [] (λ value. insert_answer value (codes "end") values.now) self.old outcome self.new) }
-    {
-        let found = self.listed(word)?;
-        let longer = made_longer(self.alloc, word, values, found)?;
-        let outcome = self.give_longer(word, longer)?;
-        Ok(outcome)
-    }
-
-    // The value of a word's variable, where a missing one counts as the empty text.
-    fn listed(&self, word: &Text) -> Result<Result<Value, VarFault>, NoMemory>
-        ensures { IfOk result (Counts word.now [] self.now) }
-    {
-        let spot = spot_of(self.alloc, word.as_bytes())?;
-        let found = self.find_value(&spot)?;
-        match found {
-            Err(VarFault::NoSuchVariable | VarFault::NoSuchElement) => {
-                Ok(Ok(Value::from_text(Text::new(self.alloc))))
-            }
-            found => Ok(found),
-        }
-    }
-
-    fn give_longer(&mut self, word: &Text, longer: Longer) -> Result<Outcome, NoMemory>
-        ensures { IfOk result (λ outcome. GivesMade word.now (listed.answer_of longer) self.old outcome self.new) }
-    {
-        match longer {
-            Longer::Made(value) => self.give_value(word, value),
-            Longer::Bad(message) => Outcome::failed(message),
-        }
-    }
-
     pub(crate) fn lassign(&mut self, usage: &[u8], words: &[Text]) -> Result<Outcome, NoMemory>
         ensures { IfOk result (λ outcome. listed.lassign usage.now words.now self.old outcome self.new) }
     {
@@ -151,32 +99,5 @@ fn told_rest(alloc: Global, rest: &[Text], message: Option<Text>) -> Result<Outc
     match message {
         None => Ok(Outcome::fine(alloc, join_list(alloc, rest)?)),
         Some(message) => Outcome::failed(message),
-    }
-}
-
-fn made_longer(
-    alloc: Global,
-    word: &Text,
-    values: &[Text],
-    found: Result<Value, VarFault>,
-) -> Result<Longer, NoMemory>
-    ensures { IfOk result (λ longer. listed.answer_of longer ≡ made_of word.now (λ value. insert_answer value (codes "end") values.now) found) }
-{
-    match found {
-        Ok(value) => grown(alloc, value, values),
-        Err(fault) => {
-            let message = cannot_read(alloc, word.as_bytes(), fault)?;
-            Ok(Longer::Bad(message))
-        }
-    }
-}
-
-fn grown(alloc: Global, value: Value, values: &[Text]) -> Result<Longer, NoMemory>
-    ensures { IfOk result (λ longer. listed.answer_of longer ≡ insert_answer value (codes "end") values.now) }
-{
-    let mut value = value;
-    match value.push_items(alloc, values)? {
-        None => Ok(Longer::Made(value)),
-        Some(message) => Ok(Longer::Bad(message)),
     }
 }

@@ -1,14 +1,15 @@
 ghost use Rattle.std.specs.Prelude.{◌≡◌, ◌<◌, ◌≤◌, length, IfOk, IfSome, OnOk, OnErr, None};
 ghost use Rattle.std.specs.Option.{option_copied};
-ghost use Rattle.tt_vars.specs.Links.{AreSame, HasNames, HasSize, Links, Reads, Removes, Writes, lent, place_of};
+ghost use Rattle.tt_vars.specs.Links.{AreSame, Grows, HasNames, HasSize, Links, Reads, Removes, Writes, lent, place_of};
 ghost use Rattle.tt_store.specs.Levels.{HasDepth, above, begun_in, called, caller_of, global_level, left, with_frames};
 ghost use Rattle.tt_store.specs.Spots.{place_in};
 
 use crate::spot::Spot;
 use std::alloc::Global;
 use std::marker::Model;
+use tt_lists::ListAnswer;
 use tt_text::{NoMemory, Text, Texts};
-use tt_value::Value;
+use tt_value::{Growth, Value};
 use tt_vars::{Linked, VarFault, Vars, Written};
 
 /// What was begun (proc(n), uplevel(n)).
@@ -202,6 +203,21 @@ impl Nesting {
         let frame = self.frame_of(spot);
         self.vars
             .write(frame, &spot.name, spot.index.as_ref(), value)
+    }
+
+    /// Puts texts at the end of the value of a name.
+    pub(crate) fn grow(
+        &mut self,
+        spot: &Spot,
+        growth: Growth,
+        texts: &[Text],
+    ) -> Result<Result<ListAnswer, VarFault>, NoMemory>
+        ensures grown { IfOk result (λ answer. Grows growth texts.now self.old.frames (place_in self.old.current spot.now) self.new.frames answer) }
+        ensures rest { self.new ≡ with_frames self.old self.new.frames }
+    {
+        let frame = self.frame_of(spot);
+        self.vars
+            .grow(frame, &spot.name, spot.index.as_ref(), growth, texts)
     }
 
     /// Removes a name.

@@ -1,7 +1,6 @@
-//! Commands on one variable (set(n), unset(n), incr(n), append(n)).
-ghost use Rattle.std.specs.Prelude.{◌≡◌, ◌≤◌, ◌++◌, [], IfOk, codes, length};
+//! Commands on one variable (set(n), unset(n), incr(n)).
+ghost use Rattle.std.specs.Prelude.{◌≡◌, ◌≤◌, IfOk, codes, length};
 ghost use Rattle.std.specs.Option.{option_map};
-ghost use Rattle.std.specs.List.{flat_map};
 ghost use Rattle.tt_lists.specs.declared.answer.ListAnswer.TheVariants.{Bad};
 ghost use Rattle.tt_number.specs.Messages.{number_message};
 ghost use Rattle.tt_number.specs.Operators.{binary_of};
@@ -50,27 +49,8 @@ impl Store {
         Ok(outcome)
     }
 
-    pub(crate) fn append(&mut self, usage: &[u8], words: &[Text]) -> Result<Outcome, NoMemory>
-        ensures { IfOk result (λ outcome. scalars.append usage.now words.now self.old outcome self.new) }
-    {
-        match words {
-            [] => self.refuse(usage),
-            [word] => self.read_word(word),
-            [word, values @ ..] => self.append_all(word, values),
-        }
-    }
-
-    fn append_all(&mut self, word: &Text, values: &[Text]) -> Result<Outcome, NoMemory>
-        ensures { IfOk result (λ outcome. scalars.Changes word.now [] (scalars.appended values.now) self.old outcome self.new) }
-    {
-        let found = self.counted(word, b"")?;
-        let made = whole_made(self.alloc, word, values, found)?;
-        let outcome = self.give_made(word, made)?;
-        Ok(outcome)
-    }
-
-    /// The value of a word's variable, where a missing one counts as this text.
-    pub(crate) fn counted(
+    // The value of a word's variable, where a missing one counts as this text.
+    fn counted(
         &self,
         word: &Text,
         missing: &[u8],
@@ -174,8 +154,8 @@ fn sum_made(
     }
 }
 
-/// That a variable is not read.
-pub(crate) fn unread(alloc: Global, word: &Text, fault: VarFault) -> Result<ListAnswer, NoMemory>
+// That a variable is not read.
+fn unread(alloc: Global, word: &Text, fault: VarFault) -> Result<ListAnswer, NoMemory>
     ensures { IfOk result (λ made. made ≡ Bad (messages.cannot_read word.now fault)) }
 {
     let message = cannot_read(alloc, word.as_bytes(), fault)?;
@@ -214,30 +194,6 @@ fn no_number(alloc: Global, fault: NumberFault, text: &[u8]) -> Result<ListAnswe
 {
     let message = fault.message(alloc, text)?;
     Ok(ListAnswer::Bad(message))
-}
-
-fn whole_made(
-    alloc: Global,
-    word: &Text,
-    values: &[Text],
-    found: Result<Text, VarFault>,
-) -> Result<ListAnswer, NoMemory>
-    ensures { IfOk result (λ made. made ≡ scalars.made_of word.now (scalars.appended values.now) found) }
-{
-    match found {
-        Ok(value) => Ok(ListAnswer::Made(with_values(value, values)?)),
-        Err(fault) => unread(alloc, word, fault),
-    }
-}
-
-fn with_values(value: Text, values: &[Text]) -> Result<Text, NoMemory>
-    ensures { IfOk result (λ text. text ≡ value ++ flat_map (λ text. text) values.now) }
-{
-    let mut text = value;
-    for value in values {
-        text.push_bytes(value.as_bytes())?;
-    }
-    Ok(text)
 }
 
 fn is_skipped(nocomplain: bool, fault: VarFault) -> bool

@@ -140,31 +140,23 @@ impl Store {
         }
     }
 
-    /// The same, with what is known of it as a list.
-    pub(crate) fn find_value(&self, spot: &Spot) -> Result<Result<Value, VarFault>, NoMemory>
-        ensures { IfOk result (held.Finds self.now spot.now) }
-    {
-        match self.nesting.read(spot) {
-            Ok(value) => Ok(Ok(value.copy()?)),
-            Err(fault) => Ok(Err(fault)),
-        }
-    }
-
     /// Writes a text to what a spot stands for.
     pub(crate) fn set_spot(&mut self, spot: &Spot, text: Text) -> Result<Written, NoMemory>
         ensures { IfOk result (held.Sets self.old spot.now text self.new) }
     {
-        self.set_value(spot, Value::from_text(text))
-    }
-
-    fn set_value(&mut self, spot: &Spot, value: Value) -> Result<Written, NoMemory>
-        ensures { IfOk result (held.Sets self.old spot.now value self.new) }
-    {
-        let written = self.nesting.write(spot, value)?;
+        let written = self.nesting.write(spot, Value::from_text(text))?;
         if let Written::Yes = written {
-            mark(&self.nesting, spot, self.watches.as_mut_slice());
+            self.mark_written(spot);
         }
         Ok(written)
+    }
+
+    /// The watches see that what a spot stands for was written.
+    pub(crate) fn mark_written(&mut self, spot: &Spot)
+        ensures marked { held.AreMarked self.old.levels.frames (held.place self.old spot.now) self.old.watches self.new.watches }
+        ensures rest { self.new.levels ≡ self.old.levels }
+    {
+        mark(&self.nesting, spot, self.watches.as_mut_slice());
     }
 
     /// What a command's word names is read.
@@ -184,17 +176,6 @@ impl Store {
         let spot = spot_of(self.alloc, word.as_bytes())?;
         let value = text.copy()?;
         let written = self.set_spot(&spot, value)?;
-        let outcome = stored(self.alloc, word, text, written)?;
-        Ok(outcome)
-    }
-
-    /// A value is given to it.
-    pub(crate) fn give_value(&mut self, word: &Text, value: Value) -> Result<Outcome, NoMemory>
-        ensures { IfOk result (λ outcome. held.Gives word.now value self.old outcome self.new) }
-    {
-        let spot = spot_of(self.alloc, word.as_bytes())?;
-        let text = value.text().copy()?;
-        let written = self.set_value(&spot, value)?;
         let outcome = stored(self.alloc, word, text, written)?;
         Ok(outcome)
     }

@@ -3,7 +3,7 @@
 
 mod value;
 
-pub use value::Value;
+pub use value::{Growth, Value};
 
 #[cfg(test)]
 mod tests;

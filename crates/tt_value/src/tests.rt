@@ -1,6 +1,6 @@
-use crate::Value;
+use crate::{Growth, Value};
 use std::test::Fail;
-use tt_lists::Split;
+use tt_lists::{ListAnswer, Split};
 use tt_number::NumberFault;
 use tt_text::Text;
 
@@ -20,23 +20,26 @@ fn a_value_is_its_text(rt: HostRuntime) -> Result<(), Fail> {
 }
 
 #[test]
-fn a_list_grows_at_its_end(rt: HostRuntime) -> Result<(), Fail> {
+fn a_value_grows_at_its_end(rt: HostRuntime) -> Result<(), Fail> {
     let alloc = rt.alloc();
-    let items = [
+    let texts = [
         Text::from_bytes(alloc, b"c d")?,
         Text::from_bytes(alloc, b"")?,
     ];
-    let rows: [(&[u8], &[u8], bool); 3] = [
-        (b"", b"{c d} {} {c d} {}", true),
-        (b" a\n#b", b"a #b {c d} {} {c d} {}", true),
-        (b"a {b", b"a {b", false),
+    let rows: [(Growth, &[u8], &[u8], bool); 5] = [
+        (Growth::List, b"", b"{c d} {} {c d} {}", true),
+        (Growth::List, b" a\n#b", b"a #b {c d} {} {c d} {}", true),
+        (Growth::List, b"a {b", b"a {b", false),
+        (Growth::Text, b"", b"c dc d", true),
+        (Growth::Text, b"a {b, longer than 14", b"a {b, longer than 14c dc d", true),
     ];
-    for (before, after, is_list) in rows {
-        let mut list = Value::from_text(Text::from_bytes(alloc, before)?);
+    for (growth, before, after, grows) in rows {
+        let mut value = Value::from_text(Text::from_bytes(alloc, before)?);
         for _ in 0..2 {
-            assert_eq!(rt; list.push_items(alloc, &items)?.is_none(), is_list);
+            let answer = value.grow(alloc, growth, &texts)?;
+            assert_eq!(rt; matches!(answer, ListAnswer::Made(_)), grows);
         }
-        assert_eq!(rt; list.text().as_bytes(), after);
+        assert_eq!(rt; value.text().as_bytes(), after);
     }
     Ok(())
 }

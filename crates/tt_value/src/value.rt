@@ -1,10 +1,11 @@
 ghost use Rattle.std.specs.Prelude.{◌≡◌, IfOk, IsSome, OnOk, ◌++◌, ℕ, List, codes};
 ghost use Rattle.std.specs.Fmt.{signed_decimal};
+ghost use Rattle.std.specs.List.{flat_map};
 ghost use Rattle.tt_lists.specs.Answers.{insert_answer};
 ghost use Rattle.tt_lists.specs.Reading.{split_of};
 ghost use Rattle.tt_lists.specs.Spelling.{list_of};
 ghost use Rattle.tt_number.specs.Numerals.{whole_of};
-ghost use Rattle.tt_value.specs.Forms.{answer_of};
+ghost use Rattle.tt_value.specs.Growing.{answer_of, grown, left_by};
 
 use std::alloc::Global;
 use std::marker::Model;
@@ -19,6 +20,15 @@ enum Form {
     Any,
     /// It is the canonical text of a list.
     Listed,
+}
+
+/// How a value grows at its end.
+#[derive(Clone, Copy, Debug)]
+pub enum Growth {
+    /// As a text, by texts (append(n)).
+    Text,
+    /// As a list, by items (lappend(n)).
+    List,
 }
 
 /// A value, which is its text (Tcl(n)). Contracts see the text.
@@ -112,11 +122,36 @@ impl Value {
         split(alloc, self.text.as_bytes())
     }
 
-    /// Puts items at the end of the value as a list (lappend(n)), which is then the canonical text of the longer list. A
-    /// value that was made so is not split again; a text that it shares is copied.
+    /// Puts texts at the end of the value, as bytes (append(n)) or as items (lappend(n)), and answers the text that it is
+    /// then. As a list it is then the canonical text of the longer list. Where no copy shares the text it grows in place;
+    /// a list that was not made so is split and joined anew.
     ///
-    /// The message of the fault where the text is no list, and then the value stays. `NoMemory` where memory is refused.
-    pub fn push_items(&mut self, alloc: Global, items: &[Text]) -> Result<Option<Text>, NoMemory>
+    /// `Bad` with the message of the fault where it is to grow as a list and is none, and then it stays. `NoMemory` where
+    /// memory is refused; then some of the texts may be there.
+    pub fn grow(&mut self, alloc: Global, growth: Growth, texts: &[Text]) -> Result<ListAnswer, NoMemory>
+        ensures answer { IfOk result (λ answer. answer ≡ grown growth texts.now self.old) }
+        ensures left { IfOk result (λ answer. self.new ≡ left_by answer self.old) }
+    {
+        match growth {
+            Growth::Text => self.push_texts(texts)?,
+            Growth::List => {
+                if let Some(message) = self.push_items(alloc, texts)? {
+                    return Ok(ListAnswer::Bad(message));
+                }
+            }
+        }
+        Ok(ListAnswer::Made(self.text.copy()?))
+    }
+
+    fn push_texts(&mut self, texts: &[Text]) -> Result<(), NoMemory>
+        ensures { OnOk result (self.new ≡ self.old ++ flat_map (λ text. text) texts.now) }
+    {
+        self.form = Form::Any;
+        push_bytes(&mut self.text, texts)
+    }
+
+    // The message, where the text is no list.
+    fn push_items(&mut self, alloc: Global, items: &[Text]) -> Result<Option<Text>, NoMemory>
         ensures answer { IfOk result (λ message. insert_answer self.old (codes "end") items.now ≡ answer_of self.new message) }
         ensures stays { IfOk result (λ message. IsSome message → self.new ≡ self.old) }
     {
@@ -143,6 +178,16 @@ impl Value {
             ListAnswer::Bad(message) => Ok(Some(message)),
         }
     }
+}
+
+// Texts go to the end of a text.
+fn push_bytes(text: &mut Text, texts: &[Text]) -> Result<(), NoMemory>
+    ensures { OnOk result (text.new ≡ text.old ++ flat_map (λ text. text) texts.now) }
+{
+    for more in texts {
+        text.push_bytes(more.as_bytes())?;
+    }
+    Ok(())
 }
 
 // Items go to the end of the canonical text of a list.

@@ -1,5 +1,5 @@
 -- What is found by a name is what reading and removing the name work on.
-use Rattle.std.proofs.Common.{◌≡◌, ℕ, List, Option, Some, None, Result, Ok, Err, bytes_eq, slice_get, position, remove, refl, ap, sym, ◌∙◌, is_some, true≢false}
+use Rattle.std.proofs.Common.{◌≡◌, ℕ, List, Option, Some, None, Result, Ok, Err, bytes_eq, slice_get, position, remove, refl, ap, sym, subst, ◌∙◌, is_some, true≢false}
 use Rattle.std.specs.Map.{keys_of, values_of, lookup, remove_entry}
 use Rattle.std.specs.Option.{ok_or}
 use Rattle.indexmap.specs.IndexMap.{set_value_at, insert_entry}
@@ -8,8 +8,11 @@ use Rattle.tt_vars.specs.declared.answers.VarFault.{VarFault}
 use Rattle.tt_vars.specs.declared.answers.VarFault.TheVariants.{NoSuchElement, IsArray}
 use Rattle.tt_vars.specs.declared.variable.Variable.{Variable}
 use Rattle.tt_vars.specs.declared.variable.Variable.TheVariants.{Scalar, Array, Link}
-use Rattle.tt_vars.specs.Variables.{Name, Frame, named, leads, read, with, without_element, removed, result_of}
-use Rattle.tt_vars.specs.Found.{element_in, text_in, removed_in}
+use Rattle.tt_vars.specs.Variables.{Name, Frame, named, leads, read, with, without_element, removed, result_of, written}
+use Rattle.tt_vars.specs.declared.variable.Found.{Found}
+use Rattle.tt_vars.specs.declared.variable.Place.{Place}
+use Rattle.tt_vars.specs.Links.{at, frame_at, with_frame, written_at}
+use Rattle.tt_vars.specs.Found.{element_in, put_at, put_by, text_at, text_in, removed_in}
 
 err_is_ok : {X E : Type 0} {e : E} {x : X} → Err e ≡ Ok x → ⊥
 err_is_ok h = cc
@@ -85,6 +88,29 @@ finds missing frame n (Array elements) i (Some index) e p is =
           ∙ ap (λ e. ok_or (text_in (Some (Array elements)) e) IsArray) (same_ok is),
     )
 
+none_at : {old : List ℕ} → None ≡ Some old → ⊥
+none_at h = cc
+
+-- where a text is found, another is written in its stead
+puts : (frame : Frame) (n : Name) (v : Variable) (i : ℕ) (index : Option Name) (e : Option ℕ) (old text : List ℕ) →
+    position (bytes_eq n) (keys_of frame) ≡ Some i → element_in v index ≡ Ok e → text_in (Some v) e ≡ Some old →
+    result_of (with frame n) (written (Some v) index text) ≡ Ok (put_by frame i (Some v) e text)
+puts frame n (Scalar was) i None e old text p is there =
+    ap Ok (put_place frame n i p (Scalar text)) ∙ ap (λ e. Ok (put_by frame i (Some (Scalar was)) e text)) (same_ok is)
+puts frame n (Array elements) i None e old text p is there =
+    absurd (none_at (ap (text_in (Some (Array elements))) (same_ok is) ∙ there))
+puts frame n (Scalar was) i (Some index) e old text p is there = absurd (err_is_ok is)
+puts frame n (Link to) i index e old text p is there = absurd (err_is_ok is)
+puts frame n (Array elements) i (Some index) e old text p is there =
+    by (position (bytes_eq index) (keys_of elements)) refl is
+  where
+    by : (r : Option ℕ) → position (bytes_eq index) (keys_of elements) ≡ r → result_of Some (ok_or r NoSuchElement) ≡ Ok e
+        → ◌≡◌ {A = Result Frame VarFault} (Ok (with frame n (Array (insert_entry bytes_eq elements index text)))) (Ok (put_by frame i (Some (Array elements)) e text))
+    by None q is = absurd (err_is_ok is)
+    by (Some j) q is =
+        ap Ok (ap (λ ps. with frame n (Array ps)) (put_place elements index j q text) ∙ put_place frame n i p (Array (set_value_at elements j text)))
+        ∙ ap (λ e. Ok (put_by frame i (Some (Array elements)) e text)) (same_ok is)
+
 module _ (missing : VarFault) (frame : Frame) (n : Name) (v : Variable) (index : Option Name) (named_is : named frame n ≡ Some v) where
   pub find-fault : (fault : VarFault) → element_in v index ≡ Err fault → removed missing frame n (named frame n) index ≡ Err fault
   unfolding Faults
@@ -108,3 +134,26 @@ module _ (missing : VarFault) (frame : Frame) (n : Name) (v : Variable) (index :
 
     pub find-no_link : leads (slice_get (values_of frame) i) ≡ None
     find-no_link = ap leads (sym there) ∙ no_link_found v index e is
+
+    pub find-written : (old text : List ℕ) → text_in (slice_get (values_of frame) i) e ≡ Some old
+        → result_of (with frame n) (written (named frame n) index text) ≡ Ok (put_by frame i (slice_get (values_of frame) i) e text)
+    find-written old text found =
+        ap (λ s. result_of (with frame n) (written s index text)) named_is
+        ∙ puts frame n v i index e old text p is (ap (λ s. text_in s e) there ∙ found)
+        ∙ ap (λ s. Ok (put_by frame i s e text)) there
+
+written-in : (frames : List Frame) (place : Place) (made : Result Variable VarFault) (after : Frame) →
+    result_of (with (frame_at frames place.frame) place.name) made ≡ Ok after →
+    result_of (λ v. with_frame frames place.frame (with (frame_at frames place.frame) place.name v)) made ≡ Ok (with_frame frames place.frame after)
+written-in frames place (Ok v) after is = ap Ok (ap (with_frame frames place.frame) (same_ok is))
+written-in frames place (Err fault) after is = absurd (err_is_ok is)
+
+-- what is written in its frame is written among the frames
+pub found-written : (frames : List Frame) (stands : Option Place) (place : Place) (frame : Frame) (found : Found) →
+    stands ≡ Some place → frame ≡ frame_at frames place.frame →
+    ((old text : List ℕ) → text_at frame found ≡ Some old → result_of (with frame place.name) (written (named frame place.name) place.index text) ≡ Ok (put_at frame found text)) →
+    (old text : List ℕ) → text_at (frame_at frames place.frame) found ≡ Some old → written_at frames stands text ≡ Ok (with_frame frames place.frame (put_at (frame_at frames place.frame) found text))
+found-written frames stands place frame found is here each old text there =
+    ap (λ s. written_at frames s text) is
+    ∙ written-in frames place (written (at frames place) place.index text) (put_at (frame_at frames place.frame) found text)
+    (subst (λ f. (old text : List ℕ) → text_at f found ≡ Some old → result_of (with f place.name) (written (named f place.name) place.index text) ≡ Ok (put_at f found text)) here each old text there)

@@ -2,5 +2,6 @@ mod EndLemmas
 mod FollowLemmas
 mod FoundLemmas
 mod FrameLemmas
+mod GrowLemmas
 mod LinkLemmas
 mod StandsLemmas

@@ -3,6 +3,8 @@ use Rattle.std.specs.Prelude.{◌≡◌, ℕ, ◌<◌, List, Option, None, Some,
 use Rattle.std.specs.Map.{keys_of, values_of}
 use Rattle.std.specs.Option.{ok_or, option_copied}
 use Rattle.indexmap.specs.IndexMap.{set_value_at}
+use Rattle.tt_lists.specs.declared.answer.ListAnswer.{ListAnswer}
+use Rattle.tt_lists.specs.declared.answer.ListAnswer.TheVariants.{Made, Bad}
 use Rattle.tt_vars.specs.declared.answers.VarFault.{VarFault}
 use Rattle.tt_vars.specs.declared.answers.VarFault.TheVariants.{NoSuchElement, IsArray, NotArray}
 use Rattle.tt_vars.specs.declared.variable.Found.{Found}
@@ -10,8 +12,8 @@ use Rattle.tt_vars.specs.declared.links.Spot.{Spot}
 use Rattle.tt_vars.specs.declared.variable.Place.{Place}
 use Rattle.tt_vars.specs.declared.variable.Variable.{Variable}
 use Rattle.tt_vars.specs.declared.variable.Variable.TheVariants.{Scalar, Array, Link}
-use Rattle.tt_vars.specs.Variables.{Name, Frame, result_of}
-use Rattle.tt_vars.specs.Links.{StandsFor, frame_at, place_of, read_at, removed_of, with_frame}
+use Rattle.tt_vars.specs.Variables.{Name, Pairs, Frame, result_of}
+use Rattle.tt_vars.specs.Links.{StandsFor, frame_at, place_of, read_at, removed_of, with_frame, written_at}
 
 -- which element an index names
 abbrev pub element_in : Variable → Option Name → Result (Option ℕ) VarFault
@@ -34,6 +36,38 @@ text_in None element = None
 abbrev pub text_at : Frame → Found → Option (List ℕ)
 text_at frame found = text_in (slice_get (values_of frame) found.variable) found.element
 
+-- the variable with another text at a place that was found
+abbrev pub put_in : Variable → Option ℕ → List ℕ → Variable
+put_in (Scalar old) None text = Scalar text
+put_in (Array elements) (Some element) text = Array (set_value_at elements element text)
+put_in (Scalar old) (Some element) text = Scalar old
+put_in (Array elements) None text = Array elements
+put_in (Link to) element text = Link to
+
+-- the frame with it
+abbrev pub put_by : Frame → ℕ → Option Variable → Option ℕ → List ℕ → Frame
+put_by frame place None element text = frame
+put_by frame place (Some variable) element text = set_value_at frame place (put_in variable element text)
+
+abbrev pub put_at : Frame → Found → List ℕ → Frame
+put_at frame found text = put_by frame found.variable (slice_get (values_of frame) found.variable) found.element text
+
+-- a variable, elements and a frame after a value in them grew, if it did
+abbrev pub grown_in : Variable → Option ℕ → Option ListAnswer → Variable
+grown_in variable element (Some (Made text)) = put_in variable element text
+grown_in variable element (Some (Bad message)) = variable
+grown_in variable element None = variable
+
+abbrev pub grown_among : Pairs → ℕ → Option ListAnswer → Pairs
+grown_among elements place (Some (Made text)) = set_value_at elements place text
+grown_among elements place (Some (Bad message)) = elements
+grown_among elements place None = elements
+
+abbrev pub grown_at : Frame → Found → Option ListAnswer → Frame
+grown_at frame found (Some (Made text)) = put_at frame found text
+grown_at frame found (Some (Bad message)) = frame
+grown_at frame found None = frame
+
 -- an array without the element at a place
 abbrev pub without_at : Variable → ℕ → Variable
 without_at (Scalar text) element = Scalar text
@@ -53,7 +87,7 @@ removed_at frame found = removed_in frame found.variable (slice_get (values_of f
 abbrev pub place_at : Spot → Place
 place_at spot = place_of spot.frame spot.name.now (option_copied spot.index)
 
--- what was found for a name: what is removed by it, and what is read
+-- what was found for a name: what is removed by it, what is read, and where a text is written in its stead
 abbrev pub IsFound : List Frame → Option Name → Option Place → Result (ℕ × Found) VarFault → Type 0
 IsFound frames index stands (Err fault) =
     (removed_of frames index stands ≡ Err fault)
@@ -62,6 +96,9 @@ IsFound frames index stands (Ok found) =
     (found.0 < length frames)
     × (removed_of frames index stands ≡ Ok (with_frame frames found.0 (removed_at (frame_at frames found.0) found.1)))
     × (read_at frames index stands ≡ ok_or (text_at (frame_at frames found.0) found.1) IsArray)
+    × ((old text : List ℕ) →
+    text_at (frame_at frames found.0) found.1 ≡ Some old →
+    written_at frames stands text ≡ Ok (with_frame frames found.0 (put_at (frame_at frames found.0) found.1 text)))
 
 -- it was found after the links
 abbrev pub FindsAt : List Frame → Place → Result (ℕ × Found) VarFault → Type 0

@@ -4,14 +4,16 @@ ghost use Rattle.std.specs.Map.{lookup, keys_of, values_of};
 ghost use Rattle.indexmap.specs.IndexMap.{insert_entry};
 ghost use Rattle.tt_lists.specs.Reading.{split_of};
 ghost use Rattle.tt_number.specs.Numerals.{whole_of};
+ghost use Rattle.tt_value.specs.Growing.{grown};
+ghost use Rattle.tt_vars.specs.Found.{grown_among};
 
 use indexmap::IndexMap;
 use std::alloc::Global;
 use std::marker::Model;
-use tt_lists::Split;
+use tt_lists::{ListAnswer, Split};
 use tt_number::NumberFault;
 use tt_text::{NoMemory, Text, Texts};
-use tt_value::Value;
+use tt_value::{Growth, Value};
 
 /// The elements of an array (array(n)), in the order of their first insertion. Contracts see the list of pairs of
 /// an index and a value's text.
@@ -101,6 +103,26 @@ impl Elements {
         };
         let items = value.items(alloc)?;
         Ok(Some(items))
+    }
+
+    /// Puts texts at the end of the value at a place.
+    ///
+    /// `NoMemory` where memory is refused; then some of the texts may be there.
+    pub(crate) fn grow_at(
+        &mut self,
+        place: usize,
+        growth: Growth,
+        texts: &[Text],
+    ) -> Result<Option<ListAnswer>, NoMemory>
+        ensures answer { IfOk result (λ answer. answer ≡ option_map (grown growth texts.now) (slice_get (values_of self.old) place)) }
+        ensures grown { IfOk result (λ answer. self.new ≡ grown_among self.old place answer) }
+    {
+        let alloc = *self.map.allocator();
+        let Some(value) = self.map.get_index_mut(place) else {
+            return Ok(None);
+        };
+        let answer = value.grow(alloc, growth, texts)?;
+        Ok(Some(answer))
     }
 
     /// The indices, in order.

@@ -1,4 +1,4 @@
-ghost use Rattle.std.specs.Prelude.{◌≡◌, [], Some, Ok, Err, cond, length, slice_get, remove, bytes_eq, IfOk, IfErr, OnOk, OnErr};
+ghost use Rattle.std.specs.Prelude.{◌≡◌, ℕ, List, [], Some, Ok, Err, cond, length, slice_get, remove, bytes_eq, IfOk, IfErr, OnOk, OnErr};
 ghost use Rattle.std.specs.Map.{keys_of, values_of};
 ghost use Rattle.std.specs.Option.{option_copied, option_map, ok_or};
 ghost use Rattle.tt_lists.specs.Reading.{split_of};
@@ -6,20 +6,21 @@ ghost use Rattle.tt_number.specs.Numerals.{whole_of};
 ghost use Rattle.tt_vars.specs.declared.answers.VarFault.TheVariants.{IsArray};
 ghost use Rattle.tt_vars.specs.declared.variable.Variable.TheVariants.{Link};
 ghost use Rattle.tt_vars.specs.Variables.{Name, named, is_set, leads, elements_of, read, written, with, removed, result_of, Puts};
-ghost use Rattle.tt_vars.specs.Found.{element_in, text_at, removed_at, removed_in};
+ghost use Rattle.tt_value.specs.Growing.{grown};
+ghost use Rattle.tt_vars.specs.Found.{element_in, grown_at, put_at, text_at, removed_at, removed_in};
 ghost use Rattle.tt_vars.specs.Ending.{KeepsLinks};
 
 use crate::variable::{
-    Found, Place, Variable, first_written, items_in, remove_from, whole_in, write_to,
+    Found, Place, Variable, first_written, grow_in, items_in, remove_from, whole_in, write_to,
 };
 use crate::{VarFault, Written};
 use indexmap::IndexMap;
 use std::alloc::Global;
 use std::marker::Model;
-use tt_lists::Split;
+use tt_lists::{ListAnswer, Split};
 use tt_number::NumberFault;
 use tt_text::{NoMemory, Text, Texts};
-use tt_value::Value;
+use tt_value::{Growth, Value};
 
 /// The variables of a procedure, or the global ones, in order of insertion. Contracts see the list of pairs of a
 /// name and what it is.
@@ -110,7 +111,7 @@ impl Frame {
         Ok(())
     }
 
-    /// Finds what is read or removed by a name; `missing` is the fault where there is no such name.
+    /// Finds what is read, written where it stands, or removed by a name; `missing` is the fault where there is no such name.
     pub(crate) fn find(
         &self,
         name: &Text,
@@ -119,6 +120,7 @@ impl Frame {
     ) -> Result<Found, VarFault>
         ensures removed { IfOk result (λ found. removed missing self.now name.now (named self.now name.now) (option_copied index.entry) ≡ Ok (removed_at self.now found)) }
         ensures text { IfOk result (λ found. read missing (named self.now name.now) (option_copied index.entry) ≡ ok_or (text_at self.now found) IsArray) }
+        ensures written { IfOk result (λ found. (old text : List ℕ) → text_at self.now found ≡ Some old → result_of (with self.now name.now) (written (named self.now name.now) (option_copied index.entry) text) ≡ Ok (put_at self.now found text)) }
         ensures fault { IfErr result (λ fault. removed missing self.now name.now (named self.now name.now) (option_copied index.entry) ≡ Err fault) }
         ensures no_text { IfErr result (λ fault. read missing (named self.now name.now) (option_copied index.entry) ≡ Err fault) }
     {
@@ -177,6 +179,26 @@ impl Frame {
             return Ok(None);
         };
         items_in(alloc, variable, found.element)
+    }
+
+    /// Puts texts at the end of the value that was found; None where it is an array.
+    ///
+    /// `NoMemory` where memory is refused; then some of the texts may be there.
+    pub(crate) fn grow_at(
+        &mut self,
+        found: Found,
+        growth: Growth,
+        texts: &[Text],
+    ) -> Result<Option<ListAnswer>, NoMemory>
+        ensures answer { IfOk result (λ answer. answer ≡ option_map (grown growth texts.now) (text_at self.old found)) }
+        ensures grown { IfOk result (λ answer. self.new ≡ grown_at self.old found answer) }
+        ensures links { KeepsLinks self.old self.new }
+    {
+        let alloc = *self.map.allocator();
+        let Some(variable) = self.map.get_index_mut(found.variable) else {
+            return Ok(None);
+        };
+        grow_in(alloc, variable, found.element, growth, texts)
     }
 
     /// The indices of an array, in order; None where the name is no array.

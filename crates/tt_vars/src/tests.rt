@@ -6,10 +6,10 @@ use crate::{Linked, VarFault, Vars, Written};
 use std::alloc::Global;
 use std::process::Abort;
 use std::test::Fail;
-use tt_lists::Split;
+use tt_lists::{ListAnswer, Split};
 use tt_number::NumberFault;
 use tt_text::{NoMemory, Text, Texts};
-use tt_value::Value;
+use tt_value::{Growth, Value};
 use vectors::{OWN, SEEN};
 
 // A name, as `x`, `a(k)` or `{}`.
@@ -145,8 +145,28 @@ fn changed(alloc: Global, vars: &mut Vars, words: &[&str]) -> Result<&'static st
             Ok(()) => Ok("ok"),
             Err(fault) => Ok(told(fault)),
         },
+        Some("append") => grown(alloc, vars, frame, &Name { name, index }, Growth::Text, words),
+        Some("lappend") => grown(alloc, vars, frame, &Name { name, index }, Growth::List, words),
         Some("link") => linked(alloc, vars, frame, &name, words),
         _ => Err(Fail::from("no such operation")),
+    }
+}
+
+fn grown(
+    alloc: Global,
+    vars: &mut Vars,
+    frame: u64,
+    name: &Name,
+    growth: Growth,
+    words: &[&str],
+) -> Result<&'static str, Fail>
+    requires { frame < length vars.old }
+{
+    let more = [text(alloc, words.get(3).copied().ok_or("no value")?)?];
+    match vars.grow(frame, &name.name, name.index.as_ref(), growth, &more)? {
+        Ok(ListAnswer::Made(_)) => Ok("ok"),
+        Ok(ListAnswer::Bad(_)) => Ok("no-list"),
+        Err(fault) => Ok(told(fault)),
     }
 }
 

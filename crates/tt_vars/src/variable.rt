@@ -1,17 +1,18 @@
 ghost use Rattle.std.specs.Prelude.{◌≡◌, Some, None, Ok, IfOk, OnErr};
 ghost use Rattle.tt_vars.specs.Variables.{leads, written, Puts};
-ghost use Rattle.tt_vars.specs.Found.{without_at, text_in};
+ghost use Rattle.tt_vars.specs.Found.{without_at, grown_in, text_in};
 ghost use Rattle.std.specs.Option.{option_map};
 ghost use Rattle.tt_lists.specs.Reading.{split_of};
 ghost use Rattle.tt_number.specs.Numerals.{whole_of};
+ghost use Rattle.tt_value.specs.Growing.{grown};
 
 use crate::elements::Elements;
 use crate::{VarFault, Written};
 use std::alloc::Global;
-use tt_lists::Split;
+use tt_lists::{ListAnswer, Split};
 use tt_number::NumberFault;
 use tt_text::{NoMemory, Text};
-use tt_value::Value;
+use tt_value::{Growth, Value};
 
 /// Where a name or a link leads: a variable of a frame, or one of its elements.
 #[derive(Debug, Drop)]
@@ -121,6 +122,30 @@ pub(crate) fn items_in(
             Ok(Some(items))
         }
         (Variable::Array(elements), Some(element)) => elements.items_at(element),
+        _ => Ok(None),
+    }
+}
+
+/// Puts texts at the end of a scalar, or of an element; None where there is no such value.
+///
+/// `NoMemory` where memory is refused; then some of the texts may be there.
+pub(crate) fn grow_in(
+    alloc: Global,
+    variable: &mut Variable,
+    element: Option<usize>,
+    growth: Growth,
+    texts: &[Text],
+) -> Result<Option<ListAnswer>, NoMemory>
+    ensures answer { IfOk result (λ answer. answer ≡ option_map (grown growth texts.now) (text_in (Some variable.old) element)) }
+    ensures grown { IfOk result (λ answer. variable.new ≡ grown_in variable.old element answer) }
+    ensures link { leads (Some variable.new) ≡ leads (Some variable.old) }
+{
+    match (variable, element) {
+        (Variable::Scalar(value), None) => {
+            let answer = value.grow(alloc, growth, texts)?;
+            Ok(Some(answer))
+        }
+        (Variable::Array(elements), Some(element)) => elements.grow_at(element, growth, texts),
         _ => Ok(None),
     }
 }

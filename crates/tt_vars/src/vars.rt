@@ -4,7 +4,7 @@ ghost use Rattle.tt_lists.specs.Reading.{split_of};
 ghost use Rattle.tt_number.specs.Numerals.{whole_of};
 ghost use Rattle.tt_vars.specs.declared.variable.Variable.TheVariants.{Link};
 ghost use Rattle.tt_vars.specs.Variables.{with, Puts};
-ghost use Rattle.tt_vars.specs.Links.{AreSame, HasNames, HasSize, Links, Reads, ReadsAs, Removes, Writes, frame_at, lent, link_answer, place_of, read_at, with_frame, written_at};
+ghost use Rattle.tt_vars.specs.Links.{AreSame, Grows, HasNames, HasSize, Links, Reads, ReadsAs, Removes, Writes, frame_at, lent, link_answer, place_of, read_at, with_frame, written_at};
 ghost use Rattle.tt_vars.specs.Ending.{CanLink, LinksEnd};
 ghost use Rattle.tt_vars.specs.Found.{FindsAt, IsFound, place_at};
 
@@ -14,10 +14,10 @@ use crate::variable::{Found, Place};
 use crate::{Linked, VarFault, Written};
 use std::alloc::Global;
 use std::marker::Model;
-use tt_lists::Split;
+use tt_lists::{ListAnswer, Split};
 use tt_number::NumberFault;
 use tt_text::{NoMemory, Text, Texts};
-use tt_value::Value;
+use tt_value::{Growth, Value};
 
 /// Variables: the frame of the global ones, 0, and one for each procedure that is called (upvar(n), uplevel(n)).
 /// Contracts see the list of frames, from the global one; a frame is the list of its names in order of insertion,
@@ -157,6 +157,30 @@ impl Vars {
         };
         let items = self.frames[number].items_at(found)?;
         Ok(items.ok_or(VarFault::IsArray))
+    }
+
+    /// Puts texts at the end of the value of a name, as bytes (append(n)) or as items (lappend(n)), with the answers of
+    /// `Value::grow` and the faults of `read`. The value grows where it stands. No frame comes or goes.
+    ///
+    /// `NoMemory` where memory is refused; then some of the texts may be there.
+    pub fn grow(
+        &mut self,
+        frame: u64,
+        name: &Text,
+        index: Option<&Text>,
+        growth: Growth,
+        texts: &[Text],
+    ) -> Result<Result<ListAnswer, VarFault>, NoMemory>
+        requires { frame < length self.old }
+        ensures grown { IfOk result (λ answer. Grows growth texts.now self.old (place_of frame name.now (option_copied index.entry)) self.new answer) }
+        ensures frames { length self.new ≡ length self.old }
+    {
+        let (number, found) = match self.find(frame, name, index) {
+            Ok(found) => found,
+            Err(fault) => return Ok(Err(fault)),
+        };
+        let answer = self.frames[number].grow_at(found, growth, texts)?;
+        Ok(answer.ok_or(VarFault::IsArray))
     }
 
     /// Makes a name a link to what another name stands for after its own links (upvar(n)). A name that is a link is

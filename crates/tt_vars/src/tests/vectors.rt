@@ -257,7 +257,7 @@ pub(super) const SEEN: [(&str, &str); 63] = [
 ];
 
 // What this profile answers by its own rules: links to what is missing make nothing, and names are in order.
-pub(super) const OWN: [(&str, &str); 12] = [
+pub(super) const OWN: [(&str, &str); 14] = [
     (
         "push; link 1 e 0 a(k); get 1 e; size 0 a; unset 1 e; set 1 e 1; get 0 a(k)",
         "ok no-element none no-element ok 1",
@@ -305,5 +305,13 @@ pub(super) const OWN: [(&str, &str); 12] = [
     (
         "push; link 1 x 0 g; link 0 h 0 g; same 1 x h; same 1 x x; same 1 y y; same 0 g h",
         "ok ok 1 0 0 1",
+    ),
+    (
+        "append 0 x b; set 0 x a; append 0 x b; get 0 x; lappend 0 x c; lappend 0 x d; len 0 x; set 0 x {; lappend 0 x c; get 0 x",
+        "missing ok ok ab ok ok 3 ok no-list {",
+    ),
+    (
+        "push; set 0 a(k) 1; link 1 e 0 a(k); append 1 e 2; get 0 a(k); append 1 e(j) 3; append 0 a 4; append 0 a(j) 5",
+        "ok ok ok 12 not-array array no-element",
     ),
 ];

@@ -1,0 +1,30 @@
+-- What a value is after it grew at its end, and what is answered then (append(n), lappend(n)).
+use Rattle.std.specs.Prelude.{ℕ, List, ◌++◌, codes, Option, Some, None}
+use Rattle.std.specs.List.{flat_map}
+use Rattle.tt_lists.specs.Answers.{insert_answer}
+use Rattle.tt_lists.specs.declared.answer.ListAnswer.{ListAnswer}
+use Rattle.tt_lists.specs.declared.answer.ListAnswer.TheVariants.{Made, Bad}
+use Rattle.tt_value.specs.declared.value.Growth.{Growth}
+use Rattle.tt_value.specs.declared.value.Growth.TheVariants as growth
+
+-- append(n): the texts follow the value, one after the other
+abbrev pub appended : (texts : List (List ℕ)) → (value : List ℕ) → ListAnswer
+appended texts value = Made (value ++ flat_map (λ text. text) texts)
+
+-- lappend(n): they are the last items of a list, or the value is none
+abbrev pub listed : (texts : List (List ℕ)) → (value : List ℕ) → ListAnswer
+listed texts value = insert_answer value (codes "end") texts
+
+abbrev pub grown : Growth → (texts : List (List ℕ)) → (value : List ℕ) → ListAnswer
+grown growth.Text texts value = appended texts value
+grown growth.List texts value = listed texts value
+
+-- the value after that answer
+abbrev pub left_by : ListAnswer → (value : List ℕ) → List ℕ
+left_by (Made text) value = text
+left_by (Bad message) value = value
+
+-- the answer, where this is the value and the message
+abbrev pub answer_of : (value : List ℕ) → (message : Option (List ℕ)) → ListAnswer
+answer_of value None = Made value
+answer_of value (Some message) = Bad message
