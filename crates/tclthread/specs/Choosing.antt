@@ -1,7 +1,8 @@
 -- How the steps of a run are chosen.
-use Rattle.std.specs.Prelude.{◌≡◌, ◌≤◌, ⊤, ℕ, List, [], ◌∷◌, ◌++◌, length, Option, Some, None}
+use Rattle.std.specs.Prelude.{◌≤◌, ⊤, ℕ, List, [], ◌∷◌, length, Option, Some, None}
 use Rattle.tt_core.specs.Stage.{IsNextAfter}
 use Rattle.tt_machine.specs.Machine.{Machine, Steps}
+use Rattle.tt_workers.specs.Turns.{IsFirstPart}
 
 -- a given list, or at most so many steps: of the threads in turn, or of any
 pub data Mode : Type 0 where
@@ -14,11 +15,6 @@ abbrev pub limit_of : Mode → Option ℕ
 limit_of (Replaying given) = None
 limit_of (InTurn steps) = Some steps
 limit_of (Freely steps) = Some steps
-
--- a list is the first part of another
-pub record IsFirstPart (part whole : List ℕ) : Type 0 where
-  pub rest : List ℕ
-  pub cut : whole ≡ part ++ rest
 
 -- the steps of a run are a first part of the list, or at most so many
 abbrev pub Allows : Mode → (schedule : List ℕ) → Type 0
