@@ -5,7 +5,6 @@ use Rattle.tt_calls.specs.declared.outcome.Outcome.{Outcome}
 use Rattle.tt_calls.specs.Outcomes.{failed, fine}
 use Rattle.tt_calls.specs.Usages.{bad_option, wrong_number}
 use Rattle.tt_list_commands.specs.Concatenating.{concatenation}
-use Rattle.tt_lists.specs.Answers.{insert_answer}
 use Rattle.tt_lists.specs.Messages.{list_message}
 use Rattle.tt_lists.specs.Reading.{split_of}
 use Rattle.tt_lists.specs.declared.answer.ListAnswer.{ListAnswer}
@@ -14,6 +13,7 @@ use Rattle.tt_lists.specs.declared.items.Split.{Split}
 use Rattle.tt_lists.specs.declared.items.Split.TheVariants as split
 use Rattle.tt_pure.specs.Table as pure
 use Rattle.tt_script.specs.Names.{plain_name}
+use Rattle.tt_value.specs.Growing as growing
 use Rattle.tt_vars.specs.declared.answers.VarFault.{VarFault}
 use Rattle.tt_vars.specs.declared.answers.Written.{Written}
 use Rattle.tt_wants.specs.declared.want.Body.TheVariants as body
@@ -25,7 +25,7 @@ use Rattle.tt_store.specs.Listed as listed
 use Rattle.tt_store.specs.Listed.{Assigns, AssignsItems, AssignsOne, lappend, lassign, message_of, paired, told_rest}
 use Rattle.tt_store.specs.Messages.{cannot_unset}
 use Rattle.tt_store.specs.Scalars as scalars
-use Rattle.tt_store.specs.Scalars.{Changes, Counts, DropsOne, GivesMade, Unsets, UnsetsAll, UnsetsIf, append, appended, counting, ended_by, first_unknown, front, incr, incremented, made_of, set, told_of, unset}
+use Rattle.tt_store.specs.Scalars.{Changes, Counts, DropsOne, GivesMade, Unsets, UnsetsAll, UnsetsIf, append, counting, ended_by, first_unknown, front, incr, incremented, made_of, set, told_of, unset}
 use Rattle.tt_store.specs.Spots.{spot_of}
 use Rattle.tt_once.proofs.Once.{Once, Only, fails-once, goes-fails, goes-once, find-each, once-by, once-kept, once-made, once-then, once-told, only-made}
 use Rattle.tt_once.proofs.PureCommands.{pure-once}
@@ -69,11 +69,11 @@ incr-once usage (name ∷ step ∷ more ∷ words) old = refuses-once usage old
 append-once : (usage : List ℕ) (words : List (List ℕ)) (old : Held) → Once (append usage words old)
 append-once usage [] old = refuses-once usage old
 append-once usage (name ∷ []) old = reads_only-once name old
-append-once usage (name ∷ value ∷ values) old = changes-once name [] (appended (value ∷ values)) old
+append-once usage (name ∷ value ∷ values) old = changes-once name [] (growing.appended (value ∷ values)) old
 
 lappend-once : (usage : List ℕ) (words : List (List ℕ)) (old : Held) → Once (lappend usage words old)
 lappend-once usage [] old = refuses-once usage old
-lappend-once usage (name ∷ values) old = changes-once name [] (λ value. insert_answer value (codes "end") values) old
+lappend-once usage (name ∷ values) old = changes-once name [] (growing.listed values) old
 
 -- ---- unset(n) ----
 
