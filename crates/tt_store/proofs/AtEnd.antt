@@ -67,9 +67,11 @@ module _ (growth : Growth) (texts : List (List ℕ)) (word : List ℕ) (old : He
       → (outcome : Outcome) → GivesMade word (made_of word (grown growth texts) (counting [] (Err fault))) old outcome new
       → Changes word [] (grown growth texts) old outcome new
   from-missed mid new fault grew outcome gives =
-      let read = variables.read_at old.levels.frames (spot_of word).index grew.0.0 in
-      (counting [] read, (read, (grew.0.0, grew.0.1, refl), refl),
-      subst (λ r. GivesMade word (made_of word (grown growth texts) (counting [] r)) old outcome new) (sym (missed growth texts fault read grew.0.2)) gives)
+      let read = variables.read_at old.levels.frames (spot_of word).index grew.0.0 in (
+        counting [] read,
+        (read, (grew.0.0, grew.0.1, refl), refl),
+        subst (λ r. GivesMade word (made_of word (grown growth texts) (counting [] r)) old outcome new) (sym (missed growth texts fault read grew.0.2)) gives,
+      )
 
   pub unread : (new : Held) (fault : VarFault) (outcome : Outcome)
       → variables.Grows growth texts old.levels.frames (place old (spot_of word)) new.levels.frames (Err fault)

@@ -50,11 +50,7 @@ impl Store {
     }
 
     // The value of a word's variable, where a missing one counts as this text.
-    fn counted(
-        &self,
-        word: &Text,
-        missing: &[u8],
-    ) -> Result<Result<Text, VarFault>, NoMemory>
+    fn counted(&self, word: &Text, missing: &[u8]) -> Result<Result<Text, VarFault>, NoMemory>
         ensures { IfOk result (scalars.Counts word.now missing.now self.now) }
     {
         let spot = spot_of(self.alloc, word.as_bytes())?;

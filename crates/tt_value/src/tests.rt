@@ -31,7 +31,12 @@ fn a_value_grows_at_its_end(rt: HostRuntime) -> Result<(), Fail> {
         (Growth::List, b" a\n#b", b"a #b {c d} {} {c d} {}", true),
         (Growth::List, b"a {b", b"a {b", false),
         (Growth::Text, b"", b"c dc d", true),
-        (Growth::Text, b"a {b, longer than 14", b"a {b, longer than 14c dc d", true),
+        (
+            Growth::Text,
+            b"a {b, longer than 14",
+            b"a {b, longer than 14c dc d",
+            true,
+        ),
     ];
     for (growth, before, after, grows) in rows {
         let mut value = Value::from_text(Text::from_bytes(alloc, before)?);

@@ -128,7 +128,12 @@ impl Value {
     ///
     /// `Bad` with the message of the fault where it is to grow as a list and is none, and then it stays. `NoMemory` where
     /// memory is refused; then some of the texts may be there.
-    pub fn grow(&mut self, alloc: Global, growth: Growth, texts: &[Text]) -> Result<ListAnswer, NoMemory>
+    pub fn grow(
+        &mut self,
+        alloc: Global,
+        growth: Growth,
+        texts: &[Text],
+    ) -> Result<ListAnswer, NoMemory>
         ensures answer { IfOk result (λ answer. answer ≡ grown growth texts.now self.old) }
         ensures left { IfOk result (λ answer. self.new ≡ left_by answer self.old) }
     {
