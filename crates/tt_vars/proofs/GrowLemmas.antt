@@ -16,16 +16,16 @@ use Rattle.tt_vars.specs.declared.variable.Found.{Found}
 use Rattle.tt_vars.specs.declared.variable.Variable.{Variable}
 use Rattle.tt_vars.specs.Variables.{Frame, Pairs, Puts, result_of}
 use Rattle.tt_vars.specs.Links.{Grows, Takes, frame_at, with_frame}
-use Rattle.tt_vars.specs.Found.{FindsAt, grown_among, grown_at, grown_in, put_at, put_by, text_at}
+use Rattle.tt_vars.specs.Found.{FindsAt, after_growing, put_at, put_by, put_in, text_at}
 use Rattle.tt_vars.proofs.FrameLemmas.{set_value_at-same}
 
 pub among : (es : Pairs) (i : ℕ) (old new : List ℕ) (answer : ListAnswer) → slice_get (values_of es) i ≡ Some old
-    → new ≡ left_by answer old → set_value_at es i new ≡ grown_among es i (Some answer)
+    → new ≡ left_by answer old → set_value_at es i new ≡ after_growing (set_value_at es i) es (Some answer)
 among es i old new (Made text) at is = ap (set_value_at es i) is
 among es i old new (Bad message) at is = ap (set_value_at es i) is ∙ set_value_at-same es i old at
 
 pub in-frame : (frame : Frame) (found : Found) (v w : Variable) (answer : Option ListAnswer) → slice_get (values_of frame) found.variable ≡ Some v
-    → w ≡ grown_in v found.element answer → set_value_at frame found.variable w ≡ grown_at frame found answer
+    → w ≡ after_growing (put_in v found.element) v answer → set_value_at frame found.variable w ≡ after_growing (put_at frame found) frame answer
 in-frame frame found v w None at is = ap (set_value_at frame found.variable) is ∙ set_value_at-same frame found.variable v at
 in-frame frame found v w (Some (Bad message)) at is = ap (set_value_at frame found.variable) is ∙ set_value_at-same frame found.variable v at
 in-frame frame found v w (Some (Made text)) at is =
@@ -36,18 +36,18 @@ module _ (growth : Growth) (texts : List (List ℕ)) (old : List Frame) (place :
   stays = set-get_or old number []
 
   made : (answer : ListAnswer) (text : List ℕ) → text_at (frame_at old number) found ≡ Some text
-      → Takes (Ok answer) old place (with_frame old number (grown_at (frame_at old number) found (Some answer)))
+      → Takes (Ok answer) old place (with_frame old number (after_growing (put_at (frame_at old number) found) (frame_at old number) (Some answer)))
   made (Bad message) text at = stays
   made (Made longer) text at =
       (is.0, is.1, subst (λ made. Puts made old (with_frame old number (put_at (frame_at old number) found longer)) Yes) (sym (is.2.3 text longer at)) (refl, refl))
 
   grew : (text : Option (List ℕ)) → text_at (frame_at old number) found ≡ text
-      → Grows growth texts old place (with_frame old number (grown_at (frame_at old number) found (option_map (grown growth texts) text))) (ok_or (option_map (grown growth texts) text) IsArray)
+      → Grows growth texts old place (with_frame old number (after_growing (put_at (frame_at old number) found) (frame_at old number) (option_map (grown growth texts) text))) (ok_or (option_map (grown growth texts) text) IsArray)
   grew None at = ((is.0, is.1, ap (result_of (grown growth texts)) (sym (is.2.2 ∙ ap (λ t. ok_or t IsArray) at))), stays)
   grew (Some text) at = ((is.0, is.1, ap (result_of (grown growth texts)) (sym (is.2.2 ∙ ap (λ t. ok_or t IsArray) at))), made (grown growth texts text) text at)
 
   pub grows : (before new : Frame) (answer : Option ListAnswer) (told : Result ListAnswer VarFault) → before ≡ frame_at old number → told ≡ ok_or answer IsArray
-      → answer ≡ option_map (grown growth texts) (text_at before found) → new ≡ grown_at before found answer
+      → answer ≡ option_map (grown growth texts) (text_at before found) → new ≡ after_growing (put_at before found) before answer
       → Grows growth texts old place (with_frame old number new) told
   grows before new answer told here told_is answer_is new_is =
       let answered : answer ≡ option_map (grown growth texts) (text_at (frame_at old number) found) = answer_is ∙ ap (λ f. option_map (grown growth texts) (text_at f found)) here in

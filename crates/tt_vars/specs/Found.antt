@@ -12,7 +12,7 @@ use Rattle.tt_vars.specs.declared.links.Spot.{Spot}
 use Rattle.tt_vars.specs.declared.variable.Place.{Place}
 use Rattle.tt_vars.specs.declared.variable.Variable.{Variable}
 use Rattle.tt_vars.specs.declared.variable.Variable.TheVariants.{Scalar, Array, Link}
-use Rattle.tt_vars.specs.Variables.{Name, Pairs, Frame, result_of}
+use Rattle.tt_vars.specs.Variables.{Name, Frame, result_of}
 use Rattle.tt_vars.specs.Links.{StandsFor, frame_at, place_of, read_at, removed_of, with_frame, written_at}
 
 -- which element an index names
@@ -52,21 +52,11 @@ put_by frame place (Some variable) element text = set_value_at frame place (put_
 abbrev pub put_at : Frame → Found → List ℕ → Frame
 put_at frame found text = put_by frame found.variable (slice_get (values_of frame) found.variable) found.element text
 
--- a variable, elements and a frame after a value in them grew, if it did
-abbrev pub grown_in : Variable → Option ℕ → Option ListAnswer → Variable
-grown_in variable element (Some (Made text)) = put_in variable element text
-grown_in variable element (Some (Bad message)) = variable
-grown_in variable element None = variable
-
-abbrev pub grown_among : Pairs → ℕ → Option ListAnswer → Pairs
-grown_among elements place (Some (Made text)) = set_value_at elements place text
-grown_among elements place (Some (Bad message)) = elements
-grown_among elements place None = elements
-
-abbrev pub grown_at : Frame → Found → Option ListAnswer → Frame
-grown_at frame found (Some (Made text)) = put_at frame found text
-grown_at frame found (Some (Bad message)) = frame
-grown_at frame found None = frame
+-- a variable, elements or a frame after a value in them grew: with the longer text, where one was made
+abbrev pub after_growing : {X : Type 0} → (put : List ℕ → X) → (old : X) → Option ListAnswer → X
+after_growing put old (Some (Made text)) = put text
+after_growing put old (Some (Bad message)) = old
+after_growing put old None = old
 
 -- an array without the element at a place
 abbrev pub without_at : Variable → ℕ → Variable

@@ -7,7 +7,7 @@ ghost use Rattle.tt_vars.specs.declared.answers.VarFault.TheVariants.{IsArray};
 ghost use Rattle.tt_vars.specs.declared.variable.Variable.TheVariants.{Link};
 ghost use Rattle.tt_vars.specs.Variables.{Name, named, is_set, leads, elements_of, read, written, with, removed, result_of, Puts};
 ghost use Rattle.tt_value.specs.Growing.{grown};
-ghost use Rattle.tt_vars.specs.Found.{element_in, grown_at, put_at, text_at, removed_at, removed_in};
+ghost use Rattle.tt_vars.specs.Found.{after_growing, element_in, put_at, text_at, removed_at, removed_in};
 ghost use Rattle.tt_vars.specs.Ending.{KeepsLinks};
 
 use crate::variable::{
@@ -111,7 +111,8 @@ impl Frame {
         Ok(())
     }
 
-    /// Finds what is read, written where it stands, or removed by a name; `missing` is the fault where there is no such name.
+    /// Finds what is read, written where it stands, or removed by a name; `missing` is the fault where there is no such
+    /// name.
     pub(crate) fn find(
         &self,
         name: &Text,
@@ -191,7 +192,7 @@ impl Frame {
         texts: &[Text],
     ) -> Result<Option<ListAnswer>, NoMemory>
         ensures answer { IfOk result (λ answer. answer ≡ option_map (grown growth texts.now) (text_at self.old found)) }
-        ensures grown { IfOk result (λ answer. self.new ≡ grown_at self.old found answer) }
+        ensures grown { IfOk result (λ answer. self.new ≡ after_growing (put_at self.old found) self.old answer) }
         ensures links { KeepsLinks self.old self.new }
     {
         let alloc = *self.map.allocator();

@@ -1,6 +1,6 @@
 ghost use Rattle.std.specs.Prelude.{◌≡◌, Some, None, Ok, IfOk, OnErr};
 ghost use Rattle.tt_vars.specs.Variables.{leads, written, Puts};
-ghost use Rattle.tt_vars.specs.Found.{without_at, grown_in, text_in};
+ghost use Rattle.tt_vars.specs.Found.{after_growing, put_in, text_in, without_at};
 ghost use Rattle.std.specs.Option.{option_map};
 ghost use Rattle.tt_lists.specs.Reading.{split_of};
 ghost use Rattle.tt_number.specs.Numerals.{whole_of};
@@ -137,7 +137,7 @@ pub(crate) fn grow_in(
     texts: &[Text],
 ) -> Result<Option<ListAnswer>, NoMemory>
     ensures answer { IfOk result (λ answer. answer ≡ option_map (grown growth texts.now) (text_in (Some variable.old) element)) }
-    ensures grown { IfOk result (λ answer. variable.new ≡ grown_in variable.old element answer) }
+    ensures grown { IfOk result (λ answer. variable.new ≡ after_growing (put_in variable.old element) variable.old answer) }
     ensures link { leads (Some variable.new) ≡ leads (Some variable.old) }
 {
     match (variable, element) {
