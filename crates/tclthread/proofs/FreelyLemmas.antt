@@ -2,7 +2,7 @@
 use Rattle.std.proofs.Common.{◌≡◌, ◌≢◌, ◌≤◌, ◌⊎◌, ℕ, List, Option, Some, None, refl, subst, arith}
 use Rattle.tt_core.proofs.ActionLemmas.{told-map}
 use Rattle.tt_core.specs.Faithful.{IsFaithful, is_cut}
-use Rattle.tt_desk.specs.declared.fault.StepFault.{StepFault}
+use Rattle.tt_run.specs.declared.fault.StepFault.{StepFault}
 use Rattle.tt_devices.specs.Faults.{Rises}
 use Rattle.tt_devices.specs.declared.sink.Sink.{Ghosts as OfSink}
 use Rattle.tt_devices.specs.declared.source.Source.{Ghosts as OfSource}

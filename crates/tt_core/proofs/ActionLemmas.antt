@@ -3,16 +3,16 @@ use Rattle.std.proofs.Common.{◌≡◌, ◌≢◌, ◌∙◌, ◌+◌, ◌<◌,
 use Rattle.tt_calls.specs.declared.reply.Reply.{Reply}
 use Rattle.tt_calls.specs.declared.request.Request.{Request}
 use Rattle.tt_calls.specs.declared.start.Start.TheVariants as start
-use Rattle.tt_desk.specs.Acting.{Happens, ReadsBy, ReadsNothing, Writes}
-use Rattle.tt_desk.specs.Desk.{Devices, Ground, can_act, unread}
-use Rattle.tt_desk.specs.declared.fault.StepFault.{StepFault}
-use Rattle.tt_desk.specs.declared.fault.StepFault.TheVariants as fault
+use Rattle.tt_run.specs.Acting.{Happens, ReadsBy, ReadsNothing, Writes}
+use Rattle.tt_run.specs.Desk.{Devices, Ground, can_act, unread}
+use Rattle.tt_run.specs.declared.fault.StepFault.{StepFault}
+use Rattle.tt_run.specs.declared.fault.StepFault.TheVariants as fault
 use Rattle.tt_devices.proofs.StreamLemmas.{Grows-append, Grows-same}
 use Rattle.tt_devices.specs.Streams.{Grows, GrowsByPart}
 use Rattle.tt_interp.specs.declared.setup.Setup.{Setup}
 use Rattle.tt_lines.specs.Lines.{IsLine, ReadsKnown, reads_line}
 use Rattle.std.proofs.lemmas.List.{append_cancel_left, length-append}
-use Rattle.tt_happenings.proofs.Drawn.{few_fit}
+use Rattle.laws_shared.proofs.Drawn.{few_fit}
 use Rattle.tt_machine.proofs.RunActionLemmas.{few_channels, steps_orderly}
 use Rattle.tt_machine.proofs.Steps.{one_more}
 use Rattle.tt_machine.specs.RunActions.{StepsOrderly}

@@ -15,8 +15,8 @@ use Rattle.tt_interp.specs.declared.interp.Standing.{Standing}
 use Rattle.tt_interp.specs.declared.interp.Standing.TheVariants as standing
 use Rattle.tt_interp.specs.declared.kept.Kept.{Kept}
 use Rattle.tt_interp.specs.declared.setup.Setup.{Setup}
-use Rattle.tt_desk.specs.Desk.{Ground}
-use Rattle.tt_endings.specs.Endings.{code_of}
+use Rattle.tt_run.specs.Desk.{Ground}
+use Rattle.tt_outcomes.specs.Endings.{code_of}
 use Rattle.tt_machine.specs.Machine.{Thread, joined, new_thread, replied, thread_of, told, told_at}
 use Rattle.tt_machine.proofs.OneRequest.{nothing_after}
 use Rattle.tt_threads.specs.Rows.{row_of}

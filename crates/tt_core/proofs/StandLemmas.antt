@@ -4,11 +4,11 @@ use Rattle.std.specs.Option.{option_map}
 use Rattle.tt_calls.specs.declared.reply.Reply.{Reply}
 use Rattle.tt_calls.specs.declared.request.Request.{Request}
 use Rattle.tt_calls.specs.declared.start.Start.TheVariants as start
-use Rattle.tt_desk.specs.Acting.{Happens, IsAnswer, Writes}
-use Rattle.tt_desk.specs.Desk.{Ground, can_act, unread}
-use Rattle.tt_desk.specs.declared.desk.Acted.{Acted}
-use Rattle.tt_desk.specs.declared.fault.StepFault.{StepFault}
-use Rattle.tt_desk.specs.declared.fault.StepFault.TheVariants as fault
+use Rattle.tt_run.specs.Acting.{Happens, IsAnswer, Writes}
+use Rattle.tt_run.specs.Desk.{Ground, can_act, unread}
+use Rattle.tt_run.specs.declared.desk.Acted.{Acted}
+use Rattle.tt_run.specs.declared.fault.StepFault.{StepFault}
+use Rattle.tt_run.specs.declared.fault.StepFault.TheVariants as fault
 use Rattle.tt_devices.specs.Streams.{Grows, GrowsByPart}
 use Rattle.tt_interp.specs.Interps.{Interpreter, request_of, serving_of}
 use Rattle.tt_interp.specs.declared.setup.Setup.{Setup}

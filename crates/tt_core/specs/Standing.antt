@@ -1,8 +1,8 @@
 -- Where a run stands: what ties its parts to the machine after its schedule.
 use Rattle.std.specs.Prelude.{◌≡◌, ◌≢◌, ℕ, List, Option, Some, None, IfSome}
-use Rattle.tt_desk.specs.Desk.{unread}
-use Rattle.tt_desk.specs.declared.fault.StepFault.{StepFault}
-use Rattle.tt_desk.specs.declared.fault.StepFault.TheVariants.{NotEnabled}
+use Rattle.tt_run.specs.Desk.{unread}
+use Rattle.tt_run.specs.declared.fault.StepFault.{StepFault}
+use Rattle.tt_run.specs.declared.fault.StepFault.TheVariants.{NotEnabled}
 use Rattle.tt_machine.specs.Machine.{Machine, Runs, start_machine}
 use Rattle.tt_shared.specs.State.{State}
 use Rattle.tt_core.specs.Crew.{ArePlaced, Places}

@@ -6,7 +6,7 @@ ghost use Rattle.tt_core.specs.Crew.{AllBegin, Begins, GoesOn, IsHalted, IsRepli
 use std::alloc::Global;
 use std::marker::Model;
 use tt_calls::{Reply, Request, Start};
-use tt_desk::Desk;
+use tt_run::Desk;
 use tt_devices::{Sink, Source};
 use tt_interp::{Interp, Setup};
 use tt_text::NoMemory;

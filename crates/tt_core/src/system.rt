@@ -11,7 +11,7 @@ use crate::crew::Crew;
 use std::alloc::Global;
 use std::marker::Model;
 use tt_calls::{Reply, Start};
-use tt_desk::{Desk, NewFault, StepFault};
+use tt_run::{Desk, NewFault, StepFault};
 use tt_devices::{Sink, Source};
 use tt_interp::Setup;
 use tt_schedule::Schedule;

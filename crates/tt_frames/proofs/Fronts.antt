@@ -6,7 +6,7 @@ use Rattle.std.proofs.lemmas.List.{drop_all, length-map}
 use Rattle.std.proofs.lemmas.Option.{slice_get_read}
 use Rattle.std.specs.Slice.{IsItemAt}
 use Rattle.tt_code.specs.Needs.{Needs}
-use Rattle.tt_endings.specs.Endings.{failed}
+use Rattle.tt_outcomes.specs.Endings.{failed}
 use Rattle.tt_frames.specs.Programs.{PlainStep, Does, end_of, from_front, start_of}
 use Rattle.tt_frames.specs.Scripts.{command, commands, ended}
 use Rattle.tt_frames.specs.Units.{past_limit, spending}

@@ -16,13 +16,13 @@ use Rattle.tt_commands.specs.declared.call.Goal.TheVariants as goal
 use Rattle.tt_commands.specs.declared.call.Here.TheVariants as here
 use Rattle.tt_commands.specs.declared.call.Then.{Then as After}
 use Rattle.tt_commands.specs.declared.call.Then.TheVariants as after
-use Rattle.tt_endings.specs.Endings.{code_of, failed, fine, number_of, of_outcome, text_of}
-use Rattle.tt_endings.specs.declared.ending.Ending.{Ending}
-use Rattle.tt_plans.specs.Plans.{Asks, Calls, Goes}
+use Rattle.tt_outcomes.specs.Endings.{code_of, failed, fine, number_of, of_outcome, text_of}
+use Rattle.tt_outcomes.specs.declared.ending.Ending.{Ending}
+use Rattle.tt_evaluation.specs.Plans.{Asks, Calls, Goes}
 use Rattle.tt_text.specs.Characters.{characters}
-use Rattle.tt_wants.specs.declared.got.Got.{Got}
-use Rattle.tt_wants.specs.declared.got.Got.TheVariants as got
-use Rattle.tt_wants.specs.declared.want.Want.TheVariants.{Ask, Watch}
+use Rattle.tt_outcomes.specs.declared.got.Got.{Got}
+use Rattle.tt_outcomes.specs.declared.got.Got.TheVariants as got
+use Rattle.tt_outcomes.specs.declared.want.Want.TheVariants.{Ask, Watch}
 use Rattle.tt_frames.specs.Vocabulary.{OnEnding, Then, passed, stored}
 use Rattle.tt_frames.specs.declared.job.Awaits.{Awaits}
 use Rattle.tt_frames.specs.declared.job.Awaits.TheVariants as awaits

@@ -5,10 +5,10 @@ use Rattle.tt_commands.specs.Calls.{call_of}
 use Rattle.tt_control.specs.Table.{control_of}
 use Rattle.tt_control.specs.declared.control.Control.{Control}
 use Rattle.tt_control.specs.declared.control.Control.TheVariants as control
-use Rattle.tt_endings.specs.Endings.{code_of, failed, failure, fine, number_of, text_of}
-use Rattle.tt_endings.specs.declared.ending.Ending.{Ending}
-use Rattle.tt_endings.specs.declared.ending.Ending.TheVariants.{Failed, Raised, Returned, Broke, Continued}
-use Rattle.tt_plans.specs.Plans.{Calls, Goes}
+use Rattle.tt_outcomes.specs.Endings.{code_of, failed, failure, fine, number_of, text_of}
+use Rattle.tt_outcomes.specs.declared.ending.Ending.{Ending}
+use Rattle.tt_outcomes.specs.declared.ending.Ending.TheVariants.{Failed, Raised, Returned, Broke, Continued}
+use Rattle.tt_evaluation.specs.Plans.{Calls, Goes}
 use Rattle.tt_trace.specs.Lines.{started_within}
 use Rattle.tt_frames.specs.Asking.{called}
 use Rattle.tt_frames.specs.Vocabulary.{OnEnding, Then, on_fine, on_truth, passed, stored, told}

@@ -7,16 +7,16 @@ use Rattle.tt_calls.specs.declared.reply.Reply.{Reply}
 use Rattle.tt_calls.specs.declared.reply.Reply.TheVariants as reply
 use Rattle.tt_calls.specs.declared.request.Request.{Request}
 use Rattle.tt_calls.specs.declared.request.Request.TheVariants as ask
-use Rattle.tt_endings.specs.Endings.{failed, fine, outcome_of, text_of}
-use Rattle.tt_endings.specs.Places.{of_script}
-use Rattle.tt_endings.specs.declared.ending.Ending.{Ending}
-use Rattle.tt_endings.specs.declared.ending.Ending.TheVariants.{Failed}
-use Rattle.tt_endings.specs.declared.ending.Failure.{Failure}
-use Rattle.tt_plans.specs.Plans.{Ends, Asks, Calls, Goes}
-use Rattle.tt_wants.specs.declared.got.Got.{Got}
-use Rattle.tt_wants.specs.declared.got.Got.TheVariants as got
-use Rattle.tt_wants.specs.declared.want.Body.TheVariants as body
-use Rattle.tt_wants.specs.declared.want.Want.TheVariants.{Ask, Enter, Leave, Seen, Unwatch}
+use Rattle.tt_outcomes.specs.Endings.{failed, fine, outcome_of, text_of}
+use Rattle.tt_outcomes.specs.Places.{of_script}
+use Rattle.tt_outcomes.specs.declared.ending.Ending.{Ending}
+use Rattle.tt_outcomes.specs.declared.ending.Ending.TheVariants.{Failed}
+use Rattle.tt_outcomes.specs.declared.ending.Failure.{Failure}
+use Rattle.tt_evaluation.specs.Plans.{Ends, Asks, Calls, Goes}
+use Rattle.tt_outcomes.specs.declared.got.Got.{Got}
+use Rattle.tt_outcomes.specs.declared.got.Got.TheVariants as got
+use Rattle.tt_outcomes.specs.declared.want.Body.TheVariants as body
+use Rattle.tt_outcomes.specs.declared.want.Want.TheVariants.{Ask, Enter, Leave, Seen, Unwatch}
 use Rattle.tt_frames.specs.Units.{past_limit, spending}
 use Rattle.tt_frames.specs.Vocabulary.{OnEnding, Then, ending_of, passed, setting, told}
 use Rattle.tt_frames.specs.Waiting.{known, look_of}

@@ -4,8 +4,8 @@ use Rattle.std.specs.Arc.{arc_value}
 use Rattle.tt_code.specs.Code.{needs_of}
 use Rattle.tt_code.specs.Expressions.{value_needs}
 use Rattle.tt_code.specs.Needs.{Needs, Refused, bit}
-use Rattle.tt_endings.specs.Endings.{failed, fine}
-use Rattle.tt_endings.specs.declared.ending.Ending.{Ending}
+use Rattle.tt_outcomes.specs.Endings.{failed, fine}
+use Rattle.tt_outcomes.specs.declared.ending.Ending.{Ending}
 use Rattle.tt_exprs.specs.Apply.{truth_of}
 use Rattle.tt_exprs.specs.Parsing.{parse}
 use Rattle.tt_exprs.specs.Trees.{PlainParsed, tree, bad}

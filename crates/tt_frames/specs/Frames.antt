@@ -3,12 +3,12 @@ use Rattle.std.specs.Prelude.{ℕ, ◌+◌, List, [], codes, drop}
 use Rattle.std.specs.Arc.{arc_value}
 use Rattle.tt_code.specs.Running.{given, needs}
 use Rattle.tt_code.specs.declared.running.Running.{Running}
-use Rattle.tt_endings.specs.declared.ending.Ending.{Ending}
-use Rattle.tt_endings.specs.declared.ending.Ending.TheVariants.{Failed, Fine}
-use Rattle.tt_plans.specs.Frames.{After, OnGot}
-use Rattle.tt_plans.specs.Plans.{Goes}
-use Rattle.tt_wants.specs.declared.got.Got.{Got}
-use Rattle.tt_wants.specs.declared.want.Want.{Want}
+use Rattle.tt_outcomes.specs.declared.ending.Ending.{Ending}
+use Rattle.tt_outcomes.specs.declared.ending.Ending.TheVariants.{Failed, Fine}
+use Rattle.tt_evaluation.specs.Frames.{After, OnGot}
+use Rattle.tt_evaluation.specs.Plans.{Goes}
+use Rattle.tt_outcomes.specs.declared.got.Got.{Got}
+use Rattle.tt_outcomes.specs.declared.want.Want.{Want}
 use Rattle.tt_frames.specs.Asking.{following, on_reply, sent}
 use Rattle.tt_frames.specs.Control.{caught, clauses}
 use Rattle.tt_frames.specs.Events as events

@@ -5,10 +5,10 @@ use Rattle.tt_calls.specs.declared.lock_call.LockCall.TheVariants.{Unlock}
 use Rattle.tt_calls.specs.declared.request.Request.{Request}
 use Rattle.tt_calls.specs.declared.request.Request.TheVariants as ask
 use Rattle.tt_calls.specs.declared.tsv_call.TsvCall.TheVariants.{Unhold}
-use Rattle.tt_endings.specs.Endings.{failed}
-use Rattle.tt_endings.specs.declared.ending.Ending.{Ending}
-use Rattle.tt_plans.specs.Plans.{Asks, Calls}
-use Rattle.tt_wants.specs.declared.want.Want.TheVariants.{Ask}
+use Rattle.tt_outcomes.specs.Endings.{failed}
+use Rattle.tt_outcomes.specs.declared.ending.Ending.{Ending}
+use Rattle.tt_evaluation.specs.Plans.{Asks, Calls}
+use Rattle.tt_outcomes.specs.declared.want.Want.TheVariants.{Ask}
 use Rattle.tt_frames.specs.Nesting.{deeper, shallower, too_deep}
 use Rattle.tt_frames.specs.Vocabulary.{OnEnding, Then, passed}
 use Rattle.tt_frames.specs.declared.job.Hold.{Hold}

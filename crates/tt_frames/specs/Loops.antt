@@ -1,8 +1,8 @@
 -- Loops (while(n), for(n), foreach(n), break(n), continue(n)).
 use Rattle.std.specs.Prelude.{ℕ, Bool, false, if◌then◌else◌, List, [], ◌∷◌, None}
-use Rattle.tt_endings.specs.Endings.{failed, fine}
-use Rattle.tt_endings.specs.declared.ending.Ending.TheVariants.{Fine, Broke, Continued}
-use Rattle.tt_plans.specs.Plans.{Asks, Calls, Goes}
+use Rattle.tt_outcomes.specs.Endings.{failed, fine}
+use Rattle.tt_outcomes.specs.declared.ending.Ending.TheVariants.{Fine, Broke, Continued}
+use Rattle.tt_evaluation.specs.Plans.{Asks, Calls, Goes}
 use Rattle.tt_frames.specs.Rests.{is_empty}
 use Rattle.tt_frames.specs.Units.{past_limit, spending}
 use Rattle.tt_frames.specs.Vocabulary.{OnEnding, Then, ending_of, on_fine, on_truth, passed, setting}

@@ -1,12 +1,12 @@
 -- Nested evaluations: bodies of procedures, eval(n) and uplevel(n), and scripts at global level (thread(n)).
 use Rattle.std.specs.Prelude.{ℕ, ◌+◌, ◌-◌, nat_lt, if◌then◌else◌, List, codes, None}
-use Rattle.tt_endings.specs.Endings.{failed}
-use Rattle.tt_endings.specs.Places.{of_procedure}
-use Rattle.tt_endings.specs.declared.ending.Ending.{Ending}
-use Rattle.tt_plans.specs.Plans.{Asks, Calls, Goes}
-use Rattle.tt_wants.specs.declared.want.Body.{Body}
-use Rattle.tt_wants.specs.declared.want.Body.TheVariants as body
-use Rattle.tt_wants.specs.declared.want.Want.TheVariants.{Enter, Leave}
+use Rattle.tt_outcomes.specs.Endings.{failed}
+use Rattle.tt_outcomes.specs.Places.{of_procedure}
+use Rattle.tt_outcomes.specs.declared.ending.Ending.{Ending}
+use Rattle.tt_evaluation.specs.Plans.{Asks, Calls, Goes}
+use Rattle.tt_outcomes.specs.declared.want.Body.{Body}
+use Rattle.tt_outcomes.specs.declared.want.Body.TheVariants as body
+use Rattle.tt_outcomes.specs.declared.want.Want.TheVariants.{Enter, Leave}
 use Rattle.tt_frames.specs.Vocabulary.{OnEnding, Then, passed}
 use Rattle.tt_frames.specs.declared.job.Job.TheVariants as job
 use Rattle.tt_frames.specs.declared.state.Counts.{Counts}

@@ -1,14 +1,14 @@
 -- Scripts and commands (Tcl(n), rules 1, 2, 5 and 7 to 11).
 use Rattle.std.specs.Prelude.{ℕ, List, [], ◌∷◌, length, None}
 use Rattle.tt_code.specs.Needs.{Needs, Variable, Script, Refused, Values}
-use Rattle.tt_endings.specs.Endings.{failed, fine, of_value}
-use Rattle.tt_endings.specs.Places.{in_command}
-use Rattle.tt_endings.specs.declared.ending.Ending.TheVariants.{Fine}
-use Rattle.tt_plans.specs.Plans.{Ends, Asks, Calls}
+use Rattle.tt_outcomes.specs.Endings.{failed, fine, of_value}
+use Rattle.tt_outcomes.specs.Places.{in_command}
+use Rattle.tt_outcomes.specs.declared.ending.Ending.TheVariants.{Fine}
+use Rattle.tt_evaluation.specs.Plans.{Ends, Asks, Calls}
 use Rattle.tt_script.specs.Messages.{parse_message}
-use Rattle.tt_wants.specs.declared.got.Got.{Got}
-use Rattle.tt_wants.specs.declared.got.Got.TheVariants as got
-use Rattle.tt_wants.specs.declared.want.Want.TheVariants.{ReadVar, RunWords}
+use Rattle.tt_outcomes.specs.declared.got.Got.{Got}
+use Rattle.tt_outcomes.specs.declared.got.Got.TheVariants as got
+use Rattle.tt_outcomes.specs.declared.want.Want.TheVariants.{ReadVar, RunWords}
 use Rattle.tt_frames.specs.Programs.{PlainStep, Wrong, Does, steps_of}
 use Rattle.tt_frames.specs.Units.{past_limit, spending}
 use Rattle.tt_frames.specs.Vocabulary.{OnEnding, OnValue, Then, ending_of, on_fine}

@@ -4,11 +4,11 @@ use Rattle.tt_calls.specs.declared.request.Request.{Request}
 use Rattle.tt_calls.specs.declared.request.Request.TheVariants.{Report, WriteErr}
 use Rattle.tt_calls.specs.declared.start.Start.{Start}
 use Rattle.tt_calls.specs.declared.start.Start.TheVariants.{Script, Worker}
-use Rattle.tt_endings.specs.Places.{of_script}
-use Rattle.tt_endings.specs.declared.ending.Ending.{Ending}
-use Rattle.tt_endings.specs.declared.ending.Ending.TheVariants.{Failed}
-use Rattle.tt_plans.specs.Plans.{Asks, Calls}
-use Rattle.tt_wants.specs.declared.want.Want.TheVariants.{Ask}
+use Rattle.tt_outcomes.specs.Places.{of_script}
+use Rattle.tt_outcomes.specs.declared.ending.Ending.{Ending}
+use Rattle.tt_outcomes.specs.declared.ending.Ending.TheVariants.{Failed}
+use Rattle.tt_evaluation.specs.Plans.{Asks, Calls}
+use Rattle.tt_outcomes.specs.declared.want.Want.TheVariants.{Ask}
 use Rattle.tt_frames.specs.Vocabulary.{OnEnding, Then, passed, told}
 use Rattle.tt_frames.specs.Workers.{begins, worker_of}
 use Rattle.tt_frames.specs.declared.job.Job.TheVariants as job

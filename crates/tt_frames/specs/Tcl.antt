@@ -1,8 +1,8 @@
 -- The language: the plan of each job.
-use Rattle.tt_plans.specs.Evaluation.{Meaning}
-use Rattle.tt_endings.specs.declared.ending.Ending.{Ending}
-use Rattle.tt_wants.specs.declared.got.Got.{Got}
-use Rattle.tt_wants.specs.declared.want.Want.{Want}
+use Rattle.tt_evaluation.specs.Evaluation.{Meaning}
+use Rattle.tt_outcomes.specs.declared.ending.Ending.{Ending}
+use Rattle.tt_outcomes.specs.declared.got.Got.{Got}
+use Rattle.tt_outcomes.specs.declared.want.Want.{Want}
 use Rattle.tt_frames.specs.Control.{own}
 use Rattle.tt_frames.specs.Events.{happens, round, taking}
 use Rattle.tt_frames.specs.Expressions.{expression}

@@ -2,8 +2,8 @@
 -- spend; after each stretch of them it pauses.
 use Rattle.std.specs.Prelude.{ℕ, ◌+◌, ◌%◌, ◌==◌, nat_le, false, if◌then◌else◌, List, codes}
 use Rattle.tt_calls.specs.declared.request.Request.TheVariants.{Pause}
-use Rattle.tt_plans.specs.Plans.{Asks}
-use Rattle.tt_wants.specs.declared.want.Want.TheVariants.{Ask}
+use Rattle.tt_evaluation.specs.Plans.{Asks}
+use Rattle.tt_outcomes.specs.declared.want.Want.TheVariants.{Ask}
 use Rattle.tt_frames.specs.Vocabulary.{TclPlan, Then}
 use Rattle.tt_frames.specs.declared.state.Counts.{Counts}
 use Rattle.tt_frames.specs.declared.state.TheConstants.{STRETCH}

@@ -1,14 +1,14 @@
 -- The words that plans are written in.
 use Rattle.std.specs.Prelude.{ℕ, List, [], bytes_eq, codes, if◌then◌else◌, Option, Some, None}
-use Rattle.tt_endings.specs.Endings.{fine, of_value}
-use Rattle.tt_endings.specs.declared.ending.Ending.{Ending}
-use Rattle.tt_endings.specs.declared.ending.Ending.TheVariants.{Fine}
-use Rattle.tt_plans.specs.Plans.{Plan, Asks, Ends}
+use Rattle.tt_outcomes.specs.Endings.{fine, of_value}
+use Rattle.tt_outcomes.specs.declared.ending.Ending.{Ending}
+use Rattle.tt_outcomes.specs.declared.ending.Ending.TheVariants.{Fine}
+use Rattle.tt_evaluation.specs.Plans.{Plan, Asks, Ends}
 use Rattle.tt_script.specs.Names.{element_of}
-use Rattle.tt_wants.specs.declared.got.Got.{Got}
-use Rattle.tt_wants.specs.declared.got.Got.TheVariants as got
-use Rattle.tt_wants.specs.declared.want.Want.{Want}
-use Rattle.tt_wants.specs.declared.want.Want.TheVariants.{WriteVar}
+use Rattle.tt_outcomes.specs.declared.got.Got.{Got}
+use Rattle.tt_outcomes.specs.declared.got.Got.TheVariants as got
+use Rattle.tt_outcomes.specs.declared.want.Want.{Want}
+use Rattle.tt_outcomes.specs.declared.want.Want.TheVariants.{WriteVar}
 use Rattle.tt_frames.specs.declared.job.Job.{Job}
 use Rattle.tt_frames.specs.declared.state.Counts.{Counts}
 

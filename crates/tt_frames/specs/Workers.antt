@@ -3,14 +3,14 @@ use Rattle.std.specs.Prelude.{ℕ, Bool, true, false, List, [], Option, Some, No
 use Rattle.tt_calls.specs.declared.pool_call.PoolCall.TheVariants.{JobDone, JobTake}
 use Rattle.tt_calls.specs.declared.reply.Reply.TheVariants as reply
 use Rattle.tt_calls.specs.declared.request.Request.TheVariants as ask
-use Rattle.tt_endings.specs.Endings.{fine, outcome_of}
-use Rattle.tt_endings.specs.Places.{of_script}
-use Rattle.tt_endings.specs.declared.ending.Ending.{Ending}
-use Rattle.tt_endings.specs.declared.ending.Ending.TheVariants.{Failed}
-use Rattle.tt_plans.specs.Plans.{Asks, Calls, Goes}
-use Rattle.tt_wants.specs.declared.got.Got.{Got}
-use Rattle.tt_wants.specs.declared.got.Got.TheVariants as got
-use Rattle.tt_wants.specs.declared.want.Want.TheVariants.{Ask}
+use Rattle.tt_outcomes.specs.Endings.{fine, outcome_of}
+use Rattle.tt_outcomes.specs.Places.{of_script}
+use Rattle.tt_outcomes.specs.declared.ending.Ending.{Ending}
+use Rattle.tt_outcomes.specs.declared.ending.Ending.TheVariants.{Failed}
+use Rattle.tt_evaluation.specs.Plans.{Asks, Calls, Goes}
+use Rattle.tt_outcomes.specs.declared.got.Got.{Got}
+use Rattle.tt_outcomes.specs.declared.got.Got.TheVariants as got
+use Rattle.tt_outcomes.specs.declared.want.Want.TheVariants.{Ask}
 use Rattle.tt_frames.specs.Vocabulary.{OnEnding, Then, passed, told}
 use Rattle.tt_frames.specs.declared.job.BegunJob.{BegunJob}
 use Rattle.tt_frames.specs.declared.job.Job.TheVariants as job

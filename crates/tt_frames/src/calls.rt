@@ -1,15 +1,15 @@
 //! Commands that ask what the threads share, and what follows the replies.
 ghost use Rattle.tt_text.specs.Characters.{characters};
-ghost use Rattle.tt_plans.specs.declared.language.Move.TheVariants as moves;
+ghost use Rattle.tt_evaluation.specs.declared.language.Move.TheVariants as moves;
 ghost use Rattle.tt_frames.specs.declared.job.Asking.TheVariants as askings;
-ghost use Rattle.tt_wants.specs.declared.want.Want.TheVariants as wants;
+ghost use Rattle.tt_outcomes.specs.declared.want.Want.TheVariants as wants;
 ghost use Rattle.std.specs.Prelude.{◌≡◌, IfOk, decimal, length};
 ghost use Rattle.tt_commands.specs.Calls.{call_of};
 ghost use Rattle.tt_frames.specs.Asking as table;
 ghost use Rattle.tt_frames.specs.declared.job.Awaits.TheVariants as awaits;
 ghost use Rattle.tt_frames.specs.Frames.{after, on_got};
 ghost use Rattle.tt_frames.specs.declared.state.Counts.{Counts};
-ghost use Rattle.tt_plans.specs.Frames.{plan_of};
+ghost use Rattle.tt_evaluation.specs.Frames.{plan_of};
 
 use crate::events::begin_serving;
 use crate::job::{Asking, Awaits, Frame, Hold, Job};
@@ -19,9 +19,9 @@ use itoa::Buffer;
 use std::alloc::Global;
 use tt_calls::{Boxed, ChanCall, LockCall, Outcome, Reply, Request, TsvCall};
 use tt_commands::{Call, Here, Then, read_call};
-use tt_endings::{Ending, code_number};
+use tt_outcomes::{Ending, code_number};
 use tt_text::{NoMemory, Text, Texts, char_count};
-use tt_wants::{Got, Want};
+use tt_outcomes::{Got, Want};
 
 /// A command begins that asks, or whose name is unknown.
 pub(crate) fn begin_call(alloc: Global, words: &Texts, me: u32) -> Result<Next, NoMemory>

@@ -1,19 +1,19 @@
 //! Scripts and commands (Tcl(n)).
 ghost use Rattle.tt_frames.specs.Units.{past_limit, spending};
 ghost use Rattle.tt_script.specs.Messages.{parse_message};
-ghost use Rattle.tt_endings.specs.Places.{in_command};
-ghost use Rattle.tt_endings.specs.Endings.{failed};
+ghost use Rattle.tt_outcomes.specs.Places.{in_command};
+ghost use Rattle.tt_outcomes.specs.Endings.{failed};
 ghost use Rattle.tt_frames.specs.declared.state.Counts.{Counts};
-ghost use Rattle.tt_plans.specs.declared.language.Move.TheVariants as moves;
+ghost use Rattle.tt_evaluation.specs.declared.language.Move.TheVariants as moves;
 ghost use Rattle.tt_frames.specs.declared.job.Frame.TheVariants as frames;
 ghost use Rattle.tt_frames.specs.declared.job.Asking.TheVariants as askings;
-ghost use Rattle.tt_wants.specs.declared.want.Want.TheVariants as wants;
+ghost use Rattle.tt_outcomes.specs.declared.want.Want.TheVariants as wants;
 ghost use Rattle.std.specs.Prelude.{◌≡◌, IfOk, drop, length};
 ghost use Rattle.std.specs.Arc.{arc_value};
 ghost use Rattle.tt_frames.specs.Frames.{after, command_ended, command_given, command_needs, on_got, steps_from};
 ghost use Rattle.tt_frames.specs.Programs.{end_of, start_of, steps_of};
 ghost use Rattle.tt_frames.specs.Scripts.{commands, ran, script};
-ghost use Rattle.tt_plans.specs.Frames.{plan_of};
+ghost use Rattle.tt_evaluation.specs.Frames.{plan_of};
 
 use crate::job::{Asking, CommandFrame, Frame, Job};
 use crate::language::Next;
@@ -23,10 +23,10 @@ use std::alloc::Global;
 use std::sync::Arc;
 use tt_calls::{Boxed, Request};
 use tt_code::{Halt, Running};
-use tt_endings::Ending;
+use tt_outcomes::Ending;
 use tt_script::ParseFault;
 use tt_text::{NoMemory, Text, Texts};
-use tt_wants::{Got, Want};
+use tt_outcomes::{Got, Want};
 
 /// A script begins.
 pub(crate) fn begin_script(alloc: Global, text: Text, state: &mut State) -> Result<Next, NoMemory>

@@ -5,8 +5,8 @@ ghost use Rattle.tt_frames.specs.Frames.{after, on_got};
 ghost use Rattle.tt_frames.specs.Vocabulary.{on_truth, stored};
 ghost use Rattle.tt_frames.specs.declared.job.Job.TheVariants as jobs;
 ghost use Rattle.tt_frames.specs.declared.state.Counts.{Counts};
-ghost use Rattle.tt_plans.specs.Frames.{plan_of};
-ghost use Rattle.tt_plans.specs.Plans.{Goes};
+ghost use Rattle.tt_evaluation.specs.Frames.{plan_of};
+ghost use Rattle.tt_evaluation.specs.Plans.{Goes};
 
 use crate::calls::begin_call;
 use crate::job::{Asking, Frame, Job, Loop, Purpose};
@@ -17,7 +17,7 @@ use crate::storing::{store, telling};
 use std::alloc::Global;
 use tt_calls::Code;
 use tt_control::{Control, read_control};
-use tt_endings::{Ending, Failure, code_number};
+use tt_outcomes::{Ending, Failure, code_number};
 use tt_text::{NoMemory, Text, Texts};
 use tt_trace::Trace;
 

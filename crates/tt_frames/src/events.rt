@@ -4,7 +4,7 @@ ghost use Rattle.tt_frames.specs.Asking.{serving};
 ghost use Rattle.tt_frames.specs.Events as events;
 ghost use Rattle.tt_frames.specs.Frames.{after, on_got};
 ghost use Rattle.tt_frames.specs.declared.state.Counts.{Counts};
-ghost use Rattle.tt_plans.specs.Frames.{plan_of};
+ghost use Rattle.tt_evaluation.specs.Frames.{plan_of};
 
 use crate::job::{Asking, Frame, Job, Until};
 use crate::language::Next;
@@ -13,9 +13,9 @@ use crate::waiting::{begin_waiting, end_waiting, look_of};
 use std::alloc::Global;
 use tt_calls::{Boxed, Event, Reply, Request};
 use tt_commands::Goal;
-use tt_endings::Ending;
+use tt_outcomes::Ending;
 use tt_text::NoMemory;
-use tt_wants::{Got, Want};
+use tt_outcomes::{Got, Want};
 
 /// A command begins that serves events up to its goal.
 pub(crate) fn begin_serving(

@@ -7,9 +7,9 @@ ghost use Rattle.tt_frames.specs.Frames.{after, expression_given, on_got};
 ghost use Rattle.tt_frames.specs.declared.job.Asking.TheVariants as askings;
 ghost use Rattle.tt_frames.specs.declared.job.Frame.TheVariants as frames;
 ghost use Rattle.tt_frames.specs.declared.state.Counts.{Counts};
-ghost use Rattle.tt_plans.specs.Frames.{plan_of};
-ghost use Rattle.tt_plans.specs.declared.language.Move.TheVariants as moves;
-ghost use Rattle.tt_wants.specs.declared.want.Want.TheVariants as wants;
+ghost use Rattle.tt_evaluation.specs.Frames.{plan_of};
+ghost use Rattle.tt_evaluation.specs.declared.language.Move.TheVariants as moves;
+ghost use Rattle.tt_outcomes.specs.declared.want.Want.TheVariants as wants;
 
 use crate::job::{Asking, Frame, Job, Purpose};
 use crate::kept::Made;
@@ -17,10 +17,10 @@ use crate::language::Next;
 use crate::state::State;
 use std::alloc::Global;
 use tt_code::{Halt, Running};
-use tt_endings::Ending;
+use tt_outcomes::Ending;
 use tt_exprs::truth;
 use tt_text::{NoMemory, Text};
-use tt_wants::Want;
+use tt_outcomes::Want;
 
 /// An expression begins.
 pub(crate) fn begin_expression(

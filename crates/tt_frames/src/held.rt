@@ -3,7 +3,7 @@ ghost use Rattle.std.specs.Prelude.{◌≡◌, IfOk};
 ghost use Rattle.tt_frames.specs.Frames.{after, on_got};
 ghost use Rattle.tt_frames.specs.Held.{held, let_go, letting_go, release_of};
 ghost use Rattle.tt_frames.specs.declared.state.Counts.{Counts};
-ghost use Rattle.tt_plans.specs.Frames.{plan_of};
+ghost use Rattle.tt_evaluation.specs.Frames.{plan_of};
 
 use crate::job::{Asking, Frame, Hold, Job};
 use crate::language::Next;
@@ -11,9 +11,9 @@ use crate::nesting::too_deep;
 use crate::state::{DEEPEST, State};
 use std::alloc::Global;
 use tt_calls::{Boxed, Family, LockCall, Request, TsvCall};
-use tt_endings::Ending;
+use tt_outcomes::Ending;
 use tt_text::{NoMemory, Text};
-use tt_wants::Want;
+use tt_outcomes::Want;
 
 /// A held script begins; past the limit its hold is ended at once.
 pub(crate) fn begin_held(

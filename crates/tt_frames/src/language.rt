@@ -1,9 +1,9 @@
 ghost use Rattle.std.specs.Prelude.{◌≡◌, IfOk};
-ghost use Rattle.tt_endings.specs.declared.ending.Ending.TheVariants as endings;
+ghost use Rattle.tt_outcomes.specs.declared.ending.Ending.TheVariants as endings;
 ghost use Rattle.tt_frames.specs.Frames.{after, on_got};
 ghost use Rattle.tt_frames.specs.Vocabulary.{ending_of, on_fine, passed};
 ghost use Rattle.tt_frames.specs.declared.state.Counts.{Counts};
-ghost use Rattle.tt_plans.specs.Frames.{plan_of};
+ghost use Rattle.tt_evaluation.specs.Frames.{plan_of};
 
 use crate::calls::{after_sent, take_reply};
 use crate::commands::{advance_command, begin_script, end_command, give_command, run_command};
@@ -23,10 +23,10 @@ use crate::starts::{begin_start, finish, report_error};
 use crate::state::State;
 use crate::workers::{after_worker, begin_work, take_got};
 use std::alloc::Global;
-use tt_endings::Ending;
-use tt_plans::{Language, Move};
+use tt_outcomes::Ending;
+use tt_evaluation::{Language, Move};
 use tt_text::{NoMemory, Text};
-use tt_wants::{Got, Want};
+use tt_outcomes::{Got, Want};
 
 /// What is done next.
 pub(crate) type Next = Move<Job, Want, Ending, Frame, Asking>;
@@ -49,7 +49,7 @@ impl Language for Tcl {
 
     type Asking = Asking;
 
-    ghost use Rattle.tt_endings.specs.declared.ending.Ending.TheVariants as endings;
+    ghost use Rattle.tt_outcomes.specs.declared.ending.Ending.TheVariants as endings;
     ghost use Rattle.tt_frames.specs.Frames.{after, on_got};
     ghost use Rattle.tt_frames.specs.Tcl.{plan};
 

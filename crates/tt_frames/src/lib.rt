@@ -32,7 +32,7 @@ pub use language::Tcl;
 pub use rest::Rest;
 pub use stack::{Stack, begin, turn};
 pub use state::{Counts, State};
-pub use tt_wants::{Body, Got, Want};
+pub use tt_outcomes::{Body, Got, Want};
 
 #[cfg(test)]
 mod tests;

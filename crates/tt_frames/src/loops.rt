@@ -5,8 +5,8 @@ ghost use Rattle.tt_frames.specs.Loops as loops;
 ghost use Rattle.tt_frames.specs.Vocabulary.{on_fine, on_truth, passed};
 ghost use Rattle.tt_frames.specs.declared.job.Job.TheVariants as jobs;
 ghost use Rattle.tt_frames.specs.declared.state.Counts.{Counts};
-ghost use Rattle.tt_plans.specs.Frames.{plan_of};
-ghost use Rattle.tt_plans.specs.Plans.{Goes};
+ghost use Rattle.tt_evaluation.specs.Frames.{plan_of};
+ghost use Rattle.tt_evaluation.specs.Plans.{Goes};
 
 use crate::job::{Asking, Frame, Job, Loop, Purpose};
 use crate::language::Next;
@@ -15,9 +15,9 @@ use crate::state::{State, Unit};
 use crate::storing::setting;
 use std::alloc::Global;
 use tt_calls::{Boxed, Request};
-use tt_endings::Ending;
+use tt_outcomes::Ending;
 use tt_text::{NoMemory, Text};
-use tt_wants::Want;
+use tt_outcomes::Want;
 
 /// The next turn of a loop begins, if there is one.
 pub(crate) fn begin_loop(alloc: Global, next: Loop, state: &mut State) -> Result<Next, NoMemory>

@@ -2,17 +2,17 @@
 ghost use Rattle.tt_frames.specs.declared.state.Counts.{Counts};
 ghost use Rattle.std.specs.Prelude.{◌≡◌, IfOk};
 ghost use Rattle.tt_frames.specs.Frames.{after, on_got};
-ghost use Rattle.tt_endings.specs.Endings.{failed};
+ghost use Rattle.tt_outcomes.specs.Endings.{failed};
 ghost use Rattle.tt_frames.specs.Nesting.{global, left, nested, of_body, too_deep};
-ghost use Rattle.tt_plans.specs.Frames.{plan_of};
+ghost use Rattle.tt_evaluation.specs.Frames.{plan_of};
 
 use crate::job::{Asking, Frame, Job};
 use crate::language::Next;
 use crate::state::{DEEPEST, State};
 use std::alloc::Global;
-use tt_endings::Ending;
+use tt_outcomes::Ending;
 use tt_text::{NoMemory, Text};
-use tt_wants::{Body, Want};
+use tt_outcomes::{Body, Want};
 
 /// A body begins; past the limit it is left at once.
 pub(crate) fn begin_nested(

@@ -3,7 +3,7 @@ ghost use Rattle.std.specs.Prelude.{◌≡◌, IfOk};
 ghost use Rattle.tt_frames.specs.Events as events;
 ghost use Rattle.tt_frames.specs.Frames.{after, on_got};
 ghost use Rattle.tt_frames.specs.declared.state.Counts.{Counts};
-ghost use Rattle.tt_plans.specs.Frames.{plan_of};
+ghost use Rattle.tt_evaluation.specs.Frames.{plan_of};
 
 use crate::job::{Asking, Frame, Job};
 use crate::language::Next;
@@ -11,9 +11,9 @@ use crate::state::State;
 use crate::storing::{setting, telling};
 use std::alloc::Global;
 use tt_calls::{Boxed, Event, Reply, Request};
-use tt_endings::{Ending, Failure};
+use tt_outcomes::{Ending, Failure};
 use tt_text::{NoMemory, Text};
-use tt_wants::{Body, Got, Want};
+use tt_outcomes::{Body, Got, Want};
 
 /// An event is served.
 pub(crate) fn begin_event(alloc: Global, event: Event, state: &mut State) -> Next

@@ -3,22 +3,22 @@ ghost use Rattle.tt_frames.specs.Frames.{after, on_got};
 ghost use Rattle.tt_frames.specs.Tcl.{plan};
 ghost use Rattle.tt_frames.specs.Units.{fresh};
 ghost use Rattle.tt_frames.specs.declared.job.Job.TheVariants as jobs;
-ghost use Rattle.tt_plans.specs.Evaluation.{eval};
-ghost use Rattle.tt_plans.specs.Frames.{after_answer, from_halt, is_waiting, wants};
-ghost use Rattle.tt_wants.specs.declared.got.Got.{Got};
+ghost use Rattle.tt_evaluation.specs.Evaluation.{eval};
+ghost use Rattle.tt_evaluation.specs.Frames.{after_answer, from_halt, is_waiting, wants};
+ghost use Rattle.tt_outcomes.specs.declared.got.Got.{Got};
 
 use crate::job::{Asking, Frame, Job};
 use crate::language::Tcl;
 use crate::state::State;
 use std::alloc::Global;
 use tt_calls::Start;
-use tt_endings::Ending;
-use tt_plans::{Halt, STEPS};
+use tt_outcomes::Ending;
+use tt_evaluation::{Halt, STEPS};
 use tt_text::NoMemory;
-use tt_wants::{Got, Want};
+use tt_outcomes::{Got, Want};
 
 /// What a thread has begun to evaluate. A contract says of it what it comes to after further answers.
-pub type Stack = tt_plans::Stack<State, Frame, Asking>;
+pub type Stack = tt_evaluation::Stack<State, Frame, Asking>;
 
 /// The stack of a thread of this number that begins so and may spend so many units, and where it halts first.
 ///
@@ -35,7 +35,7 @@ pub fn begin(
     ensures waiting { IfOk result (λ begun. wants begun.1 ≡ is_waiting begun.0) }
 {
     let state = State::new(alloc, me, limit)?;
-    let begun = tt_plans::begin::<Tcl>(alloc, Job::Start(start), state)?;
+    let begun = tt_evaluation::begin::<Tcl>(alloc, Job::Start(start), state)?;
     Ok(begun)
 }
 
@@ -49,6 +49,6 @@ pub fn turn(alloc: Global, stack: &mut Stack, got: Got) -> Result<Halt<Want, End
         ≡ after_answer plan after on_got stack.old got gots) }
     ensures waiting { IfOk result (λ halt. wants halt ≡ is_waiting stack.new) }
 {
-    let halt = tt_plans::turn::<Tcl>(alloc, stack, got)?;
+    let halt = tt_evaluation::turn::<Tcl>(alloc, stack, got)?;
     Ok(halt)
 }

@@ -1,12 +1,12 @@
 //! What a thread does from its start to its end.
-ghost use Rattle.tt_plans.specs.declared.language.Move.TheVariants as moves;
+ghost use Rattle.tt_evaluation.specs.declared.language.Move.TheVariants as moves;
 ghost use Rattle.tt_frames.specs.declared.job.Asking.TheVariants as askings;
-ghost use Rattle.tt_wants.specs.declared.want.Want.TheVariants as wants;
+ghost use Rattle.tt_outcomes.specs.declared.want.Want.TheVariants as wants;
 ghost use Rattle.std.specs.Prelude.{◌≡◌, IfOk};
 ghost use Rattle.tt_frames.specs.Frames.{after, on_got};
 ghost use Rattle.tt_frames.specs.Starts.{finished, report, reporting, starting};
 ghost use Rattle.tt_frames.specs.declared.state.Counts.{Counts};
-ghost use Rattle.tt_plans.specs.Frames.{plan_of};
+ghost use Rattle.tt_evaluation.specs.Frames.{plan_of};
 
 use crate::job::{Asking, Frame, Job};
 use crate::language::Next;
@@ -14,9 +14,9 @@ use crate::storing::telling;
 use crate::workers::begin_worker;
 use std::alloc::Global;
 use tt_calls::{Boxed, Request, Start};
-use tt_endings::Ending;
+use tt_outcomes::Ending;
 use tt_text::{NoMemory, Text};
-use tt_wants::Want;
+use tt_outcomes::Want;
 
 /// A thread begins.
 pub(crate) fn begin_start(alloc: Global, start: Start) -> Result<Next, NoMemory>

@@ -1,18 +1,18 @@
 //! Variables that commands set.
 ghost use Rattle.tt_frames.specs.declared.state.Counts.{Counts};
-ghost use Rattle.tt_wants.specs.declared.want.Want.TheVariants as wants;
+ghost use Rattle.tt_outcomes.specs.declared.want.Want.TheVariants as wants;
 ghost use Rattle.std.specs.Prelude.{◌≡◌, IfOk, codes, None};
 ghost use Rattle.tt_frames.specs.Frames.{after, on_got};
 ghost use Rattle.tt_frames.specs.Vocabulary.{setting, stored, told};
-ghost use Rattle.tt_plans.specs.Frames.{plan_of};
+ghost use Rattle.tt_evaluation.specs.Frames.{plan_of};
 
 use crate::job::{Asking, Frame};
 use crate::language::Next;
 use std::alloc::Global;
-use tt_endings::Ending;
+use tt_outcomes::Ending;
 use tt_script::split_name;
 use tt_text::{NoMemory, Text};
-use tt_wants::Want;
+use tt_outcomes::Want;
 
 /// What sets a variable or an element, by a name as commands are given it (set(n)).
 pub(crate) fn setting(alloc: Global, name: Text, value: Text) -> Result<Want, NoMemory>

@@ -1,13 +1,13 @@
 ghost use Rattle.std.specs.Prelude.{◌≡◌};
-ghost use Rattle.tt_plans.specs.Frames.{is_waiting, wants};
+ghost use Rattle.tt_evaluation.specs.Frames.{is_waiting, wants};
 
 use crate::{Got, Job, JobsWait, Stack, State, Tcl, Until, Want, begin, turn};
 use itoa::Buffer;
 use std::alloc::Global;
 use std::test::Fail;
 use tt_calls::{Boxed, Event, Outcome, PoolCall, Reply, Request, Start, TsvCall};
-use tt_endings::{Ending, code_number};
-use tt_plans::Halt;
+use tt_outcomes::{Ending, code_number};
+use tt_evaluation::Halt;
 use tt_text::{NoMemory, Text, Texts};
 
 // Scripts, and what they write and set where each variable is 1 and each request is answered `Go`.
@@ -137,7 +137,7 @@ fn scripts_write_what_tcl_says(rt: HostRuntime) -> Result<(), Fail> {
 fn holds_and_jobs_are_asked_for_and_ended(rt: HostRuntime) -> Result<(), Fail> {
     for (begins, replies, told, end) in TALKS {
         let state = State::new(rt.alloc(), 7, 100)?;
-        let begun = tt_plans::begin::<Tcl>(rt.alloc(), job_of(rt.alloc(), begins)?, state)?;
+        let begun = tt_evaluation::begin::<Tcl>(rt.alloc(), job_of(rt.alloc(), begins)?, state)?;
         let (out, ending) = output_of(rt.alloc(), begun, replies)?;
         assert_eq!(rt; out.as_bytes(), told.as_bytes());
         assert_eq!(rt; ending.as_bytes(), end.as_bytes());

@@ -5,7 +5,7 @@ ghost use Rattle.tt_frames.specs.Asking.{waiting};
 ghost use Rattle.tt_frames.specs.Frames.{after, on_got};
 ghost use Rattle.tt_frames.specs.Waiting.{known, look_of};
 ghost use Rattle.tt_frames.specs.declared.state.Counts.{Counts};
-ghost use Rattle.tt_plans.specs.Frames.{plan_of};
+ghost use Rattle.tt_evaluation.specs.Frames.{plan_of};
 
 use crate::calls::{answer, ask};
 use crate::job::{Awaits, Job, JobsWait, Until};

@@ -8,18 +8,18 @@ ghost use Rattle.tt_frames.specs.declared.job.Frame.TheVariants as frames;
 ghost use Rattle.tt_frames.specs.declared.job.Job.TheVariants as jobs;
 ghost use Rattle.tt_frames.specs.declared.job.WorkerFrame.TheVariants as worker_frames;
 ghost use Rattle.tt_frames.specs.declared.state.Counts.{Counts};
-ghost use Rattle.tt_plans.specs.Frames.{plan_of};
-ghost use Rattle.tt_plans.specs.declared.language.Move.TheVariants as moves;
-ghost use Rattle.tt_wants.specs.declared.want.Want.TheVariants as wants;
+ghost use Rattle.tt_evaluation.specs.Frames.{plan_of};
+ghost use Rattle.tt_evaluation.specs.declared.language.Move.TheVariants as moves;
+ghost use Rattle.tt_outcomes.specs.declared.want.Want.TheVariants as wants;
 
 use crate::job::{Asking, BegunJob, Frame, Job, Work, Worker, WorkerAsking, WorkerFrame};
 use crate::language::Next;
 use crate::storing::telling;
 use std::alloc::Global;
 use tt_calls::{Boxed, PoolCall, Reply, Request};
-use tt_endings::Ending;
+use tt_outcomes::Ending;
 use tt_text::{NoMemory, Text};
-use tt_wants::{Got, Want};
+use tt_outcomes::{Got, Want};
 
 /// A worker begins with the pool's script for new ones.
 pub(crate) fn begin_worker(

@@ -3,7 +3,7 @@ use Rattle.std.proofs.Common.{◌≡◌, ℕ, IsTrue, List, [], ◌∷◌, Some,
 use Rattle.tt_calls.specs.declared.reply.Reply.{Reply}
 use Rattle.tt_calls.specs.declared.request.Request.{Request}
 use Rattle.tt_calls.specs.declared.start.Start.{Start}
-use Rattle.tt_endings.specs.declared.ending.Ending.{Ending}
+use Rattle.tt_outcomes.specs.declared.ending.Ending.{Ending}
 use Rattle.tt_frames.specs.Frames.{after, on_got}
 use Rattle.tt_frames.specs.Tcl.{plan}
 use Rattle.tt_frames.specs.Units.{fresh}
@@ -11,15 +11,15 @@ use Rattle.tt_frames.specs.declared.job.Asking.{Asking}
 use Rattle.tt_frames.specs.declared.job.Frame.{Frame}
 use Rattle.tt_frames.specs.declared.job.Job.TheVariants as job
 use Rattle.tt_frames.specs.declared.state.Counts.{Counts}
-use Rattle.tt_plans.specs.Evaluation.{eval}
-use Rattle.tt_plans.specs.Frames.{after_answer}
-use Rattle.tt_plans.specs.declared.stack.Halt.{Halt}
-use Rattle.tt_plans.specs.declared.stack.Halt.TheVariants.{Wants}
-use Rattle.tt_plans.specs.declared.stack.Stack.{Stack}
-use Rattle.tt_plans.specs.declared.stack.TheConstants.{STEPS}
-use Rattle.tt_wants.specs.declared.got.Got.{Got}
-use Rattle.tt_wants.specs.declared.got.Got.TheVariants as gots
-use Rattle.tt_wants.specs.declared.want.Want.{Want}
+use Rattle.tt_evaluation.specs.Evaluation.{eval}
+use Rattle.tt_evaluation.specs.Frames.{after_answer}
+use Rattle.tt_evaluation.specs.declared.stack.Halt.{Halt}
+use Rattle.tt_evaluation.specs.declared.stack.Halt.TheVariants.{Wants}
+use Rattle.tt_evaluation.specs.declared.stack.Stack.{Stack}
+use Rattle.tt_evaluation.specs.declared.stack.TheConstants.{STEPS}
+use Rattle.tt_outcomes.specs.declared.got.Got.{Got}
+use Rattle.tt_outcomes.specs.declared.got.Got.TheVariants as gots
+use Rattle.tt_outcomes.specs.declared.want.Want.{Want}
 use Rattle.tt_interp.specs.Answering.{Answers}
 use Rattle.tt_interp.specs.Asking.{AsksNext, Coming, goes_on, having, asks, replied, answered, ends}
 use Rattle.tt_interp.specs.Beginning.{Begins}

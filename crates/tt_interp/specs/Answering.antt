@@ -5,10 +5,10 @@ use Rattle.tt_calls.specs.Outcomes.{fine}
 use Rattle.tt_store.specs.Held.{IsRead, IsWritten, ended, entered, is_seen, unwatched, watched}
 use Rattle.tt_store.specs.declared.answers.Answer.{Answer}
 use Rattle.tt_store.specs.declared.answers.Answer.TheVariants as answers
-use Rattle.tt_wants.specs.declared.got.Got.{Got}
-use Rattle.tt_wants.specs.declared.got.Got.TheVariants as gots
-use Rattle.tt_wants.specs.declared.want.Want.{Want}
-use Rattle.tt_wants.specs.declared.want.Want.TheVariants as want
+use Rattle.tt_outcomes.specs.declared.got.Got.{Got}
+use Rattle.tt_outcomes.specs.declared.got.Got.TheVariants as gots
+use Rattle.tt_outcomes.specs.declared.want.Want.{Want}
+use Rattle.tt_outcomes.specs.declared.want.Want.TheVariants as want
 use Rattle.tt_interp.specs.Commands.{Runs, with_store}
 use Rattle.tt_interp.specs.declared.kept.Kept.{Kept}
 

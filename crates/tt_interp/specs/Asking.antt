@@ -6,14 +6,14 @@ use Rattle.tt_calls.specs.declared.outcome.Code.TheVariants as code
 use Rattle.tt_calls.specs.declared.reply.Reply.{Reply}
 use Rattle.tt_calls.specs.declared.request.Request.{Request}
 use Rattle.tt_calls.specs.declared.request.Request.TheVariants as ask
-use Rattle.tt_endings.specs.Endings.{code_of}
-use Rattle.tt_endings.specs.declared.ending.Ending.{Ending}
+use Rattle.tt_outcomes.specs.Endings.{code_of}
+use Rattle.tt_outcomes.specs.declared.ending.Ending.{Ending}
 use Rattle.tt_frames.specs.declared.state.Counts.{Counts}
-use Rattle.tt_plans.specs.Plans.{Course, Stop, Fin}
-use Rattle.tt_wants.specs.declared.got.Got.{Got}
-use Rattle.tt_wants.specs.declared.got.Got.TheVariants as gots
-use Rattle.tt_wants.specs.declared.want.Want.{Want}
-use Rattle.tt_wants.specs.declared.want.Want.TheVariants.{Ask}
+use Rattle.tt_evaluation.specs.Plans.{Course, Stop, Fin}
+use Rattle.tt_outcomes.specs.declared.got.Got.{Got}
+use Rattle.tt_outcomes.specs.declared.got.Got.TheVariants as gots
+use Rattle.tt_outcomes.specs.declared.want.Want.{Want}
+use Rattle.tt_outcomes.specs.declared.want.Want.TheVariants.{Ask}
 use Rattle.tt_interp.specs.Answering.{Answers}
 use Rattle.tt_interp.specs.declared.kept.Kept.{Kept}
 

@@ -7,7 +7,7 @@ use Rattle.tt_frames.specs.Tcl.{plan}
 use Rattle.tt_frames.specs.Units.{fresh}
 use Rattle.tt_frames.specs.declared.job.Job.TheVariants as job
 use Rattle.tt_lists.specs.Spelling.{list_of}
-use Rattle.tt_plans.specs.Evaluation.{eval}
+use Rattle.tt_evaluation.specs.Evaluation.{eval}
 use Rattle.tt_procedures.specs.declared.calling.Argument.{Argument}
 use Rattle.tt_store.specs.Held.{AreSet, nothing_held}
 use Rattle.tt_interp.specs.declared.kept.Kept.{Kept}

@@ -2,8 +2,8 @@
 -- (proc(n), info(n), unknown(n)).
 use Rattle.std.specs.Prelude.{◌≡◌, ℕ, Bool, true, false, ◌&&◌, bytes_eq, List, [], ◌∷◌, codes, drop, Option, Some, None}
 use Rattle.tt_calls.specs.declared.outcome.Outcome.{Outcome}
-use Rattle.tt_arrays.specs.Commands as arrays
-use Rattle.tt_levels.specs.Commands as levels
+use Rattle.tt_variable_commands.specs.ArrayCommands as arrays
+use Rattle.tt_variable_commands.specs.LevelCommands as levels
 use Rattle.tt_procedures.specs.Procedures as procedures
 use Rattle.tt_procedures.specs.Procedures.{Defines, call, names}
 use Rattle.tt_procedures.specs.declared.calling.Called.{Called}
@@ -13,7 +13,7 @@ use Rattle.tt_store.specs.Commands as variables
 use Rattle.tt_store.specs.Held.{Calls, Held}
 use Rattle.tt_store.specs.declared.answers.Answer.{Answer}
 use Rattle.tt_store.specs.declared.answers.Answer.TheVariants as answers
-use Rattle.tt_wants.specs.declared.want.Body.TheVariants.{Procedure}
+use Rattle.tt_outcomes.specs.declared.want.Body.TheVariants.{Procedure}
 use Rattle.tt_interp.specs.declared.commands.Own.{Own}
 use Rattle.tt_interp.specs.declared.commands.Own.TheVariants as own
 use Rattle.tt_interp.specs.declared.kept.Kept.{Kept}

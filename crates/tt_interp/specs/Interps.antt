@@ -4,7 +4,7 @@ use Rattle.tt_calls.specs.declared.reply.Reply.{Reply}
 use Rattle.tt_calls.specs.declared.request.Request.{Request}
 use Rattle.tt_calls.specs.declared.request.Request.TheVariants as ask
 use Rattle.tt_calls.specs.declared.start.Start.{Start}
-use Rattle.tt_endings.specs.declared.ending.Ending.{Ending}
+use Rattle.tt_outcomes.specs.declared.ending.Ending.{Ending}
 use Rattle.tt_frames.specs.Frames.{after, on_got}
 use Rattle.tt_frames.specs.Tcl.{plan}
 use Rattle.tt_frames.specs.Units.{fresh}
@@ -12,16 +12,16 @@ use Rattle.tt_frames.specs.declared.job.Asking.{Asking}
 use Rattle.tt_frames.specs.declared.job.Frame.{Frame}
 use Rattle.tt_frames.specs.declared.job.Job.TheVariants as job
 use Rattle.tt_frames.specs.declared.state.Counts.{Counts}
-use Rattle.tt_plans.specs.Evaluation.{eval}
-use Rattle.tt_plans.specs.Frames as frames
-use Rattle.tt_plans.specs.Frames.{after_answer, from_halt, is_waiting}
-use Rattle.tt_plans.specs.declared.stack.Halt.{Halt}
-use Rattle.tt_plans.specs.declared.stack.Halt.TheVariants.{Wants, Ended}
-use Rattle.tt_plans.specs.declared.stack.Stack.{Stack}
-use Rattle.tt_plans.specs.declared.stack.TheConstants.{STEPS}
-use Rattle.tt_wants.specs.declared.got.Got.{Got}
-use Rattle.tt_wants.specs.declared.want.Want.{Want}
-use Rattle.tt_wants.specs.declared.want.Want.TheVariants.{Ask}
+use Rattle.tt_evaluation.specs.Evaluation.{eval}
+use Rattle.tt_evaluation.specs.Frames as frames
+use Rattle.tt_evaluation.specs.Frames.{after_answer, from_halt, is_waiting}
+use Rattle.tt_evaluation.specs.declared.stack.Halt.{Halt}
+use Rattle.tt_evaluation.specs.declared.stack.Halt.TheVariants.{Wants, Ended}
+use Rattle.tt_evaluation.specs.declared.stack.Stack.{Stack}
+use Rattle.tt_evaluation.specs.declared.stack.TheConstants.{STEPS}
+use Rattle.tt_outcomes.specs.declared.got.Got.{Got}
+use Rattle.tt_outcomes.specs.declared.want.Want.{Want}
+use Rattle.tt_outcomes.specs.declared.want.Want.TheVariants.{Ask}
 use Rattle.tt_interp.specs.Asking.{AsksNext, Coming, end_of, goes_on}
 use Rattle.tt_interp.specs.Beginning.{IsNext}
 use Rattle.tt_interp.specs.declared.interp.Standing.{Standing}

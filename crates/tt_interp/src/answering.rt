@@ -4,14 +4,14 @@ ghost use Rattle.std.specs.Option.{option_copied};
 ghost use Rattle.tt_interp.specs.Answering as answering;
 ghost use Rattle.tt_interp.specs.Commands as commands;
 ghost use Rattle.tt_store.specs.Held.{ended};
-ghost use Rattle.tt_wants.specs.declared.want.Want.TheVariants as wants;
+ghost use Rattle.tt_outcomes.specs.declared.want.Want.TheVariants as wants;
 
 use crate::Kept;
 use std::alloc::Global;
 use tt_calls::Outcome;
 use tt_store::Answer;
 use tt_text::{NoMemory, Text, Texts};
-use tt_wants::{Got, Want};
+use tt_outcomes::{Got, Want};
 
 impl Kept {
     /// What is got for this; to a request there is no answer here.

@@ -1,8 +1,8 @@
 //! The commands that an interpreter does itself (proc(n), info(n)).
 ghost use Rattle.std.specs.Prelude.{◌≡◌, IfOk, codes, drop};
 ghost use Rattle.tt_interp.specs.Commands as commands;
-ghost use Rattle.tt_arrays.specs.Commands as arrays;
-ghost use Rattle.tt_levels.specs.Commands as levels;
+ghost use Rattle.tt_variable_commands.specs.ArrayCommands as arrays;
+ghost use Rattle.tt_variable_commands.specs.LevelCommands as levels;
 
 use crate::Kept;
 use std::alloc::Global;
@@ -10,7 +10,7 @@ use tt_procedures::Called;
 use tt_script::plain_name;
 use tt_store::{Answer, Store};
 use tt_text::{NoMemory, Text};
-use tt_wants::Body;
+use tt_outcomes::Body;
 
 /// Which of the commands on procedures words ask for.
 #[derive(Clone, Copy, Debug, PartialEq, Eq)]
@@ -74,8 +74,8 @@ fn on_variables(alloc: Global, store: &mut Store, words: &[Text]) -> Result<Answ
 fn on_levels(alloc: Global, store: &mut Store, words: &[Text]) -> Result<Answer, NoMemory>
     ensures { IfOk result (λ answer. commands.Either levels.Runs arrays.Runs words.now store.old answer store.new) }
 {
-    match tt_levels::run(alloc, store, words)? {
-        Answer::Other => tt_arrays::run(alloc, store, words),
+    match tt_variable_commands::levels::run(alloc, store, words)? {
+        Answer::Other => tt_variable_commands::arrays::run(alloc, store, words),
         Answer::Outcome(outcome) => Ok(Answer::Outcome(outcome)),
         Answer::Body { body, text } => Ok(Answer::Body { body, text }),
     }

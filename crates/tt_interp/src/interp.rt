@@ -8,7 +8,7 @@ use std::alloc::Global;
 use std::marker::Model;
 use std::mem;
 use tt_calls::{Boxed, Code, Reply, Request, Start};
-use tt_endings::Ending;
+use tt_outcomes::Ending;
 use tt_text::{NoMemory, Text};
 
 /// Where the evaluation of a thread stands.

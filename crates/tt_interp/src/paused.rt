@@ -3,17 +3,17 @@ ghost use Rattle.tt_frames.specs.Tcl.{plan};
 ghost use Rattle.tt_frames.specs.Units.{fresh};
 ghost use Rattle.tt_frames.specs.declared.job.Job.TheVariants as jobs;
 ghost use Rattle.tt_interp.specs.Interps as interps;
-ghost use Rattle.tt_plans.specs.Evaluation.{eval};
-ghost use Rattle.tt_plans.specs.Frames.{is_waiting, wants};
-ghost use Rattle.tt_plans.specs.declared.stack.TheConstants.{STEPS};
-ghost use Rattle.tt_wants.specs.declared.got.Got.{Got};
+ghost use Rattle.tt_evaluation.specs.Evaluation.{eval};
+ghost use Rattle.tt_evaluation.specs.Frames.{is_waiting, wants};
+ghost use Rattle.tt_evaluation.specs.declared.stack.TheConstants.{STEPS};
+ghost use Rattle.tt_outcomes.specs.declared.got.Got.{Got};
 
 use std::alloc::Global;
 use std::marker::Model;
 use tt_calls::Start;
-use tt_endings::Ending;
+use tt_outcomes::Ending;
 use tt_frames::{Got, Stack, Want, begin, turn};
-use tt_plans::Halt;
+use tt_evaluation::Halt;
 use tt_text::NoMemory;
 
 /// What a thread has begun to evaluate, behind a pointer, so that what holds it is small. Contracts see the stack.
@@ -26,7 +26,7 @@ impl Model for Paused {
     ghost use Rattle.tt_frames.specs.declared.job.Asking.{Asking};
     ghost use Rattle.tt_frames.specs.declared.job.Frame.{Frame};
     ghost use Rattle.tt_frames.specs.declared.state.Counts.{Counts};
-    ghost use Rattle.tt_plans.specs.declared.stack.Stack.{Stack};
+    ghost use Rattle.tt_evaluation.specs.declared.stack.Stack.{Stack};
 
     ghost Value = { Stack Counts Frame Asking };
 

@@ -3,16 +3,16 @@ ghost use Rattle.std.specs.Prelude.{◌≡◌, IfOk, IsTrue, Some};
 ghost use Rattle.tt_interp.specs.Asking.{goes_on};
 ghost use Rattle.tt_interp.specs.Interps as interps;
 ghost use Rattle.tt_interp.specs.declared.interp.Standing.TheVariants as standing;
-ghost use Rattle.tt_plans.specs.Frames.{is_waiting, wants};
-ghost use Rattle.tt_plans.specs.declared.stack.Halt.TheVariants.{Wants};
-ghost use Rattle.tt_wants.specs.declared.got.Got.TheVariants as gots;
+ghost use Rattle.tt_evaluation.specs.Frames.{is_waiting, wants};
+ghost use Rattle.tt_evaluation.specs.declared.stack.Halt.TheVariants.{Wants};
+ghost use Rattle.tt_outcomes.specs.declared.got.Got.TheVariants as gots;
 
 use crate::{Kept, Paused, Standing};
 use std::alloc::Global;
 use tt_calls::{Boxed, Reply, Request, Start};
-use tt_endings::Ending;
+use tt_outcomes::Ending;
 use tt_frames::{Got, Want};
-use tt_plans::Halt;
+use tt_evaluation::Halt;
 use tt_text::NoMemory;
 
 /// Where an evaluation comes to that can't go on by what is kept.

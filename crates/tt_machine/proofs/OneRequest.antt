@@ -3,7 +3,7 @@ use Rattle.std.proofs.Common.{◌≡◌, ◌+◌, ◌≤◌, ◌∙◌, ℕ, tru
 use Rattle.tt_calls.specs.declared.reply.Reply.{Reply}
 use Rattle.tt_calls.specs.declared.request.Request.{Request}
 use Rattle.tt_calls.specs.declared.start.Start.{Start}
-use Rattle.tt_endings.specs.declared.ending.Ending.{Ending}
+use Rattle.tt_outcomes.specs.declared.ending.Ending.{Ending}
 use Rattle.tt_frames.specs.Tcl.{plan}
 use Rattle.tt_frames.specs.Units.{fresh}
 use Rattle.tt_frames.specs.declared.job.Job.TheVariants as job
@@ -13,15 +13,15 @@ use Rattle.tt_interp.specs.Asking.{AsksNext, Coming, asks, replied, answered, en
 use Rattle.tt_interp.specs.Beginning.{IsNext}
 use Rattle.tt_interp.specs.declared.kept.Kept.{Kept}
 use Rattle.tt_interp.specs.declared.setup.Setup.{Setup}
-use Rattle.tt_once.proofs.Commands.{answers_law, begins_law}
-use Rattle.tt_once.proofs.Steps.{asked_again, extends-later}
-use Rattle.tt_plans.specs.Evaluation.{eval}
-use Rattle.tt_plans.specs.Plans.{Course, Stop, Fin}
-use Rattle.tt_wants.specs.declared.got.Got.{Got}
-use Rattle.tt_wants.specs.declared.got.Got.TheVariants as gots
-use Rattle.tt_wants.specs.declared.want.Want.{Want}
-use Rattle.tt_wants.specs.declared.want.Want.TheVariants.{Ask}
-pub use Rattle.tt_once.proofs.Asked.{one_request}
+use Rattle.laws_language.proofs.Commands.{answers_law, begins_law}
+use Rattle.laws_language.proofs.Steps.{asked_again, extends-later}
+use Rattle.tt_evaluation.specs.Evaluation.{eval}
+use Rattle.tt_evaluation.specs.Plans.{Course, Stop, Fin}
+use Rattle.tt_outcomes.specs.declared.got.Got.{Got}
+use Rattle.tt_outcomes.specs.declared.got.Got.TheVariants as gots
+use Rattle.tt_outcomes.specs.declared.want.Want.{Want}
+use Rattle.tt_outcomes.specs.declared.want.Want.TheVariants.{Ask}
+pub use Rattle.laws_language.proofs.Asked.{one_request}
 
 abbrev Comes : Type 0
 Comes = Course Want Got Ending Counts

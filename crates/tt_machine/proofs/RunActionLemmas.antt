@@ -2,9 +2,9 @@
 use Rattle.std.proofs.Common.{◌≡◌, ◌∙◌, ◌≤◌, ◌+◌, ◌*◌, ℕ, List, [], ◌∷◌, ap, arith, length, refl, subst, sym}
 use Rattle.std.proofs.lemmas.List.{length-map}
 use Rattle.tt_calls.specs.declared.start.Start.TheVariants as start
-use Rattle.tt_happenings.proofs.Drawn.{up_along}
-use Rattle.tt_happenings.proofs.Orderly.{orderly}
-use Rattle.tt_happenings.specs.Actions.{Action, Acts, NumbersFit, Reached, after, none as nothing, more as then}
+use Rattle.laws_shared.proofs.Drawn.{up_along}
+use Rattle.laws_shared.proofs.Orderly.{orderly}
+use Rattle.laws_shared.specs.Actions.{Action, Acts, NumbersFit, Reached, after, none as nothing, more as then}
 use Rattle.tt_interp.specs.declared.setup.Setup.{Setup}
 use Rattle.tt_machine.specs.Machine.{Machine, Runs, Steps, none, more, start_machine}
 use Rattle.tt_machine.specs.RunActions.{FewChannelsLaw, HasActions, OrderlyStepLaw}

@@ -1,7 +1,7 @@
 -- A run as what its threads do to what they share.
 use Rattle.std.specs.Prelude.{◌≡◌, ◌≤◌, ◌+◌, ◌*◌, ℕ, List, length, map}
-use Rattle.tt_happenings.specs.Actions.{Action, Acts, NumbersFit, after}
-use Rattle.tt_happenings.specs.Orderly.{IsOrderly}
+use Rattle.laws_shared.specs.Actions.{Action, Acts, NumbersFit, after}
+use Rattle.laws_shared.specs.Orderly.{IsOrderly}
 use Rattle.tt_interp.specs.declared.setup.Setup.{Setup}
 use Rattle.tt_machine.specs.Machine.{Machine, Runs, Steps, start_machine}
 

@@ -5,7 +5,7 @@ use Rattle.tt_calls.specs.declared.outcome.Outcome.{Outcome}
 use Rattle.tt_calls.specs.Outcomes.{failed, fine}
 use Rattle.tt_list_commands.specs.Concatenating.{concatenation}
 use Rattle.tt_pure.specs.Table as pure
-use Rattle.tt_wants.specs.declared.want.Body.TheVariants as body
+use Rattle.tt_outcomes.specs.declared.want.Body.TheVariants as body
 use Rattle.tt_store.specs.declared.answers.Answer.{Answer}
 use Rattle.tt_store.specs.declared.answers.Answer.TheVariants as answers
 use Rattle.tt_store.specs.declared.command.Command.{Command}

@@ -12,7 +12,7 @@ use tt_list_commands::concat;
 use tt_pure::{is_pure, pure};
 use tt_script::plain_name;
 use tt_text::{NoMemory, Text, quoting};
-use tt_wants::Body;
+use tt_outcomes::Body;
 
 impl Store {
     /// Runs a whole command, its name first: a command of the table, else one that

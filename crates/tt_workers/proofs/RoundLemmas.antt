@@ -4,11 +4,11 @@ use Rattle.std.proofs.lemmas.List.{length-append}
 use Rattle.tt_calls.specs.declared.reply.Reply.{Reply}
 use Rattle.tt_calls.specs.declared.request.Request.{Request}
 use Rattle.tt_core.proofs.ActionLemmas.{able, can-go, met, some-none}
-use Rattle.tt_desk.specs.Acting.{Happens, IsAnswer}
-use Rattle.tt_desk.specs.Desk.{Ground}
-use Rattle.tt_desk.specs.declared.desk.Acted.{Acted}
-use Rattle.tt_desk.specs.declared.fault.StepFault.{StepFault}
-use Rattle.tt_desk.specs.declared.fault.StepFault.TheVariants as fault
+use Rattle.tt_run.specs.Acting.{Happens, IsAnswer}
+use Rattle.tt_run.specs.Desk.{Ground}
+use Rattle.tt_run.specs.declared.desk.Acted.{Acted}
+use Rattle.tt_run.specs.declared.fault.StepFault.{StepFault}
+use Rattle.tt_run.specs.declared.fault.StepFault.TheVariants as fault
 use Rattle.tt_devices.specs.Streams.{Grows}
 use Rattle.tt_devices.specs.declared.sink.Sink.{Ghosts as OfSink}
 use Rattle.tt_devices.specs.declared.source.Source.{Ghosts as OfSource}

@@ -4,8 +4,8 @@ use Rattle.tt_calls.specs.declared.start.Start.TheVariants as start
 use Rattle.tt_core.proofs.ActionLemmas as actions
 use Rattle.tt_core.proofs.ActionLemmas.{going, some-none, told-map}
 use Rattle.tt_core.specs.Faithful.{IsFaithful, is_cut}
-use Rattle.tt_desk.specs.Desk.{Ground, unread}
-use Rattle.tt_desk.specs.declared.fault.StepFault.{StepFault}
+use Rattle.tt_run.specs.Desk.{Ground, unread}
+use Rattle.tt_run.specs.declared.fault.StepFault.{StepFault}
 use Rattle.tt_devices.proofs.StreamLemmas.{Grows-same}
 use Rattle.tt_devices.specs.declared.sink.Sink.{Ghosts as OfSink}
 use Rattle.tt_devices.specs.declared.source.Source.{Ghosts as OfSource}

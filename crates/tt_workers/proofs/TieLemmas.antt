@@ -8,11 +8,11 @@ use Rattle.tt_core.proofs.ActionLemmas.{Failed, Stood, barred-asking, met, resto
 use Rattle.tt_core.proofs.PlaceLemmas.{each-at, each-none}
 use Rattle.tt_core.specs.Crew.{IsSilent}
 use Rattle.tt_core.specs.Standing.{IsIts}
-use Rattle.tt_desk.specs.Acting.{Happens, IsAnswer}
-use Rattle.tt_desk.specs.Desk.{Ground, can_act, unread}
-use Rattle.tt_desk.specs.declared.desk.Acted.{Acted}
-use Rattle.tt_desk.specs.declared.fault.StepFault.{StepFault}
-use Rattle.tt_desk.specs.declared.fault.StepFault.TheVariants as fault
+use Rattle.tt_run.specs.Acting.{Happens, IsAnswer}
+use Rattle.tt_run.specs.Desk.{Ground, can_act, unread}
+use Rattle.tt_run.specs.declared.desk.Acted.{Acted}
+use Rattle.tt_run.specs.declared.fault.StepFault.{StepFault}
+use Rattle.tt_run.specs.declared.fault.StepFault.TheVariants as fault
 use Rattle.tt_devices.specs.Faults.{Rises}
 use Rattle.tt_devices.specs.Streams.{Grows}
 use Rattle.tt_devices.specs.declared.sink.Sink.{Ghosts as OfSink}

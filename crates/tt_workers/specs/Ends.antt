@@ -1,7 +1,7 @@
 -- How a run ends.
 use Rattle.std.specs.Prelude.{◌≡◌, ◌⊎◌, ⊤, ℕ, List, length, Option, Some, None}
-use Rattle.tt_desk.specs.declared.fault.StepFault.{StepFault}
-use Rattle.tt_desk.specs.declared.fault.StepFault.TheVariants as fault
+use Rattle.tt_run.specs.declared.fault.StepFault.{StepFault}
+use Rattle.tt_run.specs.declared.fault.StepFault.TheVariants as fault
 use Rattle.tt_devices.specs.Faults.{Rises}
 use Rattle.tt_machine.specs.Machine.{CanStep, IsStuck, Machine}
 use Rattle.tt_workers.specs.declared.next.RunEnd.{RunEnd}

@@ -4,7 +4,7 @@ use Rattle.tt_calls.specs.declared.reply.Reply.{Reply}
 use Rattle.tt_calls.specs.declared.request.Request.{Request}
 use Rattle.tt_core.specs.Crew.{AreEach, IsSilent, StandsIn}
 use Rattle.tt_core.specs.Stage.{Began}
-use Rattle.tt_desk.specs.Desk.{Ground, can_act}
+use Rattle.tt_run.specs.Desk.{Ground, can_act}
 use Rattle.tt_interp.specs.Beginning.{IsNext}
 use Rattle.tt_interp.specs.Interps as interps
 use Rattle.tt_interp.specs.Interps.{Interpreter}

@@ -2,7 +2,7 @@
 use Rattle.std.specs.Prelude.{◌≡◌, ◌≤◌, ℕ, List, [], length, Option, Some, None, slice_get}
 use Rattle.tt_core.specs.Stage.{Stage}
 use Rattle.tt_core.specs.Standing.{IsStanding}
-use Rattle.tt_desk.specs.Desk.{Ground}
+use Rattle.tt_run.specs.Desk.{Ground}
 use Rattle.tt_devices.specs.declared.sink.Sink.{Ghosts as OfSink}
 use Rattle.tt_devices.specs.declared.source.Source.{Ghosts as OfSource}
 use Rattle.tt_machine.specs.Machine.{Machine}

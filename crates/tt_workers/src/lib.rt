@@ -19,7 +19,7 @@ pub use next::{Done, Next, RunEnd, Task};
 pub use note::{Held, Out};
 pub use ran::Ran;
 pub use running::run;
-pub use tt_desk::NewFault;
+pub use tt_run::NewFault;
 pub use tt_interp::Setup;
 pub use world::World;
 

@@ -13,7 +13,7 @@ use std::alloc::Global;
 use std::marker::Model;
 use std::mem;
 use tt_calls::{Reply, Request, Start};
-use tt_desk::Desk;
+use tt_run::Desk;
 use tt_devices::{Sink, Source};
 use tt_interp::Setup;
 use tt_text::NoMemory;

@@ -17,7 +17,7 @@ use std::alloc::Global;
 use std::sync::Wait;
 use std::thread;
 use std::thread::Threads;
-use tt_desk::NewFault;
+use tt_run::NewFault;
 use tt_devices::{Gate, Sink, Source};
 use tt_interp::Setup;
 use tt_noted::{Noted, Pass};

@@ -20,7 +20,7 @@ use std::marker::Model;
 use std::snapshot::Snapshot;
 use tt_calls::{Reply, Start};
 use tt_core::Began;
-use tt_desk::{Desk, NewFault, StepFault};
+use tt_run::{Desk, NewFault, StepFault};
 use tt_devices::{Sink, Source};
 use tt_interp::Setup;
 use tt_text::NoMemory;

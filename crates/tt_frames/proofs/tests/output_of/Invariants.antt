@@ -1,5 +1,5 @@
 use Rattle.std.proofs.Common.{◌≡◌}
-use Rattle.tt_plans.specs.Frames.{is_waiting, wants}
+use Rattle.tt_evaluation.specs.Frames.{is_waiting, wants}
 use Rattle.tt_frames.proofs.tests.output_of.Given as goal
 
 abbrev pub invariant-wants : goal.invariant-wants

@@ -1,6 +1,6 @@
 use Rattle.tt_interp.specs.Interps.{halt_of, halted}
 use Rattle.tt_interp.proofs.Following.{got_settled}
-use Rattle.tt_wants.specs.declared.got.Got.TheVariants as gots
+use Rattle.tt_outcomes.specs.declared.got.Got.TheVariants as gots
 use Rattle.tt_interp.proofs.settling.go_on_with.Goals as goal
 
 pub returns-clause-leads : goal.returns-clause-leads

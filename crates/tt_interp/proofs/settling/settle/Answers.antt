@@ -1,6 +1,6 @@
 use Rattle.std.proofs.Common.{rules}
-use Rattle.tt_plans.specs.declared.stack.Halt.TheVariants.{Wants, Ended}
-use Rattle.tt_wants.specs.declared.want.Want.TheVariants.{Ask}
+use Rattle.tt_evaluation.specs.declared.stack.Halt.TheVariants.{Wants, Ended}
+use Rattle.tt_outcomes.specs.declared.want.Want.TheVariants.{Ask}
 use Rattle.tt_interp.proofs.Following.{settled}
 use Rattle.tt_interp.proofs.settling.settle.Goals as goal
 

@@ -1,6 +1,6 @@
 use Rattle.std.proofs.Common.{◌≡◌}
 use Rattle.tt_interp.specs.Interps.{LeadsTo, halted}
-use Rattle.tt_plans.specs.Frames.{is_waiting, wants}
+use Rattle.tt_evaluation.specs.Frames.{is_waiting, wants}
 use Rattle.tt_interp.proofs.settling.settle.Given as goal
 
 abbrev pub invariant-wants : goal.invariant-wants

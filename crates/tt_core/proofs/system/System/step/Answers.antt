@@ -5,7 +5,7 @@ use Rattle.tt_schedule.specs.ScheduleText.{most_steps}
 use Rattle.tt_core.proofs.ActionLemmas.{could-be, on-ok}
 use Rattle.tt_core.proofs.StandLemmas.{asked-could, asked-line, failed, keeps-to, ran-out, unable, unasked, went-on, wrote}
 use Rattle.tt_core.proofs.system.System.step.Goals as goal
-use Rattle.tt_desk.specs.declared.fault.StepFault.TheVariants as fault
+use Rattle.tt_run.specs.declared.fault.StepFault.TheVariants as fault
 
 pub returns-in_default-request-clause-not_enabled : goal.returns-in_default-request-clause-not_enabled
 returns-in_default-request-clause-not_enabled g c e =

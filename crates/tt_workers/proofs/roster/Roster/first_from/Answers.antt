@@ -1,6 +1,6 @@
 use Rattle.std.proofs.Common.{◌≡◌, ◌<◌, ◌≤◌, ◌⊎◌, ℕ, IsFalse, List, Option, arith, inl, inr, length, refl, subst, sym}
 use Rattle.std.proofs.lemmas.Bool.{cases_lt}
-use Rattle.tt_desk.specs.Desk.{Ground}
+use Rattle.tt_run.specs.Desk.{Ground}
 use Rattle.tt_workers.proofs.Lists.{beyond}
 use Rattle.tt_workers.specs.Places.{can_go, can_go_at}
 use Rattle.tt_workers.specs.declared.place.Place.{Place}

@@ -1,5 +1,5 @@
 use Rattle.std.proofs.Common.{◌≢◌, ◌∙◌, Err, ap}
-use Rattle.tt_desk.specs.declared.fault.StepFault.TheVariants.{NotEnabled}
+use Rattle.tt_run.specs.declared.fault.StepFault.TheVariants.{NotEnabled}
 use Rattle.tt_workers.proofs.RoundLemmas.{keeps-acted, keeps-fault, keeps-out-of-memory, rounds-acted, rounds-fault, rounds-gone, rounds-out-of-memory}
 use Rattle.tt_workers.proofs.TieLemmas.{FailsBy, can-act, not-both, parked}
 use Rattle.tt_workers.proofs.world.World.act.Goals as goal

@@ -1,0 +1,14 @@
+pub mod Arrays
+pub mod Asked
+pub mod Commands
+pub mod Formats
+pub mod Held
+pub mod Levels
+pub mod Once
+pub mod OneList
+pub mod PureCommands
+pub mod Readings
+pub mod Steps
+pub mod Strings
+pub mod VariableCommands
+pub mod Variables

@@ -1,4 +1,0 @@
-mod Getting
-mod Lists
-mod Removing
-mod Writing

@@ -1,5 +1,0 @@
-use Rattle.tt_happenings.proofs.NotOwned.{not_owned_law}
-use Rattle.tt_happenings.proofs.laws.channels_answer_their_owner.Goals as goal
-
-pub returns : goal.returns
-returns c = not_owned_law

@@ -1,7 +1,0 @@
-use Rattle.std.proofs.Common.{drop}
-use Rattle.tt_levels.specs.Linking.{LinksName}
-use Rattle.tt_levels.proofs.Turning.{GoesOn}
-use Rattle.tt_levels.proofs.linking.link_names.Given as goal
-
-abbrev pub invariant-loop-name : goal.invariant-loop-name
-invariant-loop-name l = GoesOn LinksName (drop l.name-index l.names) l.store l.names l.fn.store

@@ -1,0 +1,5 @@
+mod Getting
+mod Lists
+mod Removing
+mod Turning
+mod Writing

@@ -1,0 +1,10 @@
+pub mod ArrayChanging
+pub mod ArrayCommands
+pub mod ArrayReading
+pub mod Beginning
+pub mod Counting
+pub mod LevelCommands
+pub mod LevelMessages
+pub mod LevelWords
+pub mod Linking
+pub mod Telling

@@ -1,0 +1,12 @@
+//! The commands on levels and links (global(n), upvar(n), uplevel(n)), and what info(n) tells of them.
+
+mod command;
+mod counting;
+mod linking;
+mod messages;
+mod row;
+mod running;
+mod telling;
+mod words;
+
+pub use running::run;
