@@ -1,2 +1,4 @@
+package require Thread
+
 puts hi
 puts {hello from tclthread}

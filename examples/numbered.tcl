@@ -1,6 +1,10 @@
-# Copies standard input to standard output, each line with its number, and tells standard error how many there were.
+# Copies standard input to standard output, each line with its number, and reports their number on standard error.
+package require Thread
+
 set n 0
+
 while {[gets stdin line] >= 0} {
     puts "[incr n]\t$line"
 }
+
 puts stderr "$n lines"
