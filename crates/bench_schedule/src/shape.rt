@@ -1,5 +1,5 @@
 //! How the steps of a schedule lie, in both extremes.
-ghost use Rattle.tt_text.specs.ThreadNumbers.{IsInRange};
+ghost use Rattle.tt_ids.specs.ThreadNumbers.{IsInRange};
 
 use std::alloc::Global;
 

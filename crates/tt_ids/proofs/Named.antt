@@ -1,5 +1,5 @@
 -- The number that a text names is the one that writes it.
-use Rattle.std.proofs.Common.{◌≡◌, ◌≢◌, ◌<◌, ◌^◌, ◌&&◌, ◌==◌, ℕ, Bool, true, false, List, [], ◌∷◌, ◌++◌, Option, Some, None, option_and_then, if◌then◌else◌, IfSome, IfNone, refl, sym, ap, subst, ◌∙◌, nat_lt, rules, arith, tests}
+use Rattle.std.proofs.Common.{◌≡◌, ◌≢◌, ◌<◌, ◌^◌, ◌&&◌, ◌==◌, ℕ, Bool, true, false, List, [], ◌∷◌, ◌++◌, Option, Some, None, option_and_then, if◌then◌else◌, IfSome, IfNone, refl, sym, ap, ◌∙◌, nat_lt, rules, arith, tests}
 use Rattle.std.proofs.lemmas.Bool.Decides.{nat_tests}
 use Rattle.std.proofs.lemmas.Fmt.{digits_value-decimal}
 use Rattle.std.proofs.lemmas.Slice.Eq.{bytes_eq-Decides}
@@ -9,7 +9,7 @@ use Rattle.std.specs.Prelude.{bytes_eq}
 use Rattle.std.specs.Str.{all_ascii_digits}
 use Rattle.tt_ids.specs.Ids.{after_letters, id, id_named, letters, number_named}
 use Rattle.tt_ids.specs.declared.id.IdKind.{IdKind}
-use Rattle.tt_text.specs.Digits.{read_on}
+use Rattle.tt_ids.specs.Digits.{read_on}
 
 -- the numbers of digits, as std has them
 own : IsNumeralModel (λ ds. all_ascii_digits ds ≡ true) (read_on 0)

@@ -1,9 +1,11 @@
 -- Ids (thread(n), tpool(n), chan(n)): the letters of the kind and then the number, in decimal without leading zeros.
-use Rattle.std.specs.Prelude.{◌≡◌, ◌<◌, ◌^◌, ℕ, ◌==◌, ◌&&◌, nat_lt, List, [], ◌∷◌, ◌++◌, codes, bytes_eq, Option, Some, None, option_and_then, if◌then◌else◌}
+use Rattle.std.specs.Prelude.{◌≡◌, ◌<◌, ◌^◌, ℕ, ◌==◌, ◌&&◌, nat_lt, List, [], ◌∷◌, ◌++◌, codes, bytes_eq, Option}
+use Rattle.std.specs.Prelude.{Some, None, option_and_then, if◌then◌else◌}
 use Rattle.std.specs.Fmt.{decimal}
-use Rattle.tt_text.specs.Digits.{read_on}
+use Rattle.tt_ids.specs.Digits.{read_on}
 use Rattle.tt_ids.specs.declared.id.IdKind.{IdKind}
-use Rattle.tt_ids.specs.declared.id.IdKind.TheVariants.{Thread, Exclusive, Recursive, ReadWrite, Condition, Pool, Channel}
+use Rattle.tt_ids.specs.declared.id.IdKind.TheVariants.{Thread, Exclusive, Recursive, ReadWrite, Condition, Pool}
+use Rattle.tt_ids.specs.declared.id.IdKind.TheVariants.{Channel}
 
 abbrev pub letters : IdKind → List ℕ
 letters Thread = codes "tid"
@@ -18,7 +20,7 @@ letters Channel = codes "chan"
 abbrev pub id : IdKind → ℕ → List ℕ
 id kind number = letters kind ++ decimal number
 
--- the number that a text writes in decimal, as `decimal` does; none where it writes none below 2^64
+-- the number that a text writes in decimal, as `decimal` does; none if it writes none below 2^64
 abbrev pub number_named : List ℕ → Option ℕ
 number_named text =
     if nat_lt (read_on 0 text) (2 ^ 64) && bytes_eq text (decimal (read_on 0 text)) then Some (read_on 0 text) else None

@@ -1,1 +1,4 @@
+pub mod Digits
 pub mod Ids
+pub mod ThreadNumbers
+pub mod inside

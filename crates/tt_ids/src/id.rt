@@ -44,7 +44,7 @@ impl IdKind {
 
 /// The id of the one of this kind that has this number.
 ///
-/// `NoMemory` where the memory for the text is refused.
+/// `NoMemory` if the memory for the text is refused.
 pub fn id_text(alloc: Global, kind: IdKind, number: u64) -> Result<Text, NoMemory>
     ensures written { IfOk result (λ text. text ≡ id kind number) }
 {
@@ -54,7 +54,7 @@ pub fn id_text(alloc: Global, kind: IdKind, number: u64) -> Result<Text, NoMemor
     Ok(text)
 }
 
-/// The number of the one of this kind that has this id; `None` exactly where no number below 2^64 has it. It takes no
+/// The number of the one of this kind that has this id; `None` exactly if no number below 2^64 has it. It takes no
 /// memory.
 pub fn id_number(kind: IdKind, text: &[u8]) -> Option<u64>
     ensures small { IfSome result (λ number. number < 2 ^ 64) }

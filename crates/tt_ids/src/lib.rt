@@ -1,12 +1,12 @@
-//! The ids of threads, locks, pools and channels as texts, and the numbers of jobs (thread(n), tpool(n), chan(n)).
+//! The ids of threads, locks, pools and channels as texts, and the numbers of threads and jobs (thread(n), tpool(n),
+//! chan(n)).
 #![tactic(auto)]
 
 mod id;
 pub mod laws;
 mod number;
+mod thread_number;
 
 pub use id::{IdKind, id_number, id_text};
 pub use number::{count_with, number_after, number_of, number_text};
-
-#[cfg(test)]
-mod tests;
+pub use thread_number::number_at;

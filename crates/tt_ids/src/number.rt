@@ -1,5 +1,6 @@
-ghost use Rattle.std.specs.Prelude.{◌≡◌, ◌≢◌, ◌<◌, ◌+◌, ◌^◌, ◌+ℤ◌, ℕ, IfNone, IfOk, IfSome};
+ghost use Rattle.std.specs.Prelude.{◌≡◌, ◌≢◌, ◌<◌, ◌+◌, ◌^◌, ◌+ℤ◌, ◌↔◌, ℕ, FitsSigned, IfNone, IfOk, IfSome, IsErr};
 ghost use Rattle.std.specs.Fmt.{decimal};
+ghost use Rattle.std.specs.Int.{w64};
 ghost use Rattle.tt_ids.specs.Ids.{number_named};
 
 use itoa::Buffer;
@@ -8,7 +9,7 @@ use tt_text::{NoMemory, Text};
 
 /// The number in decimal, without leading zeros, as jobs are named (tpool(n), tpool::post).
 ///
-/// `NoMemory` where the memory for the text is refused.
+/// `NoMemory` if the memory for the text is refused.
 pub fn number_text(alloc: Global, number: u64) -> Result<Text, NoMemory>
     ensures written { IfOk result (λ text. text ≡ decimal number) }
 {
@@ -16,7 +17,7 @@ pub fn number_text(alloc: Global, number: u64) -> Result<Text, NoMemory>
     Text::from_bytes(alloc, buffer.format(number).as_bytes())
 }
 
-/// The number that the text writes in decimal without leading zeros; `None` exactly where it writes none below 2^64.
+/// The number that the text writes in decimal without leading zeros; `None` exactly if it writes none below 2^64.
 /// It takes no memory.
 pub fn number_of(text: &[u8]) -> Option<u64>
     ensures small { IfSome result (λ number. number < 2 ^ 64) }
@@ -30,18 +31,20 @@ pub fn number_of(text: &[u8]) -> Option<u64>
 
 /// The number after this one, which the next of its kind draws. It takes no memory.
 ///
-/// `NoMemory` where 2^64 were drawn, which is more than any memory holds.
+/// `NoMemory` exactly if the number after it is 2^64, which is more than any memory holds.
 pub fn number_after(number: u64) -> Result<u64, NoMemory>
     ensures after { IfOk result (λ next. next ≡ number + 1) }
+    ensures full { IsErr result ↔ (number + 1 ≡ 2 ^ 64) }
 {
     number.checked_add(1).ok_or(NoMemory)
 }
 
 /// A count of holds with so many more, or less. It takes no memory.
 ///
-/// `NoMemory` where the sum is outside signed 64 bits, which is more than any run counts to.
+/// `NoMemory` exactly if the sum is outside signed 64 bits, which is more than any run counts to.
 pub fn count_with(count: i64, more: i64) -> Result<i64, NoMemory>
     ensures sum { IfOk result (λ sum. sum ≡ count +ℤ more) }
+    ensures full { IsErr result ↔ ¬ FitsSigned w64 (count +ℤ more) }
 {
     count.checked_add(more).ok_or(NoMemory)
 }

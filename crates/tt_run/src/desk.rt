@@ -8,7 +8,7 @@ ghost use Rattle.tt_schedule.specs.ScheduleText.{most_steps};
 ghost use Rattle.tt_shared.specs.Acts.{act};
 ghost use Rattle.tt_shared.specs.State.{start_state};
 ghost use Rattle.tt_shared.specs.declared.applied.Line.{Line};
-ghost use Rattle.tt_text.specs.ThreadNumbers.{IsInRange};
+ghost use Rattle.tt_ids.specs.ThreadNumbers.{IsInRange};
 ghost use Rattle.tt_threads.specs.Rows.{is_living, row_of};
 
 use crate::devices::Devices;

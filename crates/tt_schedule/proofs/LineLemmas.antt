@@ -1,11 +1,11 @@
 use Rattle.std.proofs.Common.{◌≡◌, ◌<◌, ◌^◌, ℕ, List, [], ◌∷◌, ◌++◌, refl, sym, ap, ◌∙◌, arith, append_assoc}
 use Rattle.std.specs.Fmt.{decimal}
 use Rattle.std.proofs.lemmas.Fmt.{digits_decimal, decimal_injective}
-use Rattle.tt_text.specs.Digits.{BeginsWithNoDigit}
+use Rattle.tt_ids.specs.Digits.{BeginsWithNoDigit}
 use Rattle.tt_schedule.specs.ScheduleText.{IsLine, line_text}
-use Rattle.tt_text.specs.ThreadNumbers.{IsInRange}
+use Rattle.tt_ids.specs.ThreadNumbers.{IsInRange}
 use Rattle.tt_schedule.specs.declared.line.Line.{Line}
-use Rattle.tt_text.proofs.DigitLemmas.{own, same-run}
+use Rattle.tt_ids.proofs.DigitLemmas.{own, same-run}
 
 -- a text begins with one number at most
 pub one-number : (a b : ℕ) (x y : List ℕ) → IsInRange a → IsInRange b → BeginsWithNoDigit x → BeginsWithNoDigit y → decimal a ++ x ≡ decimal b ++ y → (a ≡ b) × (x ≡ y)

@@ -3,9 +3,9 @@ use lib.ListN.{replicate}
 use Rattle.std.proofs.Math.ListN.{get_or-append}
 use Rattle.std.proofs.lemmas.List.{length-replicate, get_or-replicate, get_or-append-add}
 use Rattle.tt_schedule.specs.declared.run.Run.{Run}
-use Rattle.tt_schedule.specs.Runs.{lines_from, end_of, AreRuns}
+use Rattle.tt_schedule.specs.inside.Runs.{lines_from, end_of, AreRuns}
 use Rattle.tt_schedule.specs.ScheduleText.{steps_of}
-use Rattle.tt_text.specs.ThreadNumbers.{IsInRange}
+use Rattle.tt_ids.specs.ThreadNumbers.{IsInRange}
 
 -- the run that has the step at a place is at low or after it, and at high or before it
 pub record IsAround (runs : List Run) (place low high : ℕ) : Type 0 where

@@ -6,8 +6,8 @@ use Rattle.std.proofs.lemmas.List.Concat.{flat_map-append}
 use Rattle.std.proofs.lemmas.List.{length-replicate}
 use Rattle.tt_schedule.specs.declared.line.Line.{Line}
 use Rattle.tt_schedule.specs.declared.run.Run.{Run}
-use Rattle.tt_schedule.specs.Runs.{lines_from, end_of, AreRuns, LastDiffers}
-use Rattle.tt_schedule.specs.Reading.{StopsBefore}
+use Rattle.tt_schedule.specs.inside.Runs.{lines_from, end_of, AreRuns, LastDiffers}
+use Rattle.tt_schedule.specs.inside.LineReading.{StopsBefore}
 use Rattle.tt_schedule.specs.ScheduleText.{AreLines, IsLine, NeighboursDiffer, NoneFollows, steps_of, line_text, most_steps}
 use Rattle.tt_schedule.proofs.LineLemmas.{one-number, line_text-append, after_thread}
 use Rattle.tt_schedule.proofs.RunLemmas.{are_lines, length-steps}

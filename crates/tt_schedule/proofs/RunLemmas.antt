@@ -5,9 +5,9 @@ use Rattle.std.proofs.lemmas.List.Concat.{flat_map-append}
 use Rattle.std.proofs.lemmas.List.{replicate_more, length-replicate}
 use Rattle.tt_schedule.specs.declared.line.Line.{Line}
 use Rattle.tt_schedule.specs.declared.run.Run.{Run}
-use Rattle.tt_schedule.specs.Runs.{lines_from, end_of, IsRun, LastDiffers, AreRuns}
+use Rattle.tt_schedule.specs.inside.Runs.{lines_from, end_of, IsRun, LastDiffers, AreRuns}
 use Rattle.tt_schedule.specs.ScheduleText.{AreLines, IsLine, NeighboursDiffer, steps_of, most_steps}
-use Rattle.tt_text.specs.ThreadNumbers.{IsInRange}
+use Rattle.tt_ids.specs.ThreadNumbers.{IsInRange}
 
 -- one more run at the end
 pub end_of-more : (start : ℕ) (runs : List Run) (run : Run) → end_of start (runs ++ run ∷ []) ≡ run.end

@@ -1,4 +1,4 @@
 pub mod Reading
-pub mod Runs
 pub mod Schedule
 pub mod ScheduleText
+pub mod inside

@@ -1,32 +1,10 @@
-use Rattle.std.specs.Prelude.{◌≡◌, ◌≢◌, ℕ, ◌≤◌, List, [], ◌++◌, length}
-use Rattle.std.specs.List.{flat_map}
-use Rattle.tt_schedule.specs.declared.line.Line.{Line}
+-- What a text of a schedule says.
+use Rattle.std.specs.Prelude.{ℕ, List}
 use Rattle.tt_schedule.specs.declared.reading.ReadSchedule.{ReadSchedule}
 use Rattle.tt_schedule.specs.declared.reading.ReadSchedule.TheVariants.{Read, Bad}
-use Rattle.tt_schedule.specs.declared.reading.ReadLines.{ReadLines}
-use Rattle.tt_schedule.specs.declared.reading.ReadLines.TheVariants.{Good, Wrong}
-use Rattle.tt_schedule.specs.Runs.{lines_from, AreRuns}
-use Rattle.tt_schedule.specs.ScheduleText.{AreLines, IsFirstWrong, IsScheduleText, NoneFollows, line_text}
+use Rattle.tt_schedule.specs.ScheduleText.{IsFirstWrong, IsScheduleText}
 
--- what a text says: the schedule whose text it is, or that it is the text of none, and where its first wrong line is
+-- the schedule whose text it is, or that it is the text of none, and the place of its first wrong line
 abbrev pub IsRead : List ℕ → ReadSchedule → Type 0
 IsRead text (Read schedule) = IsScheduleText text schedule.threads
 IsRead text (Bad fault) = IsFirstWrong text fault.place × ((threads : List ℕ) → ¬ (IsScheduleText text threads))
-
--- lines of a schedule are before what is left, and none that may follow them is next
-pub record StopsBefore (text : List ℕ) (left : ℕ) : Type 0 where
-  pub lines : List Line
-  pub rest : List ℕ
-  pub are_lines : AreLines lines
-  pub cut : text ≡ flat_map line_text lines ++ rest
-  pub left_is : left ≡ length rest
-  pub some : rest ≢ []
-  pub wrong : NoneFollows lines rest
-
--- what the lines say: the runs that they stand for, or that they are no lines of a schedule
-abbrev pub ReadsLines : List ℕ → ReadLines → Type 0
-ReadsLines text (Good runs) = AreRuns 0 runs.items × (text ≡ flat_map line_text (lines_from 0 runs.items))
-ReadsLines text (Wrong left) =
-    (left ≤ length text)
-    × StopsBefore text left
-    × ((lines : List Line) → AreLines lines → text ≢ flat_map line_text lines)

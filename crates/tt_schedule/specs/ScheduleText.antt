@@ -3,7 +3,7 @@ use Rattle.std.specs.Prelude.{◌≡◌, ◌≢◌, ◌⊎◌, ℕ, ◌+◌, ◌
 use Rattle.std.specs.List.{flat_map, AllByRecursion}
 use Rattle.std.specs.Fmt.{decimal}
 use lib.ListN.{replicate}
-use Rattle.tt_text.specs.ThreadNumbers.{IsInRange}
+use Rattle.tt_ids.specs.ThreadNumbers.{IsInRange}
 use Rattle.tt_schedule.specs.declared.line.Line.{Line}
 
 -- the most steps of a schedule
@@ -60,7 +60,7 @@ pub record IsWrongLine (text : List ℕ) (place : ℕ) : Type 0 where
   pub some : rest ≢ []
   pub wrong : NoneFollows lines rest
 
--- the offset of a text's first wrong line: 0 where the heading is not there
+-- the offset of a text's first wrong line: 0 if the heading is not there
 abbrev pub IsFirstWrong : List ℕ → ℕ → Type 0
 IsFirstWrong text place = ((place ≡ 0) × ((rest : List ℕ) → text ≢ heading ++ rest)) ⊎ IsWrongLine text place
 

@@ -1,4 +1,4 @@
-//! Schedules: which thread takes each step of a run, as a list and as the text that is kept in files.
+//! Schedules: which thread takes each step of a run, as a list and as the text that stands in files.
 #![tactic(auto)]
 
 mod line;
@@ -10,6 +10,3 @@ mod schedule;
 pub use printing::{one_text, print};
 pub use reading::{ReadSchedule, ScheduleFault, read};
 pub use schedule::Schedule;
-
-#[cfg(test)]
-mod tests;

@@ -1,7 +1,7 @@
 ghost use Rattle.std.specs.Prelude.{◌≡◌, ◌≢◌, ◌∷◌, ◌++◌, ℕ, List, IfSome, IfNone};
 ghost use Rattle.tt_schedule.specs.ScheduleText.{IsLine, line_text};
 
-use tt_text::number_at;
+use tt_ids::number_at;
 
 /// A line of a schedule: a thread takes this many steps next.
 #[derive(Clone, Copy, Debug, PartialEq, Eq)]
@@ -12,7 +12,7 @@ pub struct Line {
     pub steps: u32,
 }
 
-/// The line at the front, and the text after it, or `None` exactly where the text begins with no line.
+/// The line at the front, and the text after it, or `None` exactly if the text begins with no line.
 pub(crate) fn line_at(text: &[u8]) -> Option<(Line, &[u8])>
     ensures found { IfSome result (λ read. IsLine read.0 × (text.now ≡ line_text read.0 ++ read.1.now)) }
     ensures none { IfNone result ((line : _) (rest : List ℕ) → IsLine line → text.now ≢ line_text line ++ rest) }
@@ -24,7 +24,7 @@ pub(crate) fn line_at(text: &[u8]) -> Option<(Line, &[u8])>
     Some((Line { thread, steps }, rest))
 }
 
-/// The text after this byte, or `None` exactly where it doesn't begin with it.
+/// The text after this byte, or `None` exactly if it doesn't begin with it.
 fn after(text: &[u8], byte: u8) -> Option<&[u8]>
     ensures found { IfSome result (λ rest. text.now ≡ byte ∷ rest.now) }
     ensures none { IfNone result ((rest : List ℕ) → text.now ≢ byte ∷ rest) }

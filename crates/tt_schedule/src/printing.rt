@@ -1,6 +1,7 @@
 ghost use Rattle.std.specs.Prelude.{◌≡◌, ◌++◌, IfOk, OnOk};
-ghost use Rattle.tt_schedule.specs.Runs.{lines_from, AreRuns};
-ghost use Rattle.tt_schedule.specs.ScheduleText.{IsScheduleText, OneListLaw, OnePlaceLaw, OneTextLaw, heading, line_text};
+ghost use Rattle.tt_schedule.specs.inside.Runs.{lines_from, AreRuns};
+ghost use Rattle.tt_schedule.specs.ScheduleText.{IsScheduleText, OneListLaw, OnePlaceLaw, OneTextLaw, heading};
+ghost use Rattle.tt_schedule.specs.ScheduleText.{line_text};
 ghost use Rattle.std.specs.List.{flat_map};
 
 use crate::line::Line;
@@ -12,7 +13,7 @@ use tt_text::{NoMemory, Text};
 
 /// The text of the schedule, which `read` reads as the same list.
 ///
-/// `NoMemory` where memory for it is refused.
+/// `NoMemory` if memory for it is refused.
 pub fn print(alloc: Global, schedule: &Schedule) -> Result<Text, NoMemory>
     ensures { IfOk result (λ text. IsScheduleText text schedule.now.threads) }
 {

@@ -1,5 +1,6 @@
 ghost use Rattle.std.specs.Prelude.{◌≡◌, ◌≢◌, ◌≤◌, ℕ, List, length, IfOk};
-ghost use Rattle.tt_schedule.specs.Reading.{IsRead, ReadsLines};
+ghost use Rattle.tt_schedule.specs.Reading.{IsRead};
+ghost use Rattle.tt_schedule.specs.inside.LineReading.{ReadsLines};
 
 use crate::line::line_at;
 use crate::run::{Run, add_line, can_follow};
@@ -37,7 +38,7 @@ enum ReadLines {
 /// thread takes. The numbers are decimal, from 1 to 16,777,216, without leading zeros; each line ends with a newline;
 /// neighbouring lines are of different threads; and there are at most 16,777,216 steps.
 ///
-/// `Bad` exactly where the text isn't so, with its first wrong line. `NoMemory` where memory for the schedule is refused.
+/// `Bad` exactly if the text isn't so, with its first wrong line. `NoMemory` if memory for the schedule is refused.
 pub fn read(alloc: Global, text: &[u8]) -> Result<ReadSchedule, NoMemory>
     ensures exact { IfOk result (IsRead text.now) }
 {

@@ -1,7 +1,8 @@
-ghost use Rattle.std.specs.Prelude.{◌≡◌, ◌++◌, ◌∷◌, [], ◌+◌, ◌<◌, ◌≤◌, ◌↔◌, IsTrue, length, vec_len, vec_capacity, slice_index, OnOk, OnErr};
-ghost use Rattle.tt_schedule.specs.Runs.{lines_from, end_of, AreRuns, LastDiffers};
+ghost use Rattle.std.specs.Prelude.{◌≡◌, ◌++◌, ◌∷◌, [], ◌+◌, ◌<◌, ◌≤◌, ◌↔◌, IsTrue, length, vec_len, vec_capacity};
+ghost use Rattle.std.specs.Prelude.{slice_index, OnOk, OnErr};
+ghost use Rattle.tt_schedule.specs.inside.Runs.{lines_from, end_of, AreRuns, LastDiffers};
 ghost use Rattle.tt_schedule.specs.ScheduleText.{IsLine, steps_of, most_steps};
-ghost use Rattle.tt_text.specs.ThreadNumbers.{IsInRange};
+ghost use Rattle.tt_ids.specs.ThreadNumbers.{IsInRange};
 
 use crate::line::Line;
 use tt_text::NoMemory;
@@ -72,19 +73,19 @@ pub(crate) fn add_step(runs: &mut Vec<Run>, thread: u32)
     let end = step_count(runs) + 1;
     let next = Run { thread, end };
     match runs.pop() {
-        Some(last) if last.thread == thread => keep(runs, next),
+        Some(last) if last.thread == thread => put(runs, next),
         Some(last) => {
-            keep(runs, last);
-            keep(runs, next);
+            put(runs, last);
+            put(runs, next);
         }
-        None => keep(runs, next),
+        None => put(runs, next),
     }
 }
 
 /// Puts a run at the end, in room that is there.
-fn keep(runs: &mut Vec<Run>, run: Run)
+fn put(runs: &mut Vec<Run>, run: Run)
     requires { vec_len runs.old < vec_capacity runs.old }
-    ensures kept { runs.new.items ≡ runs.old.items ++ run ∷ [] }
+    ensures added { runs.new.items ≡ runs.old.items ++ run ∷ [] }
     ensures capacity { vec_capacity runs.old ≤ vec_capacity runs.new }
 {
     runs.push(run).unwrap();

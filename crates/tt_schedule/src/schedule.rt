@@ -1,6 +1,6 @@
 ghost use Rattle.std.specs.Prelude.{◌≡◌, ◌++◌, ◌∷◌, [], ◌<◌, ◌≤◌, IsTrue, length, slice_index, OnOk, OnErr, ◌↔◌};
 ghost use Rattle.tt_schedule.specs.ScheduleText.{most_steps};
-ghost use Rattle.tt_text.specs.ThreadNumbers.{IsInRange};
+ghost use Rattle.tt_ids.specs.ThreadNumbers.{IsInRange};
 
 use crate::run::{Run, add_step, step_count, thread_at};
 use std::alloc::Global;
@@ -16,7 +16,7 @@ pub struct Schedule {
 
 impl Model for Schedule {
     ghost use Rattle.std.specs.Prelude.{nat_lt, vec_len, vec_capacity};
-    ghost use Rattle.tt_schedule.specs.Runs.{lines_from, AreRuns};
+    ghost use Rattle.tt_schedule.specs.inside.Runs.{lines_from, AreRuns};
     ghost use Rattle.tt_schedule.specs.Schedule.{Listing};
     ghost use Rattle.tt_schedule.specs.ScheduleText.{steps_of};
 
@@ -42,7 +42,7 @@ impl Schedule {
 
     /// Makes room for one more step.
     ///
-    /// `NoMemory` where memory for it is refused. The steps stay as they are.
+    /// `NoMemory` if memory for it is refused. The steps stay as they are.
     pub fn reserve(&mut self) -> Result<(), NoMemory>
         ensures room { OnOk result (IsTrue self.new.has_room) }
         ensures same { self.new.threads ≡ self.old.threads }
@@ -63,7 +63,7 @@ impl Schedule {
 
     /// Adds a step of this thread.
     ///
-    /// `NoMemory` where memory for it is refused; then the steps stay as they are.
+    /// `NoMemory` if memory for it is refused; then the steps stay as they are.
     pub fn push(&mut self, thread: u32) -> Result<(), NoMemory>
         requires thread { IsInRange thread }
         requires short { length self.old.threads < most_steps }

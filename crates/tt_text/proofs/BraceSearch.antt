@@ -3,7 +3,7 @@ use Rattle.std.proofs.Common.{◌≡◌, ◌≢◌, ℕ, zero, suc, ◌+◌, ◌
 use Rattle.std.proofs.lemmas.Bool.{cases_eq, ne_eqb}
 use Rattle.std.proofs.lemmas.List.{drop_more, drop_all}
 use Rattle.std.proofs.Math.Seq.{drop-append_seam}
-use Rattle.tt_text.specs.BraceScan.{IsScan}
+use Rattle.tt_text.specs.inside.BraceScan.{IsScan}
 use Rattle.tt_text.specs.declared.braces.Scan.TheVariants.{Closes, Ends}
 use Rattle.tt_text.specs.Braces.{is_balanced, closing_brace, matching_brace, further, mark_of, Letter}
 

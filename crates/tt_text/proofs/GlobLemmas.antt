@@ -6,7 +6,7 @@ use Rattle.std.proofs.lemmas.Bool.{eqb-true, eq-eqb}
 use Rattle.tt_text.proofs.CharacterLemmas.{first_character}
 use Rattle.tt_text.specs.Characters.{Character, characters}
 use Rattle.tt_text.specs.Glob.{Matches, empty, run, any, set, escape, last_backslash, itself, IsOrdinary, after_set, set_members, is_listed}
-use Rattle.tt_text.specs.GlobScan.{BeginsWithNoRun, MatchesEnd, MatchesAfterFirst, MatchesAfter, TakesFirst, Means, RefusesFirst}
+use Rattle.tt_text.specs.inside.GlobScan.{BeginsWithNoRun, MatchesEnd, MatchesAfterFirst, MatchesAfter, TakesFirst, Means, RefusesFirst}
 
 -- a character is not two bytes at once
 differ : (p : Character) (a b : ℕ) → p ≡ a ∷ [] → p ≡ b ∷ [] → a ≢ b → ⊥

@@ -3,6 +3,5 @@ pub mod BraceLemmas
 pub mod BraceSearch
 pub mod CharacterLemmas
 mod DefinitionExamples
-pub mod DigitLemmas
 pub mod GlobLaw
 pub mod GlobLemmas

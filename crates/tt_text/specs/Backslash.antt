@@ -48,7 +48,7 @@ octal_digits text =
     let digits = leading_digits 8 3 text in
     if nat_le (digits_value 8 digits) 255 then digits else take 2 digits
 
--- the bytes of a code point in UTF-8, where a surrogate is written as U+FFFD
+-- the bytes of a code point in UTF-8; a surrogate is written as U+FFFD
 abbrev pub character_of : ℕ → List ℕ
 character_of code = encode_utf8 (if is_in_range 0xD800 0xDFFF code then 0xFFFD else code)
 

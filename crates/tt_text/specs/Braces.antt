@@ -1,5 +1,6 @@
 -- Braces that match (Tcl(n), rule 6). A byte after a backslash is never a brace.
-use Rattle.std.specs.Prelude.{◌≡◌, ◌≢◌, ℕ, zero, suc, ◌+◌, Bool, true, false, if◌then◌else◌, ◌==◌, ◌↔◌, IsTrue, List, [], ◌∷◌, ◌++◌, length, Option, Some, None}
+use Rattle.std.specs.Prelude.{◌≡◌, ◌≢◌, ℕ, zero, suc, ◌+◌, Bool, true, false, if◌then◌else◌, ◌==◌, ◌↔◌, IsTrue, List}
+use Rattle.std.specs.Prelude.{[], ◌∷◌, ◌++◌, length, Option, Some, None}
 
 -- the braces of a text match: each that opens has one that closes it, and no backslash is left alone
 pub data IsBalanced : List ℕ → Type 0 where

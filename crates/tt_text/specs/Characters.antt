@@ -1,6 +1,7 @@
 -- The bytes of a text by kind, and its characters. A text is a list of bytes in no encoding; it
 -- is cut into characters as UTF-8 cuts them (Tcl(n), string(n)).
-use Rattle.std.specs.Prelude.{◌≡◌, ℕ, ◌+◌, Bool, true, false, not, ◌&&◌, ◌||◌, ◌==◌, List, [], ◌∷◌, length, flat_map, count_by, IsTrue}
+use Rattle.std.specs.Prelude.{◌≡◌, ℕ, ◌+◌, Bool, true, false, not, ◌&&◌, ◌||◌, ◌==◌, List, [], ◌∷◌, length, flat_map}
+use Rattle.std.specs.Prelude.{count_by, IsTrue}
 use Rattle.std.specs.List.{AllByRecursion}
 use Rattle.std.specs.Int.{is_in_range}
 use Rattle.std.specs.Char.{is_digit}

@@ -1,6 +1,7 @@
 -- Glob patterns as a function, with which evaluation computes (string(n), string match). It reads the pattern from the
 -- left, a character at a time.
-use Rattle.std.specs.Prelude.{◌↔◌, Bool, true, false, ◌&&◌, ◌||◌, IsTrue, List, [], ◌∷◌, ◌++◌, codes, bytes_eq, if◌then◌else◌}
+use Rattle.std.specs.Prelude.{◌↔◌, Bool, true, false, ◌&&◌, ◌||◌, IsTrue, List, [], ◌∷◌, ◌++◌, codes, bytes_eq}
+use Rattle.std.specs.Prelude.{if◌then◌else◌}
 use Rattle.tt_text.specs.Characters.{Character}
 use Rattle.tt_text.specs.Glob.{Matches, is_listed}
 
@@ -19,7 +20,7 @@ sign_of c =
     if bytes_eq c (codes "[") then Opens else
     if bytes_eq c (codes "\\") then Escapes else Itself
 
--- where the reading stands: outside of sets, in one with these members so far, or after a backslash
+-- the state of the reading: outside of sets, in one with these members so far, or after a backslash
 pub data Reading : Type 0 where
   Outside : Reading
   InSet : (members : List Character) → Reading
@@ -44,7 +45,7 @@ abbrev pub is_nothing : List Character → Bool
 is_nothing [] = true
 is_nothing (c ∷ text) = false
 
--- a character outside of sets, where it is known what matches after it there, in a set and after a backslash
+-- a character outside of sets, given what matches after it there, in a set and after a backslash
 abbrev pub passes_sign : Sign → Character → (outside in_set escaped : List Character → Bool) → List Character → Bool
 passes_sign Run p outside in_set escaped text = passes_some_end outside text
 passes_sign Any p outside in_set escaped text = passes_first (λ c. true) outside text
@@ -52,7 +53,7 @@ passes_sign Opens p outside in_set escaped text = in_set text
 passes_sign Escapes p outside in_set escaped text = escaped text
 passes_sign Itself p outside in_set escaped text = passes_first (bytes_eq p) outside text
 
--- what is left of a pattern matches the text
+-- the remaining pattern matches the text
 abbrev pub reads : Reading → (pattern text : List Character) → Bool
 reads Outside [] text = is_nothing text
 reads (InSet members) [] text = false

@@ -1,10 +1,6 @@
 pub mod Backslash
 pub mod Braces
-pub mod BraceScan
 pub mod Characters
-pub mod Digits
 pub mod Glob
 pub mod GlobFunction
-pub mod GlobScan
-pub mod Kept
-pub mod ThreadNumbers
+pub mod inside

@@ -1,7 +1,8 @@
 ghost use Rattle.std.specs.Prelude.{◌≡◌, ◌+◌, ◌*◌, ◌<◌, ◌≤◌, ◌^◌, drop, length, slice_get, take, take_while};
 ghost use Rattle.std.specs.Char.{is_digit};
 ghost use Rattle.std.specs.Str.Parse.{AllDigits, digits_value};
-ghost use Rattle.tt_text.specs.Backslash.{backslash, hexadecimal_sequence, is_space_or_tab, leading_digits, octal_digits};
+ghost use Rattle.tt_text.specs.Backslash.{backslash, hexadecimal_sequence, is_space_or_tab, leading_digits};
+ghost use Rattle.tt_text.specs.Backslash.{octal_digits};
 
 use crate::sequence::Backslash;
 
@@ -90,7 +91,8 @@ fn digit_count(text: &[u8], radix: u32) -> usize
 fn hexadecimal(letter: u8, text: &[u8], most: usize, next: usize) -> Backslash
     requires most { most ≤ 4 }
     requires room { next + length text.now < 2 ^ 64 }
-    ensures value { take result.len result.bytes ≡ (hexadecimal_sequence letter (leading_digits 16 most text.now)).value }
+    ensures value { take result.len result.bytes ≡
+        (hexadecimal_sequence letter (leading_digits 16 most text.now)).value }
     ensures next { result.next + 1 ≡ next + (hexadecimal_sequence letter (leading_digits 16 most text.now)).takes }
     ensures within { result.next ≤ next + length text.now }
 {
@@ -118,6 +120,3 @@ fn number(digits: &[u8], radix: u32) -> u32
     }
     number
 }
-
-#[cfg(test)]
-mod tests;

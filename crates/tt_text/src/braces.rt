@@ -1,13 +1,13 @@
 ghost use Rattle.std.specs.Prelude.{◌≡◌, ◌<◌, length, IfSome};
 ghost use Rattle.tt_text.specs.Braces.{is_balanced, matching_brace};
-ghost use Rattle.tt_text.specs.BraceScan.{IsScan};
+ghost use Rattle.tt_text.specs.inside.BraceScan.{IsScan};
 
 /// How the search for a closing brace ends in a text.
 #[derive(Clone, Copy)]
 enum Scan {
     /// At the brace of this place.
     Closes(usize),
-    /// After the text, with this many inner braces open. The place is one further where a backslash
+    /// After the text, with this many inner braces open. The place is one further if a backslash
     /// ends the text.
     Ends(usize, usize),
 }
@@ -15,7 +15,7 @@ enum Scan {
 /// How many bytes of a text that follows an open brace stand before the brace that closes it (Tcl(n),
 /// rule 6).
 ///
-/// A byte after a backslash is never a brace. `None` where no brace closes the open one.
+/// A byte after a backslash is never a brace. `None` if no brace closes the open one.
 #[tactic(auto, using(crate::proofs::BraceSearch::closes_alone, crate::proofs::BraceSearch::ends_alone))]
 pub fn matching_brace(text: &[u8]) -> Option<usize>
     ensures place { result ≡ matching_brace text.now }

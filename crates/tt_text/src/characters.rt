@@ -1,4 +1,5 @@
-ghost use Rattle.std.specs.Prelude.{◌≡◌, ◌+◌, ◌∷◌, ◌<◌, [], length, MatchOption, IfSome, take_while, count_by, bytes_eq};
+ghost use Rattle.std.specs.Prelude.{◌≡◌, ◌+◌, ◌∷◌, ◌<◌, [], length, MatchOption, IfSome, take_while, count_by};
+ghost use Rattle.std.specs.Prelude.{bytes_eq};
 ghost use Rattle.tt_text.specs.Characters.{characters, continues_character, begins_character};
 
 /// How many characters the text has (string(n), string length): one for its first byte, and one
@@ -19,9 +20,11 @@ fn beginning(text: &[u8]) -> usize
     text.iter().filter(|b| !continues_character(**b)).count()
 }
 
-/// The first character, and the text after it (string(n), string index); `None` where the text is empty.
+/// The first character, and the text after it (string(n), string index); `None` if the text is empty.
 pub fn split_character(text: &[u8]) -> Option<(&[u8], &[u8])>
-    ensures cases { MatchOption result (text.now ≡ []) (λ parts. characters text.now ≡ parts.0.now ∷ characters parts.1.now) }
+    ensures cases { MatchOption result
+        (text.now ≡ [])
+        (λ parts. characters text.now ≡ parts.0.now ∷ characters parts.1.now) }
     ensures shorter { IfSome result (λ parts. length parts.1.now < length text.now) }
 {
     let (_, rest) = text.split_first()?;
@@ -47,15 +50,4 @@ pub(crate) fn is_byte(character: &[u8], byte: u8) -> bool
     ensures { result ≡ bytes_eq character.now (byte ∷ []) }
 {
     character == [byte].as_slice()
-}
-
-#[cfg(test)]
-mod tests {
-    use super::*;
-
-    #[test]
-    fn characters_are_counted_by_first_bytes(rt: HostRuntime) {
-        assert_eq!(rt; char_count(b"\xC3\xA9a\xE2\x82\xAC"), 3);
-        assert_eq!(rt; char_count(b"\x80\x80a"), 2);
-    }
 }

@@ -1,4 +1,4 @@
-//! Texts as keys: they are equal where their bytes are, in the order of their bytes, and hashed by them.
+//! Texts as keys: they are equal if their bytes are, in the order of their bytes, and hashed by them.
 ghost use Rattle.std.specs.Prelude.{◌≡◌, Some, bytes_eq, refl};
 ghost use Rattle.std.proofs.Common.{rules};
 ghost use Rattle.std.specs.Cmp;

@@ -29,7 +29,9 @@ pub(crate) fn is_listed(set: &[u8], character: &[u8]) -> bool
 
 /// The pattern after the set that begins at the front, if the set is closed.
 pub(crate) fn after_set(pattern: &[u8]) -> Option<&[u8]>
-    ensures cases { MatchOption result (after_set (characters pattern.now) ≡ None) (λ after. after_set (characters pattern.now) ≡ Some (characters after.now)) }
+    ensures cases { MatchOption result
+        (after_set (characters pattern.now) ≡ None)
+        (λ after. after_set (characters pattern.now) ≡ Some (characters after.now)) }
     ensures shorter { IfSome result (λ after. length after.now < length pattern.now) }
 {
     let mut rest = pattern;
@@ -43,7 +45,11 @@ pub(crate) fn after_set(pattern: &[u8]) -> Option<&[u8]>
 }
 
 fn first_range(set: &[u8]) -> Option<Range<'_>>
-    ensures none { MatchOption result (set_members (characters set.now) ≡ []) (λ range. (c : List ℕ) → is_listed (set_members (characters set.now)) c ≡ (is_between (record { from = range.from.now; to = range.to.now }) c || is_listed (set_members (characters range.rest.now)) c)) }
+    ensures cases { MatchOption result
+        (set_members (characters set.now) ≡ [])
+        (λ range. (c : List ℕ) → is_listed (set_members (characters set.now)) c ≡
+        (is_between (record { from = range.from.now; to = range.to.now }) c
+        || is_listed (set_members (characters range.rest.now)) c)) }
     ensures shorter { IfSome result (λ range. length range.rest.now < length set.now) }
 {
     let (from, rest) = first_member(set)?;
@@ -61,7 +67,9 @@ fn first_range(set: &[u8]) -> Option<Range<'_>>
 }
 
 fn first_member(set: &[u8]) -> Option<(&[u8], &[u8])>
-    ensures cases { MatchOption result (set_members (characters set.now) ≡ []) (λ parts. set_members (characters set.now) ≡ parts.0.now ∷ set_members (characters parts.1.now)) }
+    ensures cases { MatchOption result
+        (set_members (characters set.now) ≡ [])
+        (λ parts. set_members (characters set.now) ≡ parts.0.now ∷ set_members (characters parts.1.now)) }
     ensures shorter { IfSome result (λ parts. length parts.1.now < length set.now) }
 {
     let (character, rest) = split_character(set)?;

@@ -9,7 +9,6 @@ mod few;
 mod glob_set;
 pub mod laws;
 mod no_memory;
-mod numeral;
 mod patterns;
 mod quoted;
 mod sequence;
@@ -21,13 +20,9 @@ pub use backslashes::backslash;
 pub use braces::{is_balanced, matching_brace};
 pub use characters::{char_count, continues_character, split_character};
 pub use no_memory::NoMemory;
-pub use numeral::number_at;
 pub use patterns::glob;
 pub use quoted::quoting;
 pub use sequence::Backslash;
 pub use text::Text;
 pub use texts::Texts;
 pub use white_space::{is_white_space, without_white_front};
-
-#[cfg(test)]
-mod tests;

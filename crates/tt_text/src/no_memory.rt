@@ -1,9 +1,9 @@
 use std::alloc::{AllocError, AllocFailed};
 use thiserror::Error;
 
-/// Memory that was asked for was refused. No contract says when it comes.
+/// Memory that was asked for was refused, or a count is at its end. Contracts say when it comes for counts alone.
 #[derive(Clone, Copy, Debug, PartialEq, Eq, Error)]
-#[error("no memory")]
+#[error("out of memory")]
 pub struct NoMemory;
 
 impl From<AllocError> for NoMemory {

@@ -3,7 +3,8 @@ ghost use Rattle.std.specs.Prelude.{◌≡◌, ◌∷◌, ◌<◌, ◌≤◌, �
 ghost use Rattle.tt_text.specs.Characters.{characters};
 ghost use Rattle.tt_text.specs.GlobFunction.{is_match};
 ghost use Rattle.tt_text.specs.Glob.{Matches};
-ghost use Rattle.tt_text.specs.GlobScan.{BeginsWithNoRun, IsSegmentOf, IsShorterThan, Means, RefusesFirst, TakesFirst};
+ghost use Rattle.tt_text.specs.inside.GlobScan.{BeginsWithNoRun, IsSegmentOf, IsShorterThan, Means, RefusesFirst};
+ghost use Rattle.tt_text.specs.inside.GlobScan.{TakesFirst};
 
 use crate::characters::{is_byte, split_character};
 use crate::glob_set::{after_set, is_listed};
@@ -14,7 +15,7 @@ enum Segment<'a> {
     // It has no `*`, and matches the whole text.
     Whole,
     Fails,
-    // The pattern after the `*`, and the text that is left.
+    // The pattern after the `*`, and the remaining text.
     Run(&'a [u8], &'a [u8]),
 }
 
@@ -81,7 +82,9 @@ fn scan_segment<'a>(pattern: &'a [u8], text: &'a [u8]) -> Segment<'a>
 
 // The pattern after a `*` at its front.
 fn after_run(pattern: &[u8]) -> Option<&[u8]>
-    ensures cases { MatchOption result (BeginsWithNoRun (characters pattern.now)) (λ after. characters pattern.now ≡ codes "*" ∷ characters after.now) }
+    ensures cases { MatchOption result
+        (BeginsWithNoRun (characters pattern.now))
+        (λ after. characters pattern.now ≡ codes "*" ∷ characters after.now) }
     ensures shorter { IfSome result (λ after. length after.now < length pattern.now) }
 {
     let (first, after) = split_character(pattern)?;
@@ -95,7 +98,9 @@ fn after_run(pattern: &[u8]) -> Option<&[u8]>
 // The pattern after its first piece, if that takes the character.
 fn after_character<'a>(pattern: &'a [u8], character: &[u8]) -> Option<&'a [u8]>
     requires { BeginsWithNoRun (characters pattern.now) }
-    ensures cases { MatchOption result (RefusesFirst (characters pattern.now) character.now) (λ after. TakesFirst (characters pattern.now) (characters after.now) character.now) }
+    ensures cases { MatchOption result
+        (RefusesFirst (characters pattern.now) character.now)
+        (λ after. TakesFirst (characters pattern.now) (characters after.now) character.now) }
     ensures shorter { IfSome result (λ after. length after.now < length pattern.now) }
 {
     let (first, rest) = split_character(pattern)?;
@@ -140,6 +145,3 @@ fn is_same(character: &[u8], other: &[u8]) -> bool
 {
     character == other
 }
-
-#[cfg(test)]
-mod tests;

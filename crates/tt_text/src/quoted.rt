@@ -5,7 +5,7 @@ use std::alloc::Global;
 
 /// A text with another in it, as messages quote words.
 ///
-/// `NoMemory` where the memory for it is refused.
+/// `NoMemory` if the memory for it is refused.
 pub fn quoting(alloc: Global, before: &[u8], quoted: &[u8], after: &[u8]) -> Result<Text, NoMemory>
     ensures text { IfOk result (λ text. text ≡ before.now ++ (quoted.now ++ after.now)) }
 {

@@ -1,5 +1,5 @@
 ghost use Rattle.std.specs.Prelude.{◌≡◌, ◌++◌, ◌≤◌, [], length, IfOk, OnOk, OnErr, ◌↔◌, IsTrue};
-ghost use Rattle.tt_text.specs.Kept.{bytes_of};
+ghost use Rattle.tt_text.specs.inside.TextBytes.{bytes_of};
 
 use crate::NoMemory;
 use crate::few::{Few, ROOM};
@@ -7,9 +7,9 @@ use std::alloc::Global;
 use std::marker::Model;
 use std::sync::Arc;
 
-/// How a text keeps its bytes: a few in place, more behind a pointer that its copies share.
+/// How a text stores its bytes: a few in place, more behind a pointer that its copies share.
 #[derive(Debug, Drop)]
-enum Kept {
+enum Storage {
     Short(Few),
     Long(Arc<Vec<u8>>),
 }
@@ -20,7 +20,7 @@ enum Kept {
 #[derive(Debug, Drop)]
 pub struct Text {
     alloc: Global,
-    kept: Kept,
+    storage: Storage,
 }
 
 impl Model for Text {
@@ -28,9 +28,9 @@ impl Model for Text {
 
     ghost Value = { List ℕ };
 
-    ghost use Rattle.tt_text.specs.Kept.{bytes_of};
+    ghost use Rattle.tt_text.specs.inside.TextBytes.{bytes_of};
 
-    ghost view = { λ text. bytes_of text.kept };
+    ghost view = { λ text. bytes_of text.storage };
 }
 
 impl Text {
@@ -40,48 +40,48 @@ impl Text {
     {
         Text {
             alloc,
-            kept: Kept::Short(Few::new()),
+            storage: Storage::Short(Few::new()),
         }
     }
 
     /// A text of these bytes.
     ///
-    /// `NoMemory` where the memory for them is refused.
+    /// `NoMemory` if the memory for them is refused.
     pub fn from_bytes(alloc: Global, bytes: &[u8]) -> Result<Self, NoMemory>
         ensures made { IfOk result (λ text. text ≡ bytes.now) }
     {
-        let kept = if bytes.len() <= ROOM {
+        let storage = if bytes.len() <= ROOM {
             in_place(bytes)
         } else {
             shared(alloc, Vec::from_slice(alloc, bytes)?)?
         };
-        Ok(Text { alloc, kept })
+        Ok(Text { alloc, storage })
     }
 
     /// A text of the bytes of a vector. More than 14 are not copied.
     ///
-    /// `NoMemory` where the memory for it is refused.
+    /// `NoMemory` if the memory for it is refused.
     pub fn from_vec(alloc: Global, bytes: Vec<u8>) -> Result<Self, NoMemory>
         ensures made { IfOk result (λ text. text ≡ bytes.items) }
     {
-        let kept = if bytes.len() <= ROOM {
+        let storage = if bytes.len() <= ROOM {
             in_place(bytes.as_slice())
         } else {
             shared(alloc, bytes)?
         };
-        Ok(Text { alloc, kept })
+        Ok(Text { alloc, storage })
     }
 
-    /// The bytes as a vector. They are copied where they are few, or where a copy of the text shares them.
+    /// The bytes as a vector. They are copied if they are few, or if a copy of the text shares them.
     ///
-    /// `NoMemory` where the memory for them is refused.
+    /// `NoMemory` if the memory for them is refused.
     pub fn into_vec(self) -> Result<Vec<u8>, NoMemory>
         ensures bytes { IfOk result (λ bytes. bytes.items ≡ self) }
     {
-        let Text { alloc, kept } = self;
-        match kept {
-            Kept::Short(few) => Ok(Vec::from_slice(alloc, few.as_slice())?),
-            Kept::Long(shared) => match Arc::try_unwrap(shared) {
+        let Text { alloc, storage } = self;
+        match storage {
+            Storage::Short(few) => Ok(Vec::from_slice(alloc, few.as_slice())?),
+            Storage::Long(shared) => match Arc::try_unwrap(shared) {
                 Ok(bytes) => Ok(bytes),
                 Err(shared) => Ok(Vec::from_slice(alloc, shared.as_slice())?),
             },
@@ -92,9 +92,9 @@ impl Text {
     pub fn as_bytes(&self) -> &[u8]
         ensures bytes { result.now ≡ self.now }
     {
-        match &self.kept {
-            Kept::Short(few) => few.as_slice(),
-            Kept::Long(shared) => shared.as_slice(),
+        match &self.storage {
+            Storage::Short(few) => few.as_slice(),
+            Storage::Long(shared) => shared.as_slice(),
         }
     }
 
@@ -114,63 +114,63 @@ impl Text {
 
     /// Adds these bytes at the end.
     ///
-    /// `NoMemory` where the memory for them is refused; then the text is as it was.
+    /// `NoMemory` if the memory for them is refused; then the text is as it was.
     pub fn push_bytes(&mut self, bytes: &[u8]) -> Result<(), NoMemory>
         ensures pushed { OnOk result (self.new ≡ self.old ++ bytes.now) }
         ensures unchanged { OnErr result (self.new ≡ self.old) }
     {
-        push_kept(self.alloc, &mut self.kept, bytes)
+        push_stored(self.alloc, &mut self.storage, bytes)
     }
 
     /// A second text of the same bytes. It takes no allocation.
     ///
-    /// `NoMemory` where there are too many copies.
+    /// `NoMemory` if there are too many copies.
     pub fn copy(&self) -> Result<Self, NoMemory>
         ensures copied { IfOk result (λ text. text ≡ self.now) }
     {
-        let kept = match &self.kept {
-            Kept::Short(few) => Kept::Short(few.copy()),
-            Kept::Long(shared) => Kept::Long(Arc::try_clone(shared)?),
+        let storage = match &self.storage {
+            Storage::Short(few) => Storage::Short(few.copy()),
+            Storage::Long(shared) => Storage::Long(Arc::try_clone(shared)?),
         };
         Ok(Text {
             alloc: self.alloc,
-            kept,
+            storage,
         })
     }
 }
 
-// A few bytes, kept in place.
-fn in_place(bytes: &[u8]) -> Kept
+// A few bytes, in place.
+fn in_place(bytes: &[u8]) -> Storage
     requires { length bytes.now ≤ ROOM }
-    ensures kept { bytes_of result ≡ bytes.now }
+    ensures stored { bytes_of result ≡ bytes.now }
 {
     let mut few = Few::new();
     few.push(bytes);
-    Kept::Short(few)
+    Storage::Short(few)
 }
 
 // The bytes of a vector behind a counted pointer.
-fn shared(alloc: Global, bytes: Vec<u8>) -> Result<Kept, NoMemory>
-    ensures kept { IfOk result (λ kept. bytes_of kept ≡ bytes.items) }
+fn shared(alloc: Global, bytes: Vec<u8>) -> Result<Storage, NoMemory>
+    ensures stored { IfOk result (λ storage. bytes_of storage ≡ bytes.items) }
 {
-    Ok(Kept::Long(Arc::new(alloc, bytes)?))
+    Ok(Storage::Long(Arc::new(alloc, bytes)?))
 }
 
-fn push_kept(alloc: Global, kept: &mut Kept, bytes: &[u8]) -> Result<(), NoMemory>
-    ensures pushed { OnOk result (bytes_of kept.new ≡ bytes_of kept.old ++ bytes.now) }
-    ensures unchanged { OnErr result (bytes_of kept.new ≡ bytes_of kept.old) }
+fn push_stored(alloc: Global, storage: &mut Storage, bytes: &[u8]) -> Result<(), NoMemory>
+    ensures pushed { OnOk result (bytes_of storage.new ≡ bytes_of storage.old ++ bytes.now) }
+    ensures unchanged { OnErr result (bytes_of storage.new ≡ bytes_of storage.old) }
 {
-    match kept {
-        Kept::Short(few) => {
+    match storage {
+        Storage::Short(few) => {
             if bytes.len() <= few.spare() {
                 few.push(bytes);
             } else {
-                *kept = shared(alloc, joined(alloc, few.as_slice(), bytes)?)?;
+                *storage = shared(alloc, joined(alloc, few.as_slice(), bytes)?)?;
             }
         }
-        Kept::Long(vector) => match Arc::get_mut(vector) {
+        Storage::Long(vector) => match Arc::get_mut(vector) {
             Some(vector) => vector.extend_from_slice(bytes)?,
-            None => *kept = shared(alloc, joined(alloc, vector.as_slice(), bytes)?)?,
+            None => *storage = shared(alloc, joined(alloc, vector.as_slice(), bytes)?)?,
         },
     }
     Ok(())

@@ -37,7 +37,7 @@ impl Texts {
 
     /// Adds a text at the end.
     ///
-    /// `NoMemory` where memory for it is refused; then the list is as it was.
+    /// `NoMemory` if memory for it is refused; then the list is as it was.
     pub fn push(&mut self, text: Text) -> Result<(), NoMemory>
         ensures pushed { OnOk result (self.new ≡ self.old ++ text ∷ []) }
         ensures unchanged { OnErr result (self.new ≡ self.old) }

@@ -8,7 +8,7 @@ pub fn is_white_space(byte: u8) -> bool
     matches!(byte, 9..=13 | 32)
 }
 
-/// The text from its first byte on that is no white space (Tcl(n)); empty where each byte is.
+/// The text from its first byte on that is no white space (Tcl(n)); empty if each byte is.
 pub fn without_white_front(mut text: &[u8]) -> &[u8]
     ensures { result.now ≡ without_white_front text.now }
 {

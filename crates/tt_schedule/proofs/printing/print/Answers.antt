@@ -1,6 +1,6 @@
 use Rattle.std.proofs.Common.{sym, ap}
 use Rattle.tt_schedule.specs.Schedule.{Listing}
-use Rattle.tt_schedule.specs.Runs.{lines_from}
+use Rattle.tt_schedule.specs.inside.Runs.{lines_from}
 use Rattle.tt_schedule.proofs.RunLemmas.{are_lines}
 use Rattle.tt_schedule.proofs.printing.print.Goals as goal
 

@@ -1,6 +1,6 @@
 use Rattle.std.proofs.Common.{◌≡◌, ◌++◌, drop}
 use Rattle.std.specs.List.{flat_map}
-use Rattle.tt_schedule.specs.Runs.{lines_from, AreRuns}
+use Rattle.tt_schedule.specs.inside.Runs.{lines_from, AreRuns}
 use Rattle.tt_schedule.specs.ScheduleText.{line_text}
 use Rattle.tt_schedule.proofs.printing.push_runs.Given as goal
 

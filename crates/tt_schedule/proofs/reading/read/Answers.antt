@@ -1,7 +1,7 @@
 use Rattle.std.proofs.Common.{◌≡◌, ◌∙◌, ◌++◌, ap, take, List, ℕ, refl}
 use Rattle.std.proofs.lemmas.List.{take-append-drop}
 use Rattle.std.proofs.lemmas.Slice.Eq.{bytes_eq-Decides}
-use Rattle.tt_schedule.specs.Runs.{lines_from}
+use Rattle.tt_schedule.specs.inside.Runs.{lines_from}
 use Rattle.tt_schedule.specs.ScheduleText.{heading}
 use Rattle.tt_schedule.proofs.RunLemmas.{are_lines}
 use Rattle.tt_schedule.proofs.reading.read.Goals as goal

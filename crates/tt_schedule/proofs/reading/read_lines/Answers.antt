@@ -1,6 +1,6 @@
 use Rattle.std.proofs.Common.{◌≡◌, ◌≢◌, ◌+◌, ◌≤◌, [], length, ap, arith}
 use Rattle.std.proofs.lemmas.Bool.Decides.{nat_tests}
-use Rattle.tt_schedule.specs.Runs.{LastDiffers, end_of}
+use Rattle.tt_schedule.specs.inside.Runs.{LastDiffers, end_of}
 use Rattle.tt_schedule.specs.ScheduleText.{most_steps}
 use Rattle.tt_schedule.proofs.ReadLemmas.{none-may, none-next, read-wrong, read-refused, read-more, rest-within, stops-before}
 use Rattle.tt_schedule.proofs.reading.read_lines.Goals as goal

@@ -1,5 +1,5 @@
 use Rattle.std.proofs.Common.{◌+◌, ◌∙◌, ap, List, ℕ}
-use Rattle.tt_schedule.specs.Runs.{end_of}
+use Rattle.tt_schedule.specs.inside.Runs.{end_of}
 use Rattle.tt_schedule.specs.declared.run.Run.{Run}
 use Rattle.tt_schedule.proofs.RunLemmas.{adds-line, adds-runs}
 use Rattle.tt_schedule.proofs.run.add_line.Goals as goal

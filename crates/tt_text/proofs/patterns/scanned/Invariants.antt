@@ -1,7 +1,7 @@
 use Rattle.std.proofs.Common.{◌+◌, ◌↔◌, length}
 use Rattle.tt_text.specs.Characters.{characters}
 use Rattle.tt_text.specs.Glob.{Matches}
-use Rattle.tt_text.specs.GlobScan.{MatchesEnd}
+use Rattle.tt_text.specs.inside.GlobScan.{MatchesEnd}
 use Rattle.tt_text.proofs.patterns.scanned.Given as goal
 
 abbrev pub invariant-places : goal.invariant-places

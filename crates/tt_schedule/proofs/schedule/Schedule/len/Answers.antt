@@ -1,6 +1,6 @@
 use Rattle.std.proofs.Common.{◌≡◌, ap, ◌∙◌, sym, length, List}
 use Rattle.tt_schedule.specs.Schedule.{Listing}
-use Rattle.tt_schedule.specs.Runs.{end_of}
+use Rattle.tt_schedule.specs.inside.Runs.{end_of}
 use Rattle.tt_schedule.specs.declared.run.Run.{Run}
 use Rattle.tt_schedule.proofs.RunLemmas.{length-listed}
 use Rattle.tt_schedule.proofs.schedule.Schedule.len.Goals as goal

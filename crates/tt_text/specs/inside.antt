@@ -1,0 +1,3 @@
+pub mod BraceScan
+pub mod GlobScan
+pub mod TextBytes
