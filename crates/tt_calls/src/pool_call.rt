@@ -19,7 +19,7 @@ pub enum PoolCall {
         script: Text,
         detached: bool,
     },
-    /// Which of the jobs are done; where none is and one is pending, wait for an event.
+    /// Which of the jobs are done; if none is and one is pending, wait for an event.
     Look {
         pool: Text,
         jobs: Texts,
