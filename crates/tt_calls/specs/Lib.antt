@@ -1,3 +1,5 @@
 pub mod Fitting
+pub mod Numbers
 pub mod Outcomes
+pub mod Replies
 pub mod Usages

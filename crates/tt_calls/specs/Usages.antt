@@ -1,4 +1,4 @@
--- How words that a command doesn't take are told (Tcl(n), and the manual page of each command).
+-- How words that a command doesn't take are reported (Tcl(n), and the manual page of each command).
 use Rattle.std.specs.Prelude.{ℕ, List, ◌++◌, codes}
 
 -- that words are too few or too many for a usage

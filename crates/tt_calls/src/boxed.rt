@@ -19,7 +19,7 @@ impl<T: Drop> Boxed<T> {
 
     /// The value, behind a pointer.
     ///
-    /// `NoMemory` where the memory for it is refused.
+    /// `NoMemory` if the memory for it is refused.
     pub fn new(alloc: Global, value: T) -> Result<Self, NoMemory>
         ensures boxed { IfOk result (λ boxed. boxed ≡ value) }
     {

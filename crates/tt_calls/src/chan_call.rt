@@ -14,7 +14,7 @@ pub enum ChanCall {
     Close { chan: Text },
     /// Give it up, so that another thread can attach it.
     Detach { chan: Text },
-    /// Own it, where nobody does.
+    /// Own it, if nobody does.
     Attach { chan: Text },
     /// Give it to a thread.
     Transfer { id: Text, chan: Text },

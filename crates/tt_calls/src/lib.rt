@@ -26,6 +26,3 @@ pub use reply::{Reply, Shape, Step};
 pub use request::{Mode, Request};
 pub use start::Start;
 pub use tsv_call::TsvCall;
-
-#[cfg(test)]
-mod tests;

@@ -52,7 +52,7 @@ impl Outcome {
 
     /// An evaluation that ended with this error, whose trace begins with its message.
     ///
-    /// `NoMemory` where the memory for the trace is refused.
+    /// `NoMemory` if the memory for the trace is refused.
     pub fn failed(message: Text) -> Result<Self, NoMemory>
         ensures failed { IfOk result (λ outcome. outcome ≡ failed message) }
     {
@@ -67,7 +67,7 @@ impl Outcome {
 
     /// The error that words are too few or too many for a usage.
     ///
-    /// `NoMemory` where the memory for it is refused.
+    /// `NoMemory` if the memory for it is refused.
     pub fn wrong_number(alloc: Global, usage: &[u8]) -> Result<Self, NoMemory>
         ensures failed { IfOk result (λ outcome. outcome ≡ failed (usages.wrong_number usage.now)) }
     {
@@ -77,7 +77,7 @@ impl Outcome {
 
     /// The error that a word is no option, or no subcommand.
     ///
-    /// `NoMemory` where the memory for it is refused.
+    /// `NoMemory` if the memory for it is refused.
     pub fn bad_option(alloc: Global, word: &[u8]) -> Result<Self, NoMemory>
         ensures failed { IfOk result (λ outcome. outcome ≡ failed (usages.bad_option word.now)) }
     {
@@ -87,7 +87,7 @@ impl Outcome {
 
     /// A second outcome that is equal.
     ///
-    /// `NoMemory` where the memory for it is refused.
+    /// `NoMemory` if the memory for it is refused.
     pub fn copy(&self) -> Result<Self, NoMemory>
         ensures copied { IfOk result (λ outcome. outcome ≡ self.now) }
     {

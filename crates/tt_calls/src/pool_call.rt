@@ -4,7 +4,8 @@ use tt_text::{Text, Texts};
 /// A call on a pool of workers (tpool(n)).
 #[derive(Debug, Drop)]
 pub enum PoolCall {
-    /// Make a pool of at least `least` and at most `most` workers, with its scripts for new ones and for those that end.
+    /// Make a pool of at least `least` and at most `most` workers, with its scripts for new ones and for those that
+    /// end.
     Create {
         least: u32,
         most: u32,
@@ -19,7 +20,7 @@ pub enum PoolCall {
         script: Text,
         detached: bool,
     },
-    /// Which of the jobs are done; where none is and one is pending, wait for an event.
+    /// Which of the jobs are done; if none is and one is pending, wait for an event.
     Look {
         pool: Text,
         jobs: Texts,

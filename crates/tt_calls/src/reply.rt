@@ -13,7 +13,7 @@ pub enum Reply {
     Value(Text),
     /// The error of the command.
     Refused(Text),
-    /// Whether there is such an element, and its value, which is empty where there is none.
+    /// Whether there is such an element, and its value, which is empty if there is none.
     Found(bool, Text),
     /// The number of the post.
     Posted(u64),

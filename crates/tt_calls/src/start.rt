@@ -14,7 +14,7 @@ pub enum Start {
 impl Start {
     /// A second start that is equal.
     ///
-    /// `NoMemory` where the memory for it is refused.
+    /// `NoMemory` if the memory for it is refused.
     pub fn copy(&self) -> Result<Start, NoMemory>
         ensures copied { IfOk result (λ start. start ≡ self.now) }
     {

@@ -1,4 +1,4 @@
-//! How words that a command doesn't take are told.
+//! How words that a command doesn't take are reported.
 ghost use Rattle.std.specs.Prelude.{◌≡◌, IfOk};
 ghost use Rattle.tt_calls.specs.Usages as usages;
 
@@ -7,7 +7,7 @@ use tt_text::{NoMemory, Text, quoting};
 
 /// That words are too few or too many for a usage.
 ///
-/// `NoMemory` where the memory for it is refused, as for the others.
+/// `NoMemory` if the memory for it is refused, as for the others.
 pub fn wrong_number(alloc: Global, usage: &[u8]) -> Result<Text, NoMemory>
     ensures told { IfOk result (λ message. message ≡ usages.wrong_number usage.now) }
 {

@@ -1,10 +1,9 @@
 -- Who holds a lock: what is done to one lock keeps the rule, and so does each call.
-use Rattle.std.proofs.Common.{◌≡◌, ◌∙◌, ◌≤◌, ◌+◌, ◌&&◌, ◌||◌, ◌==◌, ℕ, zero, suc, Bool, true, false, not, cond, if◌then◌else◌, List, [], ◌∷◌, ◌++◌, length, take, drop, Option, Some, None, IfSome, ap, refl, sym, subst, arith, rules}
+use Rattle.std.proofs.Common.{◌≡◌, ◌∙◌, ◌≤◌, ◌&&◌, ◌||◌, ◌==◌, ℕ, zero, suc, Bool, true, false, not, cond, if◌then◌else◌, List, [], ◌∷◌, ◌++◌, length, take, drop, Option, Some, None, IfSome, ap, refl, sym, subst, arith, rules}
 use Rattle.std.proofs.lemmas.List.Elements.{All-append, All-drop, All-head, All-tail, All-take}
 use Rattle.std.proofs.lemmas.Map.Views.{All-map-remove_entry, All-values-insert_entry, All-values-set_value, IfSome-lookup_from_All}
-use Rattle.std.specs.List.{All, list_any, prefix_len, remove}
+use Rattle.std.specs.List.{All, prefix_len, remove}
 use Rattle.std.specs.Cmp.Lexicographic.{slice_cmp}
-use Rattle.std.specs.Map.{lookup, values_of}
 use Rattle.std.specs.Ordering.{nat_cmp}
 use Rattle.tt_calls.specs.declared.lock_call.Family.{Family}
 use Rattle.tt_calls.specs.declared.lock_call.Family.TheVariants as family
@@ -12,10 +11,11 @@ use Rattle.tt_calls.specs.declared.lock_call.Kind.{Kind}
 use Rattle.tt_calls.specs.declared.lock_call.Kind.TheVariants.{Exclusive, Recursive, ReadWrite, Condition}
 use Rattle.tt_calls.specs.declared.lock_call.LockCall.{LockCall}
 use Rattle.tt_calls.specs.declared.lock_call.LockCall.TheVariants as ask
-use Rattle.tt_locks.specs.Answers.{act, acts, acts_on, begins, cond_waits, destroys, destroys_named, gives_up, is_held, table_after, waits, waits_where}
-use Rattle.tt_locks.specs.Laws.{AreAllowed, AreOfOne, HasOneHolder, HaveOneHolder, OneHolderLaw}
+use Rattle.tt_calls.specs.Replies.{refuses}
+use Rattle.tt_locks.specs.Calls.{act, acts, acts_on, begins, cond_waits, destroys, destroys_named, gives_up, is_first, is_held, table_after, waits, waits_where}
+use Rattle.tt_locks.specs.LockLaws.{AreAllowed, AreOfOne, HasOneHolder, HaveOneHolder, OneHolderLaw}
 use Rattle.tt_locks.specs.Lock.{Done, does, family_of, free, has_none, held, holds, is_among, is_held_by_others, is_owned, locks, read_locks, unheld, unlocks, waits_alone, without_one, write_locks}
-use Rattle.tt_locks.specs.Table.{LockTable, in_family, is_id, is_same, lock_in, lock_of, new_id, no_locks, with_lock, with_new, without_lock}
+use Rattle.tt_locks.specs.Table.{LockTable, in_family, is_id, is_same, lock_in, lock_of, new_id, with_lock}
 use Rattle.tt_locks.specs.declared.lock.Deed.{Deed}
 use Rattle.tt_locks.specs.declared.lock.Deed.TheVariants as deed
 use Rattle.tt_locks.specs.declared.lock.Lock.{Lock}
@@ -191,8 +191,11 @@ destroys-one table which text (Some lock) have = go (has_none lock.holders && ha
     go false e = rw e have
 
 named-one : (table : LockTable) (which : Family) (text : List ℕ) → HaveOneHolder table → HaveOneHolder (destroys_named table which text).table
-named-one table which [] have = have
-named-one table which (b ∷ text) have = destroys-one table which (b ∷ text) (lock_in table which (b ∷ text)) have
+named-one table which text have = go (is_first which text)
+  where
+    go : (first : Bool) → HaveOneHolder (if first then refuses table [] else destroys table which text (lock_in table which text)).table
+    go true = have
+    go false = destroys-one table which text (lock_in table which text) have
 
 begins-one : (table : LockTable) (t : ℕ) (condition : List ℕ) → HaveOneHolder table → HaveOneHolder (begins table t condition).table
 begins-one table t condition have = acts-one table t deed.Wait family.Condition condition have (λ lock e. one-in table family.Condition condition lock have e)

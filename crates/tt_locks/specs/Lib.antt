@@ -1,4 +1,4 @@
-pub mod Answers
-pub mod Laws
+pub mod Calls
 pub mod Lock
+pub mod LockLaws
 pub mod Table

@@ -1,6 +1,6 @@
 -- One lock, and what a thread does to it (thread(n), thread::mutex, thread::rwmutex, thread::cond). A lock has a list
 -- of holders, a thread once for each hold that it has, and a condition variable a list of threads that wait for it.
-use Rattle.std.specs.Prelude.{ℕ, Bool, true, false, ◌&&◌, ◌||◌, ◌==◌, not, List, [], ◌∷◌, ◌++◌, codes, if◌then◌else◌}
+use Rattle.std.specs.Prelude.{ℕ, Bool, true, false, ◌&&◌, ◌==◌, not, List, [], ◌∷◌, ◌++◌, codes, if◌then◌else◌}
 use Rattle.std.specs.List.{list_any, prefix_len, remove}
 use Rattle.tt_calls.specs.declared.lock_call.Family.{Family}
 use Rattle.tt_calls.specs.declared.lock_call.Family.TheVariants as family

@@ -1,5 +1,5 @@
 -- All locks, by their ids (thread(n)).
-use Rattle.std.specs.Prelude.{ℕ, ◌+◌, Bool, true, false, List, [], ◌∷◌, ◌++◌, codes, Option, Some, None, if◌then◌else◌}
+use Rattle.std.specs.Prelude.{ℕ, ◌+◌, Bool, true, false, List, [], ◌∷◌, Option, Some, None, if◌then◌else◌}
 use Rattle.std.specs.BTreeMap.{insert_entry, is_at}
 use Rattle.std.specs.Cmp.Lexicographic.{slice_cmp}
 use Rattle.std.specs.Map.{lookup, remove_entry, set_value}
@@ -54,7 +54,7 @@ is_same family.ReadWrite family.ReadWrite = true
 is_same family.Condition family.Condition = true
 is_same one other = false
 
--- the lock of an id, where it is one of this family
+-- the lock of an id, if it is one of this family
 abbrev pub in_family : Family → Option Lock → Option Lock
 in_family which None = None
 in_family which (Some lock) = if is_same which (family_of lock.kind) then Some lock else None

@@ -1,8 +1,7 @@
 ghost use Rattle.std.specs.Prelude.{◌≡◌, IfOk, OnOk};
-ghost use Rattle.tt_calls.specs.declared.lock_call.Family.TheVariants.{Condition};
 ghost use Rattle.tt_calls.specs.declared.reply.Reply.TheVariants.{Refused, Value};
-ghost use Rattle.tt_locks.specs.Answers.{act, acts, cond_waits, destroys_named, in_use, missing, step_after, table_after};
-ghost use Rattle.tt_locks.specs.Table.{lock_in, new_id, with_new};
+ghost use Rattle.tt_locks.specs.Calls.{act, acts, begins_wait, destroys_named, in_use, is_first, missing, step_after, table_after};
+ghost use Rattle.tt_locks.specs.Table.{new_id, with_new};
 
 use crate::lock::{Deed, refused};
 use crate::numbers::names_of;
@@ -13,10 +12,10 @@ use tt_ids::id_text;
 use tt_text::{NoMemory, Text};
 
 impl Locks {
-    /// What a call of a thread on locks does, and its reply; `Wait` exactly where it has to wait, and then nothing is
+    /// What a call of a thread on locks does, and its reply; `Wait` exactly if it has to wait, and then nothing is
     /// done (thread(n)).
     ///
-    /// `NoMemory` where memory for a lock, a hold or the reply is refused.
+    /// `NoMemory` if memory for a lock, a hold or the reply is refused.
     pub fn apply(&mut self, thread: u32, call: &LockCall) -> Result<Step, NoMemory>
         ensures table { OnOk result (self.new ≡ table_after self.old thread call.now) }
         ensures step { IfOk result (λ step. step ≡ step_after self.old thread call.now) }
@@ -82,12 +81,12 @@ impl Locks {
         }
     }
 
-    // A lock that is not in use is removed.
+    // A lock that is not in use is removed; no command destroys the mutex of the empty id.
     fn destroy(&mut self, family: Family, id: &Text) -> Result<Reply, NoMemory>
         ensures table { OnOk result (self.new ≡ (destroys_named self.old family id.now).table) }
         ensures reply { IfOk result (λ reply. reply ≡ (destroys_named self.old family id.now).reply) }
     {
-        if id.is_empty() {
+        if is_first(family, id) {
             return Ok(Reply::Refused(Text::new(self.alloc)));
         }
         let Some(lock) = self.find(family, id) else {
@@ -102,8 +101,8 @@ impl Locks {
 
     // The thread gives its mutex up, and begins to wait for the condition.
     fn wait(&mut self, thread: u32, cond: &Text, mutex: &Text) -> Result<Reply, NoMemory>
-        ensures table { OnOk result (self.new ≡ (cond_waits self.old thread cond.now mutex.now (lock_in self.old Condition cond.now)).table) }
-        ensures reply { IfOk result (λ reply. reply ≡ (cond_waits self.old thread cond.now mutex.now (lock_in self.old Condition cond.now)).reply) }
+        ensures table { OnOk result (self.new ≡ (begins_wait self.old thread cond.now mutex.now).table) }
+        ensures reply { IfOk result (λ reply. reply ≡ (begins_wait self.old thread cond.now mutex.now).reply) }
     {
         if self.find(Family::Condition, cond).is_none() {
             return missing(self.alloc, Family::Condition, cond);
@@ -117,6 +116,16 @@ impl Locks {
         }
         self.acts_on(Deed::Free, thread, Family::Mutex, mutex)?;
         self.acts_on(Deed::Wait, thread, Family::Condition, cond)
+    }
+}
+
+// Whether it is the mutex of the empty id.
+fn is_first(family: Family, id: &Text) -> bool
+    ensures { result ≡ is_first family id.now }
+{
+    match family {
+        Family::Mutex => id.is_empty(),
+        Family::ReadWrite | Family::Condition => false,
     }
 }
 

@@ -61,7 +61,7 @@ impl Holders {
         }
     }
 
-    // Where the first of a thread stands; the length where there is none.
+    // Where the first of a thread stands; the length if there is none.
     fn place(&self, thread: u32) -> usize
         ensures place { result ≡ prefix_len (λ holder. not (holder == thread)) self.now }
         ensures within { result ≤ length self.now }

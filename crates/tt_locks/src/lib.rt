@@ -12,6 +12,3 @@ pub use holders::Holders;
 pub use lock::Lock;
 pub use locks::Locks;
 pub use numbers::Numbers;
-
-#[cfg(test)]
-mod tests;

@@ -1,6 +1,6 @@
 ghost use Rattle.std.specs.Prelude.{◌≡◌, IfOk, OnOk, option_copied};
 ghost use Rattle.tt_calls.specs.declared.lock_call.Family.TheVariants.{Mutex, ReadWrite, Condition};
-ghost use Rattle.tt_locks.specs.Answers.{act, step_after, table_after, waits};
+ghost use Rattle.tt_locks.specs.Calls.{act, step_after, table_after, waits};
 ghost use Rattle.tt_locks.specs.Table.{lock_in, no_locks};
 
 use crate::numbers::{Numbers, names_of};
@@ -46,7 +46,7 @@ impl Locks {
         }
     }
 
-    // The lock of an id, where it is one of this family.
+    // The lock of an id, if it is one of this family.
     pub(crate) fn find(&self, family: Family, id: &Text) -> Option<&Lock>
         ensures { option_copied result ≡ lock_in self.now family id.now }
     {

@@ -4,6 +4,3 @@
 mod queue;
 
 pub use queue::Queue;
-
-#[cfg(test)]
-mod tests;

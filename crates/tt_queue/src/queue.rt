@@ -40,7 +40,7 @@ impl Queue {
 
     /// Adds an event behind all others.
     ///
-    /// `NoMemory` where memory for it is refused; then the queue is as it was.
+    /// `NoMemory` if memory for it is refused; then the queue is as it was.
     pub fn push_tail(&mut self, event: Event) -> Result<(), NoMemory>
         ensures pushed { OnOk result (self.new ≡ self.old ++ event ∷ []) }
         ensures unchanged { OnErr result (self.new ≡ self.old) }
@@ -53,7 +53,7 @@ impl Queue {
 
     /// Adds an event before all others.
     ///
-    /// `NoMemory` where memory for it is refused; then the queue is as it was.
+    /// `NoMemory` if memory for it is refused; then the queue is as it was.
     pub fn push_head(&mut self, event: Event) -> Result<(), NoMemory>
         ensures pushed { OnOk result (self.new ≡ event ∷ self.old) }
         ensures unchanged { OnErr result (self.new ≡ self.old) }
@@ -64,7 +64,7 @@ impl Queue {
         Ok(())
     }
 
-    /// Takes the first event out; None where there is none. It takes no memory.
+    /// Takes the first event out; None if there is none. It takes no memory.
     pub fn take(&mut self) -> Option<Event>
         ensures taken { self.old ≡ option_to_list result ++ self.new }
         ensures none { result ≡ None ↔ (self.old ≡ []) }

@@ -3,7 +3,6 @@ use Rattle.std.specs.Prelude.{ℕ, Bool, true, false, List, [], map, Option, Som
 use Rattle.std.specs.Ordering.{nat_cmp}
 use Rattle.std.specs.BTreeMap.{insert_entry, is_at}
 use Rattle.std.specs.Map.{lookup, remove_entry, set_value}
-use Rattle.tt_calls.specs.declared.outcome.Outcome.{Outcome}
 use Rattle.tt_slots.specs.declared.slot.Slot.{Slot}
 use Rattle.tt_slots.specs.declared.slot.SlotState.{SlotState}
 use Rattle.tt_slots.specs.declared.slot.SlotState.TheVariants.{Waiting, Result, Died}
@@ -17,7 +16,7 @@ pub record OpenSlots : Type 0 where
 abbrev pub no_slots : OpenSlots
 no_slots = record { open_slots = []; greatest = 0 }
 
--- the slot of a number, and what it has; none where it isn't open
+-- the slot of a number, and what it has; none if it isn't open
 abbrev pub slot_of : OpenSlots → ℕ → Option Slot
 slot_of slots n = lookup (is_at (nat_cmp n)) slots.open_slots
 

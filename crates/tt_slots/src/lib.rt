@@ -6,6 +6,3 @@ mod slots;
 
 pub use slot::{Slot, SlotState};
 pub use slots::Slots;
-
-#[cfg(test)]
-mod tests;

@@ -38,7 +38,7 @@ impl Slots {
 
     /// Opens slot `n`, by which the thread `sender` waits for an answer of the thread `target`.
     ///
-    /// `NoMemory` where memory for it is refused; then the slots are as they were.
+    /// `NoMemory` if memory for it is refused; then the slots are as they were.
     pub fn add(&mut self, n: u64, sender: u32, target: u32) -> Result<(), NoMemory>
         requires { self.old.greatest < n }
         ensures opened { OnOk result (self.new ≡ with_slot self.old n sender target) }
@@ -74,7 +74,7 @@ impl Slots {
         });
     }
 
-    /// Answers what slot `n`, which is open, has, and closes it where it doesn't wait. It takes no memory.
+    /// Answers what slot `n`, which is open, has, and closes it if it doesn't wait. It takes no memory.
     pub fn take(&mut self, n: u64) -> SlotState
         requires { IsSome (state_of self.old n) }
         ensures state { state_of self.old n ≡ Some result }
@@ -88,14 +88,14 @@ impl Slots {
         slot.state
     }
 
-    /// Slot `n`; None exactly where it isn't open. It takes no memory.
+    /// Slot `n`; None exactly if it isn't open. It takes no memory.
     pub fn slot(&self, n: u64) -> Option<&Slot>
         ensures slot { option_copied result ≡ slot_of self.now n }
     {
         self.slots.get(&n)
     }
 
-    /// Whether slot `n` waits; None exactly where it isn't open. It takes no memory.
+    /// Whether slot `n` waits; None exactly if it isn't open. It takes no memory.
     pub fn waits(&self, n: u64) -> Option<bool>
         ensures waits { result ≡ option_map is_waiting (state_of self.now n) }
     {

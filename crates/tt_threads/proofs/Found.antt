@@ -7,7 +7,7 @@ use Rattle.std.specs.Str.{bytes_eq}
 use Rattle.tt_ids.proofs.CallerLemmas.{ids_differ}
 use Rattle.tt_ids.specs.Ids.{id}
 use Rattle.tt_ids.specs.declared.id.IdKind.TheVariants.{Thread}
-use Rattle.tt_threads.specs.Rows.{found_from, made}
+use Rattle.tt_threads.specs.Rows.{found_from, thread_of_id}
 use Rattle.tt_threads.specs.declared.row.Life.{Life}
 use Rattle.tt_threads.specs.declared.row.Row.{Row}
 
@@ -65,10 +65,10 @@ pub not_numbered : (p : Life → Bool) (rows : List Row) (text : List ℕ) → (
 not_numbered p rows text none = none_found p 1 rows text (λ n low high. none n low (omega (arith, high)))
 
 -- the numbers that were made are those of rows
-pub made_is : (rows : List Row) (text : List ℕ) (found : Option ℕ) → length rows < 2 ^ 32 → IfSome found (λ n. (1 ≤ n) × (n ≤ length rows) × (text ≡ id Thread n)) → IfNone found ((n : ℕ) → 1 ≤ n → n ≤ length rows → text ≢ id Thread n) → found ≡ made rows text
+pub made_is : (rows : List Row) (text : List ℕ) (found : Option ℕ) → length rows < 2 ^ 32 → IfSome found (λ n. (1 ≤ n) × (n ≤ length rows) × (text ≡ id Thread n)) → IfNone found ((n : ℕ) → 1 ≤ n → n ≤ length rows → text ≢ id Thread n) → found ≡ thread_of_id rows text
 made_is rows text None few some none = sym (not_numbered (λ life. true) rows text none)
 made_is rows text (Some n) few some none = go (slice_get_cases rows (n - 1)).1
   where
-    go : ((row : Row) × (n - 1 < length rows) × (slice_get rows (n - 1) ≡ Some row) × (get_or rows (n - 1) row ≡ row)) ⊎ ((length rows ≤ n - 1) × (slice_get rows (n - 1) ≡ None)) → Some n ≡ made rows text
+    go : ((row : Row) × (n - 1 < length rows) × (slice_get rows (n - 1) ≡ Some row) × (get_or rows (n - 1) row ≡ row)) ⊎ ((length rows ≤ n - 1) × (slice_get rows (n - 1) ≡ None)) → Some n ≡ thread_of_id rows text
     go (inl there) = sym (numbered (λ life. true) n rows there.0 text few some (sym there.3))
     go (inr past) = absurd (omega (arith, past.0, some.0, some.1))

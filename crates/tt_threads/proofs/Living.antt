@@ -1,5 +1,5 @@
 -- A thread that lives has a row, and one that ends is one less that lives.
-use Rattle.std.proofs.Common.{◌≡◌, ◌<◌, ◌≤◌, ◌+◌, ◌-◌, ◌==◌, ◌⊎◌, inl, inr, ℕ, Bool, true, false, List, length, Option, Some, None, slice_get, slice_set, get_or, if◌then◌else◌, cond, IsTrue, refl, sym, subst, rules, arith, tests}
+use Rattle.std.proofs.Common.{◌≡◌, ◌<◌, ◌≤◌, ◌+◌, ◌-◌, ◌==◌, ◌⊎◌, inl, inr, ℕ, Bool, true, false, List, length, Some, None, slice_get, slice_set, get_or, if◌then◌else◌, cond, IsTrue, refl, subst, rules, arith}
 use Rattle.std.proofs.lemmas.List.Sums.{sum_by-set}
 use Rattle.std.proofs.lemmas.Option.{get_or_from_slice_get, slice_get_cases}
 use Rattle.tt_threads.specs.Rows.{is_living, is_living_at, lives, living, row_of}

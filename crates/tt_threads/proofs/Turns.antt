@@ -1,6 +1,6 @@
 -- One setting more of a list of them.
-use Rattle.std.proofs.Common.{◌≡◌, ℕ, List, ◌∷◌, Option, Some, option_and_then, refl, subst, sym, ap, ◌∙◌}
-use Rattle.tt_threads.specs.Answers.{with_setting, with_settings}
+use Rattle.std.proofs.Common.{◌≡◌, ℕ, List, ◌∷◌, Option, Some, refl, sym, ap, ◌∙◌}
+use Rattle.tt_threads.specs.Requests.{with_setting, with_settings}
 use Rattle.tt_threads.specs.declared.configure.Settings.{Settings}
 
 pub after_one : (rest later left : List (List ℕ)) (name value : List ℕ) (now next : Settings) (all : Option Settings) → rest ≡ name ∷ later → later ≡ value ∷ left → with_setting name value now ≡ Some next → with_settings rest now ≡ all → with_settings left next ≡ all

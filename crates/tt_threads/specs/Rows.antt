@@ -1,6 +1,7 @@
 -- The rows of the threads, which are numbered from 1 (thread(n)).
-use Rattle.std.specs.Prelude.{ℕ, suc, ◌-◌, ◌==◌, Bool, true, false, ◌&&◌, nat_lt, List, [], ◌∷◌, ◌++◌, length, count_by, Option, Some, None, slice_get, slice_set, if◌then◌else◌, ℤ, pos}
+use Rattle.std.specs.Prelude.{ℕ, suc, Bool, true, false, ◌&&◌, nat_lt, List, [], ◌∷◌, ◌++◌, length, count_by, Option, Some, None, if◌then◌else◌, ℤ, pos}
 use Rattle.std.specs.Str.{bytes_eq}
+use Rattle.tt_calls.specs.Numbers.{at_number, with_at}
 use Rattle.tt_calls.specs.declared.start.Start.{Start}
 use Rattle.tt_ids.specs.Ids.{id}
 use Rattle.tt_ids.specs.declared.id.IdKind.TheVariants.{Thread}
@@ -30,7 +31,7 @@ most_living = 1000
 
 -- the row of a thread
 abbrev pub row_of : List Row → ℕ → Option Row
-row_of rows number = if number == 0 then None else slice_get rows (number - 1)
+row_of rows number = at_number rows number
 
 -- whether a thread was made and lives
 abbrev pub is_living_at : Option Row → Bool
@@ -42,9 +43,9 @@ is_living rows number = is_living_at (row_of rows number)
 
 -- the rows with another one for that thread
 abbrev pub with_row : List Row → ℕ → Row → List Row
-with_row rows number row = slice_set rows (number - 1) row
+with_row rows number row = with_at rows number row
 
--- the thread of this id among those of whose lives this is true, where they are numbered from here
+-- the thread of this id among those of whose lives this is true, the first of them having this number
 abbrev pub found_from : (Life → Bool) → ℕ → List Row → List ℕ → Option ℕ
 found_from counts number [] text = None
 found_from counts number (row ∷ rows) text =
@@ -56,10 +57,10 @@ abbrev pub linked : List Row → List ℕ → Option ℕ
 linked rows text = found_from is_linked 1 rows text
 
 -- the thread of this id, whatever became of it
-abbrev pub made : List Row → List ℕ → Option ℕ
-made rows text = found_from (λ life. true) 1 rows text
+abbrev pub thread_of_id : List Row → List ℕ → Option ℕ
+thread_of_id rows text = found_from (λ life. true) 1 rows text
 
--- the row of a new thread, which is held once where it is preserved (thread::create)
+-- the row of a new thread, which is held once if it is preserved (thread::create)
 abbrev pub new_row : Start → (joinable preserved : Bool) → Row
 new_row start joinable preserved = record {
   start = start;
@@ -71,7 +72,7 @@ new_row start joinable preserved = record {
   unwind = false;
 }
 
--- the number of a thread that is made: none where the most live already
+-- the number of a thread that is made: none if the most live already
 abbrev pub number_made : List Row → Option ℕ
 number_made rows = if nat_lt (living rows) most_living then Some (suc (length rows)) else None
 

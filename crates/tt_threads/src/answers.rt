@@ -1,8 +1,9 @@
 ghost use Rattle.std.specs.Prelude.{◌≡◌, ◌<◌, ◌-◌, ◌^◌, ◌++◌, codes, IfOk, IfNone, IfSome, OnOk, length, ℕ, None, is_some};
 ghost use Rattle.tt_calls.specs.declared.reply.Reply.TheVariants.{Value};
 ghost use Rattle.tt_lists.specs.Spelling.{list_of};
-ghost use Rattle.tt_threads.specs.Answers.{act, bit, configures_at, counts_at, exits, has_no_thread, joins, joins_at, linked_ids, named, preserved, released, set, told_reply};
-ghost use Rattle.tt_threads.specs.Rows.{linked, made, row_of};
+ghost use Rattle.tt_threads.specs.Requests.{act, bit, configures_of, counts_of, exits, has_no_thread, joins_named, joins_of, linked_ids, named, preserved, released, told_reply};
+ghost use Rattle.tt_threads.specs.inside.Settings.{set};
+ghost use Rattle.tt_threads.specs.Rows.{linked, row_of};
 
 use crate::configure::{Settings, bit};
 use crate::{Life, Row, Threads, find};
@@ -14,11 +15,11 @@ use tt_number::whole_text;
 use tt_text::{NoMemory, Text, Texts};
 
 impl Threads {
-    /// What a request of the thread `asker` on the table of threads does to it, and its reply: Preserve, Release, Names,
-    /// Exists, Join, AwaitEnd of a thread that has ended, and Configure. Any other is refused with the empty text. The
-    /// stop that a release sends is not sent here (thread(n)).
+    /// What a request of the thread `asker` on the table of threads does to it, and its reply: Preserve, Release,
+    /// Names, Exists, Join, AwaitEnd of a thread that has ended, and Configure. Any other is refused with the empty
+    /// text. The stop that a release sends is not sent here (thread(n)).
     ///
-    /// `NoMemory` where memory for the reply is refused.
+    /// `NoMemory` if memory for the reply is refused.
     pub fn apply(&mut self, asker: u32, request: &Request) -> Result<Reply, NoMemory>
         ensures rows { OnOk result (self.new ≡ (act self.old asker request.now).rows) }
         ensures reply { IfOk result (λ reply. reply ≡ (act self.old asker request.now).reply) }
@@ -80,10 +81,10 @@ impl Threads {
 
     // The thread of this id is waited for.
     fn join_named(&mut self, asker: u32, id: &Text) -> Result<Reply, NoMemory>
-        ensures rows { OnOk result (self.new ≡ (joins self.old asker id.now (made self.old id.now)).rows) }
-        ensures reply { IfOk result (λ reply. reply ≡ (joins self.old asker id.now (made self.old id.now)).reply) }
+        ensures rows { OnOk result (self.new ≡ (joins_named self.old asker id.now).rows) }
+        ensures reply { IfOk result (λ reply. reply ≡ (joins_named self.old asker id.now).reply) }
     {
-        match find::made(self.rows.as_slice(), id.as_bytes()) {
+        match find::thread_of_id(self.rows.as_slice(), id.as_bytes()) {
             None => self.no_thread(id),
             Some(number) if number == asker => {
                 let message = Text::from_bytes(self.alloc, b"cannot join oneself")?;
@@ -93,10 +94,10 @@ impl Threads {
         }
     }
 
-    // The settings of a thread are told or changed.
+    // The settings of a thread are answered or changed.
     fn configure(&mut self, number: u32, words: &[Text]) -> Result<Reply, NoMemory>
-        ensures rows { OnOk result (self.new ≡ (configures_at self.old number words.now (row_of self.old number)).rows) }
-        ensures reply { IfOk result (λ reply. reply ≡ (configures_at self.old number words.now (row_of self.old number)).reply) }
+        ensures rows { OnOk result (self.new ≡ (configures_of self.old number words.now).rows) }
+        ensures reply { IfOk result (λ reply. reply ≡ (configures_of self.old number words.now).reply) }
     {
         let Some(place) = self.place(number) else {
             return Ok(Reply::Refused(Text::new(self.alloc)));
@@ -114,7 +115,7 @@ impl Threads {
         }
     }
 
-    // Where the row of a thread is; none where there is none.
+    // Where the row of a thread is; none if there is none.
     fn place(&self, number: u32) -> Option<usize>
         ensures found { IfSome result (λ place. (place < length self.now) × (place ≡ number - 1) × (0 < number)) }
         ensures none { IfNone result (row_of self.now number ≡ None) }
@@ -126,8 +127,8 @@ impl Threads {
     // One hold more of a thread.
     #[tactic(auto, using(crate::proofs::Living::living_same))]
     fn preserve(&mut self, number: u32) -> Result<Reply, NoMemory>
-        ensures rows { OnOk result (self.new ≡ (counts_at preserved self.old number (row_of self.old number)).rows) }
-        ensures reply { IfOk result (λ reply. reply ≡ (counts_at preserved self.old number (row_of self.old number)).reply) }
+        ensures rows { OnOk result (self.new ≡ (counts_of preserved self.old number).rows) }
+        ensures reply { IfOk result (λ reply. reply ≡ (counts_of preserved self.old number).reply) }
     {
         let Some(place) = self.place(number) else {
             return Ok(Reply::Refused(Text::new(self.alloc)));
@@ -138,11 +139,12 @@ impl Threads {
         let text = whole_text(self.alloc, count)?;
         Ok(Reply::Value(text))
     }
+
     // One hold less of a thread.
     #[tactic(auto, using(crate::proofs::Living::living_same))]
     fn release(&mut self, number: u32) -> Result<Reply, NoMemory>
-        ensures rows { OnOk result (self.new ≡ (counts_at released self.old number (row_of self.old number)).rows) }
-        ensures reply { IfOk result (λ reply. reply ≡ (counts_at released self.old number (row_of self.old number)).reply) }
+        ensures rows { OnOk result (self.new ≡ (counts_of released self.old number).rows) }
+        ensures reply { IfOk result (λ reply. reply ≡ (counts_of released self.old number).reply) }
     {
         let Some(place) = self.place(number) else {
             return Ok(Reply::Refused(Text::new(self.alloc)));
@@ -157,8 +159,8 @@ impl Threads {
     // The thread of this id is waited for, which can be once.
     #[tactic(auto, using(crate::proofs::Living::living_same))]
     fn join(&mut self, id: &Text, number: u32) -> Result<Reply, NoMemory>
-        ensures rows { OnOk result (self.new ≡ (joins_at self.old id.now number (row_of self.old number)).rows) }
-        ensures reply { IfOk result (λ reply. reply ≡ (joins_at self.old id.now number (row_of self.old number)).reply) }
+        ensures rows { OnOk result (self.new ≡ (joins_of self.old id.now number).rows) }
+        ensures reply { IfOk result (λ reply. reply ≡ (joins_of self.old id.now number).reply) }
     {
         let Some(place) = self.place(number) else {
             return Ok(Reply::Refused(Text::new(self.alloc)));
@@ -231,7 +233,7 @@ fn linked_ids(alloc: Global, rows: &[Row]) -> Result<Texts, NoMemory>
     Ok(ids)
 }
 
-// All settings where no word asks for one.
+// All settings if no word asks for one.
 fn told(alloc: Global, settings: Settings, words: &[Text]) -> Result<Reply, NoMemory>
     ensures { IfOk result (λ reply. reply ≡ told_reply settings words.now) }
 {

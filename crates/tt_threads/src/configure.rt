@@ -1,6 +1,6 @@
 ghost use Rattle.std.specs.Prelude.{◌≡◌, IfOk};
 ghost use Rattle.tt_lists.specs.Spelling.{list_of};
-ghost use Rattle.tt_threads.specs.Answers.{bit, setting_of, settings, settings_of, with_mark, with_setting, with_settings};
+ghost use Rattle.tt_threads.specs.Requests.{bit, setting_of, settings, settings_of, with_mark, with_setting, with_settings};
 
 use crate::Row;
 use std::alloc::Global;
@@ -58,7 +58,7 @@ impl Settings {
         Ok(None)
     }
 
-    /// They with the options and values in turn; none where one of them is none.
+    /// They with the options and values in turn; none if one of them is none.
     pub(crate) fn with_all(self, words: &[Text]) -> Option<Settings>
         ensures { result ≡ with_settings words.now self }
     {

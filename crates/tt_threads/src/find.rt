@@ -1,7 +1,7 @@
 ghost use Rattle.std.specs.Prelude.{◌≡◌, ◌≢◌, ◌<◌, ◌≤◌, ◌^◌, ℕ, IfNone, IfSome, length};
 ghost use Rattle.tt_ids.specs.Ids.{id as id_of};
 ghost use Rattle.tt_ids.specs.declared.id.IdKind.TheVariants.{Thread};
-ghost use Rattle.tt_threads.specs.Rows.{linked, made};
+ghost use Rattle.tt_threads.specs.Rows.{linked, thread_of_id};
 
 use crate::Row;
 use tt_ids::{IdKind, id_number};
@@ -18,15 +18,15 @@ pub(crate) fn linked(rows: &[Row], id: &[u8]) -> Option<u32>
 }
 
 /// The thread of this id, whatever became of it.
-pub(crate) fn made(rows: &[Row], id: &[u8]) -> Option<u32>
+pub(crate) fn thread_of_id(rows: &[Row], id: &[u8]) -> Option<u32>
     requires { length rows.now < 2 ^ 32 }
-    ensures { result ≡ made rows.now id.now }
+    ensures { result ≡ thread_of_id rows.now id.now }
 {
     let number = number_within(id, rows.len());
     number
 }
 
-// The number of the thread of this id, where so many were made.
+// The number of the thread of this id, if so many were made.
 fn number_within(id: &[u8], count: usize) -> Option<u32>
     requires { count < 2 ^ 32 }
     ensures found { IfSome result (λ n. (1 ≤ n) × (n ≤ count) × (id.now ≡ id_of Thread n)) }

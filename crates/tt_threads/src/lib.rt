@@ -9,6 +9,3 @@ mod threads;
 
 pub use row::{Life, Row};
 pub use threads::Threads;
-
-#[cfg(test)]
-mod tests;

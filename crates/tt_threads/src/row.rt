@@ -1,5 +1,5 @@
 ghost use Rattle.std.specs.Prelude.{◌≡◌, OnOk};
-ghost use Rattle.tt_threads.specs.Answers.{life_at, released};
+ghost use Rattle.tt_threads.specs.Requests.{life_at, released};
 ghost use Rattle.tt_threads.specs.Rows.{is_linked, lives, new_row};
 
 use tt_calls::Start;
@@ -25,7 +25,7 @@ impl Life {
         matches!(self, Life::Live)
     }
 
-    // What it is where so many holds are left.
+    // What it is if so many holds remain.
     fn held(self, count: i64) -> Self
         ensures life { result ≡ life_at count self }
         ensures lives { lives result ≡ lives self }
@@ -64,7 +64,7 @@ pub struct Row {
 }
 
 impl Row {
-    /// A new thread, held once where it is preserved.
+    /// A new thread, held once if it is preserved.
     pub(crate) fn new(start: Start, joinable: bool, preserved: bool) -> Self
         ensures { result ≡ new_row start joinable preserved }
     {

@@ -42,10 +42,10 @@ impl Threads {
         }
     }
 
-    /// Makes a thread with the next number, held once where it is preserved, and answers its number; `None` exactly where
+    /// Makes a thread with the next number, held once if it is preserved, and answers its number; `None` exactly if
     /// 1,000 threads live (thread(n), thread::create).
     ///
-    /// `NoMemory` where memory for it is refused, or a number: they are below 2^32.
+    /// `NoMemory` if memory for it is refused, or a number: they are below 2^32.
     pub fn create(
         &mut self,
         start: Start,
@@ -71,7 +71,7 @@ impl Threads {
         self.row(thread).is_some_and(|row| row.life.lives())
     }
 
-    /// The number of the linked thread of this id; `None` exactly where no thread that lives and isn't marked has it. It
+    /// The number of the linked thread of this id; `None` exactly if no thread that lives and isn't marked has it. It
     /// takes no memory.
     pub fn linked(&self, id: &[u8]) -> Option<u32>
         ensures linked { result ≡ linked self.now id.now }
@@ -79,7 +79,7 @@ impl Threads {
         find::linked(self.rows.as_slice(), id)
     }
 
-    /// The row of a thread; `None` exactly where no thread of that number was made.
+    /// The row of a thread; `None` exactly if no thread of that number was made.
     pub fn row(&self, thread: u32) -> Option<&Row>
         ensures row { option_copied result ≡ row_of self.now thread }
     {

@@ -1,5 +1,5 @@
 use Rattle.std.proofs.Common.{◌≡◌, ◌+◌, ◌++◌, drop}
-use Rattle.tt_threads.specs.Answers.{linked_ids}
+use Rattle.tt_threads.specs.Requests.{linked_ids}
 use Rattle.tt_threads.proofs.answers.linked_ids.Given as goal
 
 abbrev pub invariant-loop-place : goal.invariant-loop-place

@@ -1,4 +1,4 @@
-use Rattle.std.proofs.Common.{rules, ◌≡◌}
+use Rattle.std.proofs.Common.{rules}
 use Rattle.tt_threads.proofs.Found.{not_numbered, numbered}
 use Rattle.tt_threads.specs.Rows.{is_linked}
 use Rattle.tt_threads.proofs.find.linked.Goals as goal

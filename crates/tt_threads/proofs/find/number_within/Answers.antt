@@ -1,4 +1,4 @@
-use Rattle.std.proofs.Common.{arith, ◌≡◌, ◌<◌, ◌^◌}
+use Rattle.std.proofs.Common.{arith, ◌<◌, ◌^◌}
 use Rattle.tt_ids.proofs.CallerLemmas.{ids_differ}
 use Rattle.tt_ids.specs.declared.id.IdKind.TheVariants.{Thread}
 use Rattle.tt_threads.proofs.find.number_within.Goals as goal

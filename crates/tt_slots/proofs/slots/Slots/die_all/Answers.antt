@@ -1,4 +1,4 @@
-use Rattle.std.proofs.Common.{◌≡◌, rules}
+use Rattle.std.proofs.Common.{rules}
 use Rattle.std.proofs.lemmas.Map.Made.{map_same_pairs}
 use Rattle.tt_slots.specs.Waiting.{died_with}
 use Rattle.tt_slots.proofs.slots.Slots.die_all.Goals as goal

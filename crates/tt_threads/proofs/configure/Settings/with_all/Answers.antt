@@ -1,6 +1,6 @@
 use Rattle.std.proofs.Common.{rules, ◌≡◌, ◌∷◌, Some}
 use Rattle.tt_threads.proofs.Turns.{after_one}
-use Rattle.tt_threads.specs.Answers.{with_setting}
+use Rattle.tt_threads.specs.Requests.{with_setting}
 use Rattle.tt_threads.proofs.configure.Settings.with_all.Goals as goal
 
 pub loop-option-preserved : goal.loop-option-preserved

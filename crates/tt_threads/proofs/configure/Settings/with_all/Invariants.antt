@@ -1,5 +1,5 @@
 use Rattle.std.proofs.Common.{◌≡◌, length}
-use Rattle.tt_threads.specs.Answers.{with_settings}
+use Rattle.tt_threads.specs.Requests.{with_settings}
 use Rattle.tt_threads.proofs.configure.Settings.with_all.Given as goal
 
 abbrev pub invariant-loop-option : goal.invariant-loop-option

@@ -1,5 +1,5 @@
-use Rattle.std.proofs.Common.{rules, arith, ◌≡◌, ◌<◌, ◌-◌, IsTrue, subst, sym}
-use Rattle.tt_threads.proofs.Living.{Living, living_less, living_row}
+use Rattle.std.proofs.Common.{rules, arith, ◌-◌, IsTrue, subst, sym}
+use Rattle.tt_threads.proofs.Living.{living_less, living_row}
 use Rattle.tt_threads.specs.Rows.{ended_row, is_living}
 use Rattle.tt_threads.proofs.threads.Threads.end.Goals as goal
 

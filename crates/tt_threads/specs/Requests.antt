@@ -1,5 +1,5 @@
 -- What the requests on the table of threads do to it, and what they are answered: a case each (thread(n)).
-use Rattle.std.specs.Prelude.{ℕ, zero, suc, Bool, true, false, ◌&&◌, ◌==◌, not, nat_lt, length, List, [], ◌∷◌, ◌++◌, codes, Option, Some, None, if◌then◌else◌, slice_get, slice_set, option_and_then, is_some, ℤ, pos, negsuc, ◌+ℤ◌}
+use Rattle.std.specs.Prelude.{ℕ, suc, Bool, true, ◌==◌, not, nat_lt, length, List, [], ◌∷◌, ◌++◌, codes, Option, Some, None, if◌then◌else◌, option_and_then, is_some, ℤ, pos, negsuc, ◌+ℤ◌}
 use Rattle.std.specs.Result.{result_ok}
 use Rattle.std.specs.Fmt.{decimal, signed_decimal}
 use Rattle.std.specs.Int.RustNames.{unsigned_abs}
@@ -12,7 +12,7 @@ use Rattle.tt_ids.specs.Ids.{id}
 use Rattle.tt_ids.specs.declared.id.IdKind.TheVariants.{Thread}
 use Rattle.tt_lists.specs.Spelling.{list_of}
 use Rattle.tt_number.specs.Numerals.{whole_of}
-use Rattle.tt_threads.specs.Rows.{is_linked, linked, made, row_of, with_row}
+use Rattle.tt_threads.specs.Rows.{is_linked, linked, row_of, thread_of_id, with_row}
 use Rattle.tt_threads.specs.declared.configure.Settings.{Settings}
 use Rattle.tt_threads.specs.declared.row.Life.{Life}
 use Rattle.tt_threads.specs.declared.row.Life.TheVariants.{Live, Marked, Ended}
@@ -68,13 +68,16 @@ counts_at change rows number None = is_not_asked rows
 counts_at change rows number (Some row) =
     record { rows = with_row rows number (change row); reply = Value (signed_decimal (change row).count) }
 
+abbrev pub counts_of : (Row → Row) → List Row → ℕ → Answered
+counts_of change rows number = counts_at change rows number (row_of rows number)
+
 abbrev pub counts : (Row → Row) → List Row → List ℕ → Option ℕ → Answered
 counts change rows text None = has_no_thread rows text
-counts change rows text (Some number) = counts_at change rows number (row_of rows number)
+counts change rows text (Some number) = counts_of change rows number
 
 -- ---- thread::names, thread::exists ----
 
--- the ids of the linked threads by number, where they are numbered from here
+-- the ids of the linked threads by number, the first of them being this
 abbrev pub linked_ids : ℕ → List Row → List (List ℕ)
 linked_ids number [] = []
 linked_ids number (row ∷ rows) =
@@ -89,11 +92,17 @@ joins_at rows text number (Some row) =
     if row.joined then refuses rows (codes "thread \"" ++ (text ++ codes "\" is already joined")) else
     record { rows = with_row rows number (record row { joined = true }); reply = Waits number }
 
+abbrev pub joins_of : List Row → (text : List ℕ) → ℕ → Answered
+joins_of rows text number = joins_at rows text number (row_of rows number)
+
 abbrev pub joins : List Row → (asker : ℕ) → (text : List ℕ) → Option ℕ → Answered
 joins rows asker text None = has_no_thread rows text
 joins rows asker text (Some number) =
     if number == asker then refuses rows (codes "cannot join oneself") else
-    joins_at rows text number (row_of rows number)
+    joins_of rows text number
+
+abbrev pub joins_named : List Row → (asker : ℕ) → (text : List ℕ) → Answered
+joins_named rows asker text = joins rows asker text (thread_of_id rows text)
 
 -- the exit code of a thread that has ended
 abbrev pub exits : List Row → Option Row → Answered
@@ -121,7 +130,7 @@ abbrev pub with_mark : Settings → ℤ → Option Settings
 with_mark now (pos mark) = Some (record now { eventmark = mark })
 with_mark now (negsuc n) = None
 
--- a boolean is told as a whole number, 0 for false
+-- a boolean is given as a whole number, 0 for false
 abbrev pub with_unwind : Settings → ℤ → Option Settings
 with_unwind now number = Some (record now { unwind = not (unsigned_abs number == 0) })
 
@@ -133,7 +142,7 @@ with_value name now value =
 abbrev pub with_setting : (name value : List ℕ) → Settings → Option Settings
 with_setting name value now = option_and_then (with_value name now) (result_ok (whole_of value))
 
--- names and values in turn are set from the left; none where one of them is no setting
+-- names and values in turn are set from the left; none if one of them is no setting
 abbrev pub with_settings : List (List ℕ) → Settings → Option Settings
 with_settings [] now = Some now
 with_settings (name ∷ []) now = None
@@ -145,14 +154,6 @@ settings_of row = record { eventmark = row.eventmark; unwind = row.unwind }
 
 abbrev pub put_settings : Row → Settings → Row
 put_settings row now = record row { eventmark = now.eventmark; unwind = now.unwind }
-
--- the rows with other settings of the one at this place
-abbrev pub set_found : List Row → ℕ → Settings → Option Row → List Row
-set_found rows place now None = rows
-set_found rows place now (Some row) = slice_set rows place (put_settings row now)
-
-abbrev pub set : List Row → ℕ → Settings → List Row
-set rows place now = set_found rows place now (slice_get rows place)
 
 abbrev pub sets : List Row → ℕ → Row → Option Settings → Answered
 sets rows number row None = is_not_asked rows
@@ -173,9 +174,12 @@ abbrev pub configures_at : List Row → ℕ → List (List ℕ) → Option Row �
 configures_at rows number words None = is_not_asked rows
 configures_at rows number words (Some row) = configures_row rows number row words
 
+abbrev pub configures_of : List Row → ℕ → List (List ℕ) → Answered
+configures_of rows number words = configures_at rows number words (row_of rows number)
+
 abbrev pub configures : List Row → (text : List ℕ) → List (List ℕ) → Option ℕ → Answered
 configures rows text words None = has_no_thread rows text
-configures rows text words (Some number) = configures_at rows number words (row_of rows number)
+configures rows text words (Some number) = configures_of rows number words
 
 -- ---- all of them ----
 
@@ -186,7 +190,7 @@ act rows asker (ask.Preserve text) = counts preserved rows text (named rows aske
 act rows asker (ask.Release text) = counts released rows text (named rows asker text)
 act rows asker ask.Names = answers rows (list_of (linked_ids 1 rows))
 act rows asker (ask.Exists text) = answers rows (bit (is_some (linked rows text)))
-act rows asker (ask.Join text) = joins rows asker text (made rows text)
+act rows asker (ask.Join text) = joins_named rows asker text
 act rows asker (ask.AwaitEnd number) = exits rows (row_of rows number)
 act rows asker (ask.Configure text words) = configures rows text words (linked rows text)
 act rows asker request = is_not_asked rows

@@ -5,7 +5,7 @@ use Rattle.std.specs.Map.{values_of}
 use Rattle.tt_calls.specs.declared.lock_call.Kind.{Kind}
 use Rattle.tt_calls.specs.declared.lock_call.Kind.TheVariants.{Exclusive, Recursive, ReadWrite, Condition}
 use Rattle.tt_calls.specs.declared.lock_call.LockCall.{LockCall}
-use Rattle.tt_locks.specs.Answers.{table_after}
+use Rattle.tt_locks.specs.Calls.{table_after}
 use Rattle.tt_locks.specs.Table.{LockTable, no_locks}
 use Rattle.tt_locks.specs.declared.lock.Lock.{Lock}
 

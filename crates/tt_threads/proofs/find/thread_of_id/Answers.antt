@@ -1,5 +1,5 @@
 use Rattle.tt_threads.proofs.Found.{made_is}
-use Rattle.tt_threads.proofs.find.made.Goals as goal
+use Rattle.tt_threads.proofs.find.thread_of_id.Goals as goal
 
 pub returns : goal.returns
 returns c =
