@@ -6,6 +6,7 @@ ghost use Rattle.tt_noted.specs.Passes.{IsPassOf, IsSamePass, turn_of};
 
 use std::alloc::{AllocError, Global};
 use std::io::Print;
+use std::marker::PhantomData;
 use std::rt::Clock;
 use std::sync::atomic::AtomicU64;
 use std::sync::atomic::Ordering::SeqCst;
@@ -13,8 +14,7 @@ use std::sync::{Mutex, Wait};
 use std::thread::Threads;
 use std::time::{Duration, Instant};
 use std::{env, io, thread};
-use tt_noted::sharing::Kept;
-use tt_noted::{Noted, Pass};
+use tt_noted::{Noted, Pass, Tie};
 
 // Enters and leaves of all threads together, with and without the argument `time`.
 const TIMED: u64 = 1 << 20;
@@ -23,7 +23,20 @@ const UNTIMED: u64 = 1 << 12;
 
 const RUNS: u32 = 5;
 
-/// What the lock guards: it is counted in, and told when the work is over.
+/// A state of which nothing is noted.
+struct Unnoted<S> {
+    state: PhantomData<S>,
+}
+
+impl<S: Send> Tie for Unnoted<S> {
+    type State = S;
+
+    type Note = ();
+
+    ghost fits = { λ _ _. Unit {0} };
+}
+
+/// What the lock guards: it is counted in, and the count is read when the work is over.
 trait State: Send {
     fn first() -> Self;
 
@@ -68,8 +81,8 @@ impl State for Large {
 
 fn enter_and_leave<R: Wait, S: State>(
     rt: &R,
-    lock: &Noted<Kept<S>>,
-    pass: &mut Pass<Kept<S>>,
+    lock: &Noted<Unnoted<S>>,
+    pass: &mut Pass<Unnoted<S>>,
     rounds: u64,
 )
     requires { IsPassOf lock.now pass.old × (turn_of pass.old ≡ None) }
@@ -97,11 +110,11 @@ fn by_noted<R: Threads + Wait + Sync, S: State + Drop>(
 ) -> Result<u64, AllocError>
     requires { (1 ≤ threads) × (threads ≤ 64) }
 {
-    let Ok((lock, mut passes)) = Noted::<Kept<S>>::new(alloc, S::first(), threads, &()) else {
+    let Ok((lock, mut passes)) = Noted::<Unnoted<S>>::new(alloc, S::first(), threads, &()) else {
         return Err(AllocError);
     };
     let shared = &lock;
-    let work = |_: usize, pass: &mut Pass<Kept<S>>|
+    let work = |_: usize, pass: &mut Pass<Unnoted<S>>|
         requires { IsPassOf shared.now pass.now × (turn_of pass.now ≡ None) }
         ensures { IsSamePass shared.entry.now pass.entry.now pass.exit.now × (turn_of pass.exit.now ≡ None) }
     { enter_and_leave(rt, shared, pass, rounds) };
@@ -129,7 +142,12 @@ fn by_mutex<R: Threads + Wait + Sync>(
 }
 
 // Looks until the count has reached the rounds, and rests between two looks.
-fn rest_until<R: Wait>(rt: &R, lock: &Noted<Kept<u64>>, pass: &mut Pass<Kept<u64>>, rounds: u64)
+fn rest_until<R: Wait>(
+    rt: &R,
+    lock: &Noted<Unnoted<u64>>,
+    pass: &mut Pass<Unnoted<u64>>,
+    rounds: u64,
+)
     requires { IsPassOf lock.now pass.old × (turn_of pass.old ≡ None) }
     ensures { IsSamePass lock.now pass.old pass.new × (turn_of pass.new ≡ None) }
 {
@@ -147,8 +165,8 @@ fn rest_until<R: Wait>(rt: &R, lock: &Noted<Kept<u64>>, pass: &mut Pass<Kept<u64
 // Counts the rounds, leaving quietly but for the last, and answers how many microseconds they took.
 fn count_quietly<R: Wait + Clock>(
     rt: &R,
-    lock: &Noted<Kept<u64>>,
-    pass: &mut Pass<Kept<u64>>,
+    lock: &Noted<Unnoted<u64>>,
+    pass: &mut Pass<Unnoted<u64>>,
     rounds: u64,
 ) -> u64
     requires { IsPassOf lock.now pass.old × (turn_of pass.old ≡ None) }
@@ -180,12 +198,12 @@ fn with_resting<R: Threads + Wait + Clock + Sync>(
 ) -> Result<(u64, u64), AllocError>
     requires { (1 ≤ passes) × (passes ≤ 64) }
 {
-    let Ok((lock, mut all)) = Noted::<Kept<u64>>::new(alloc, 0, passes, &()) else {
+    let Ok((lock, mut all)) = Noted::<Unnoted<u64>>::new(alloc, 0, passes, &()) else {
         return Err(AllocError);
     };
     let took = AtomicU64::new(0);
     let (shared, micros) = (&lock, &took);
-    let work = |place: usize, pass: &mut Pass<Kept<u64>>|
+    let work = |place: usize, pass: &mut Pass<Unnoted<u64>>|
         requires { IsPassOf shared.now pass.now × (turn_of pass.now ≡ None) }
         ensures { IsSamePass shared.entry.now pass.entry.now pass.exit.now × (turn_of pass.exit.now ≡ None) }
     {

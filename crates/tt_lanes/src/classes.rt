@@ -1,4 +1,4 @@
-//! Classes of bytes, each told of one byte and of many at once.
+//! Classes of bytes, each as a test of one byte and of many at once.
 ghost use Rattle.std.specs.Prelude.{◌≡◌, ℕ, ◌+◌, ◌≤◌, Bool, length, not, count_by, if◌then◌else◌, ◌==◌};
 ghost use Rattle.std.specs.Int.{trailing_zeros, w64};
 ghost use Rattle.std.specs.List.{position_or_len};

@@ -7,6 +7,3 @@ mod scan;
 
 pub use count::{count_chars, count_newlines};
 pub use scan::{blank_run, next_brace, next_in_index, next_in_quotes, next_special};
-
-#[cfg(test)]
-mod tests;

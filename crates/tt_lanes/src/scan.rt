@@ -5,7 +5,7 @@ ghost use Rattle.tt_lanes.specs.Classes.{is_blank, is_brace_or_backslash, is_spe
 use crate::classes::{Brace, Index, LANES, NonBlank, Quoted, Special, Stop};
 
 /// The first place from `from` on of a byte that means something in a command (Tcl(n), rules 1 to
-/// 9): a byte 9 to 13 or 32, or one of `; " { } [ ] $ \`. The length where there is none.
+/// 9): a byte 9 to 13 or 32, or one of `; " { } [ ] $ \`. The length if there is none.
 pub fn next_special(bytes: &[u8], from: usize) -> usize
     requires { from ≤ length bytes.now }
     ensures { result ≡ from + position_or_len is_special (drop from bytes.now) }
@@ -14,7 +14,7 @@ pub fn next_special(bytes: &[u8], from: usize) -> usize
 }
 
 /// The first place from `from` on of a byte that counts in braces (Tcl(n), rule 6): one of `{ } \`. The
-/// length where there is none.
+/// length if there is none.
 pub fn next_brace(bytes: &[u8], from: usize) -> usize
     requires { from ≤ length bytes.now }
     ensures { result ≡ from + position_or_len is_brace_or_backslash (drop from bytes.now) }
@@ -23,7 +23,7 @@ pub fn next_brace(bytes: &[u8], from: usize) -> usize
 }
 
 /// The first place from `from` on of a byte that means something in quotes (Tcl(n), rule 4): one of
-/// `" $ [ \`. The length where there is none.
+/// `" $ [ \`. The length if there is none.
 pub fn next_in_quotes(bytes: &[u8], from: usize) -> usize
     requires { from ≤ length bytes.now }
     ensures { result ≡ from + position_or_len is_special_in_quotes (drop from bytes.now) }
@@ -32,7 +32,7 @@ pub fn next_in_quotes(bytes: &[u8], from: usize) -> usize
 }
 
 /// The first place from `from` on of a byte that means something in a variable's index (Tcl(n), rule
-/// 8): one of `) $ [ \`. The length where there is none.
+/// 8): one of `) $ [ \`. The length if there is none.
 pub fn next_in_index(bytes: &[u8], from: usize) -> usize
     requires { from ≤ length bytes.now }
     ensures { result ≡ from + position_or_len is_special_in_index (drop from bytes.now) }

@@ -10,7 +10,7 @@ use Rattle.tt_noted.specs.declared.tie.Tie.{Ghosts}
 use Rattle.tt_noted.specs.declared.pass.Pass.{Pass}
 use Rattle.tt_noted.specs.declared.noted.Noted.{Noted}
 use Rattle.tt_noted.specs.declared.table.View.{View}
-use Rattle.tt_noted.specs.Rule.{IsKept, view, both_of, FitsAll}
+use Rattle.tt_noted.specs.inside.Rule.{IsKept, view, both_of, FitsAll}
 use Rattle.tt_noted.specs.Passes.{count_of, turn_of, IsPassOf, AreAllPassesOf, FitsNotesOf, notes_in}
 use Rattle.tt_noted.proofs.Keeps.{closed_fits}
 use Rattle.tt_noted.proofs.Lists.{get_front, get_behind}

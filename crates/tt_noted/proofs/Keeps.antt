@@ -11,7 +11,7 @@ use Rattle.atomic_table.specs.Table.{step, keeps, takes, gives, stepped, Allows,
 use Rattle.atomic_table.proofs.Lists.{at_set, set_here, set_else, set_again, at_longer, at_last}
 use Rattle.tt_noted.specs.declared.table.View.{View}
 use Rattle.tt_noted.specs.declared.table.Opening.{Opening}
-use Rattle.tt_noted.specs.Rule.{Board, Sat, view, first_view, rest_of, first_of, both_of, spent, holding, FitsAll, IsFree, Stands, HasPlace, IsKept, took, noted}
+use Rattle.tt_noted.specs.inside.Rule.{Board, Sat, view, first_view, rest_of, first_of, both_of, spent, holding, FitsAll, IsFree, Stands, HasPlace, IsKept, took, noted}
 use Rattle.tt_noted.proofs.Owners.{given, given_first, given_next, given_other, merged, merged_other, merged_own, merged_rest}
 use Rattle.tt_noted.proofs.Lists.{set_there, at_end, none_get, get_set_same, get_set_other, get_drop, get_take, take_first, get_front, get_behind, numbered_at, get_one, get_append, get_numbered}
 

@@ -4,4 +4,3 @@ pub mod Keeps
 pub mod Passes
 pub mod Gathering
 pub mod Callers
-pub mod Counts

@@ -7,7 +7,7 @@ use Rattle.tt_noted.specs.declared.pass.Pass.{Pass}
 use Rattle.tt_noted.specs.declared.pass.Turn.{Turn}
 use Rattle.tt_noted.specs.declared.noted.Noted.{Noted}
 use Rattle.tt_noted.specs.declared.table.View.{View}
-use Rattle.tt_noted.specs.Rule.{Sat, view, first_of, holding, leaving, FitsAll, LeavesFit}
+use Rattle.tt_noted.specs.inside.Rule.{Sat, view, first_of, holding, leaving, FitsAll, LeavesFit}
 use Rattle.tt_noted.specs.Passes.{count_of, turn_of, entered_of, IsPassOf, IsFresh, KeepsFit}
 use Rattle.tt_noted.proofs.Lists.{get_end, numbered_next}
 

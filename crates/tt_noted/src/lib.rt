@@ -4,16 +4,11 @@
 //! it finds fits the notes of all passes, and it leaves with a new note. The state is moved in and out, and never copied.
 #![tactic(auto)]
 
-pub mod counting;
 mod noted;
 mod pass;
-pub mod sharing;
 mod table;
 mod tie;
 
 pub use noted::Noted;
 pub use pass::{Pass, Turn};
 pub use tie::Tie;
-
-#[cfg(test)]
-mod tests;

@@ -55,7 +55,7 @@ pub struct Noted<T: Tie> {
 }
 
 impl<T: Tie> Noted<T> {
-    ghost use Rattle.tt_noted.specs.Rule.{view, holding, leaving, FitsAll, LeavesFit};
+    ghost use Rattle.tt_noted.specs.inside.Rule.{view, holding, leaving, FitsAll, LeavesFit};
     ghost use Rattle.tt_noted.specs.Passes.{count_of, number_of, note_of, turn_of, entered_of, IsPassOf, IsSamePass, IsFresh, AreFresh, FitsNotes, KeepsFit, AreAllPassesOf, FitsNotesOf, notes_in};
 
     // The lock, with the seat that has all notes.

@@ -1,6 +1,6 @@
 //! Passes, by which threads enter the lock, and the turns that they have.
 ghost use Rattle.std.specs.Prelude.{◌≡◌, ◌-◌, ◌<◌, ◌≤◌, [], ◌∷◌, map};
-ghost use Rattle.tt_noted.specs.Rule.{held_with};
+ghost use Rattle.tt_noted.specs.inside.Rule.{held_with};
 
 use crate::table::Place;
 use crate::tie::Tie;

@@ -1,6 +1,6 @@
 //! The table under the lock: its rule, and the names of its steps.
 ghost use Rattle.std.specs.Prelude.{Option, None};
-ghost use Rattle.tt_noted.specs.Rule.{IsKept, first_view, rest_of, first_of, both_of, spent, took, noted};
+ghost use Rattle.tt_noted.specs.inside.Rule.{IsKept, first_view, rest_of, first_of, both_of, spent, took, noted};
 
 use crate::tie::Tie;
 use atomic_table::{Join, Play, Seat, Split, Table, TableRule};

@@ -1,5 +1,5 @@
 use Rattle.std.proofs.Common.{rules, ◌+◌, [], length, length-append, drop, None, refl, ap, ◌∙◌}
-use Rattle.tt_noted.specs.Rule.{view, rest_of}
+use Rattle.tt_noted.specs.inside.Rule.{view, rest_of}
 use Rattle.tt_noted.proofs.Keeps.{split_keeps}
 use Rattle.tt_noted.proofs.Lists.{numbered_next}
 use Rattle.tt_noted.proofs.Passes.{fresh_pass, one_more}

@@ -1,6 +1,6 @@
 use Rattle.std.proofs.Common.{◌≡◌, ◌-◌, ◌≤◌, [], length, replicate, slice_get, Some, None, vec_capacity, ℕ}
 use Rattle.std.specs.List.{enumerate_from}
-use Rattle.tt_noted.specs.Rule.{view}
+use Rattle.tt_noted.specs.inside.Rule.{view}
 use Rattle.tt_noted.specs.Passes.{IsFresh}
 use Rattle.tt_noted.proofs.noted.Noted.deal.Given as goal
 

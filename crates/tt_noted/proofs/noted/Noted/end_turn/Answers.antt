@@ -1,5 +1,5 @@
 use Rattle.std.proofs.Common.{arith, map, sym, ap, ◌∙◌}
-use Rattle.tt_noted.specs.Rule.{held_with}
+use Rattle.tt_noted.specs.inside.Rule.{held_with}
 use Rattle.tt_noted.proofs.Passes.{leaves_fit, new_notes, first}
 use Rattle.tt_noted.proofs.noted.Noted.end_turn.Goals as goal
 

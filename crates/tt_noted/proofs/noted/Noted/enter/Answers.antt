@@ -2,7 +2,7 @@ use Rattle.std.proofs.Common.{rules, ◌≡◌, ◌∷◌, Some, sym, ap, ◌∙
 use Rattle.atomic_table.specs.Table.{rest}
 use Rattle.tt_noted.proofs.Passes.{first_note, fits_notes}
 use Rattle.tt_noted.proofs.Lists.{same_held}
-use Rattle.tt_noted.specs.Rule.{FitsAll}
+use Rattle.tt_noted.specs.inside.Rule.{FitsAll}
 use Rattle.tt_noted.proofs.noted.Noted.enter.Goals as goal
 
 pub take-requires-clause-has_note : goal.take-requires-clause-has_note

@@ -1,6 +1,6 @@
 use Rattle.std.proofs.Common.{rules, ◌++◌, ap, ◌∙◌}
 use Rattle.std.specs.Option.{option_to_list}
-use Rattle.tt_noted.specs.Rule.{held_with}
+use Rattle.tt_noted.specs.inside.Rule.{held_with}
 use Rattle.tt_noted.proofs.Keeps.{join_keeps}
 use Rattle.tt_noted.proofs.Gathering.{begins, next_pass, continues}
 use Rattle.tt_noted.proofs.noted.Noted.gather.Goals as goal

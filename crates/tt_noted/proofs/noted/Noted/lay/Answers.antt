@@ -1,7 +1,7 @@
 use Rattle.std.proofs.Common.{List, [], ◌∷◌, ◌++◌, replicate, Option, Some, refl, sym, ap, ◌∙◌, subst}
 use Rattle.atomic_table.specs.Table.{opening}
 use Rattle.tt_noted.specs.declared.table.Opening.{Opening}
-use Rattle.tt_noted.specs.Rule.{IsKept, first_view}
+use Rattle.tt_noted.specs.inside.Rule.{IsKept, first_view}
 use Rattle.tt_noted.proofs.Keeps.{opening_holds}
 use Rattle.tt_noted.proofs.noted.Noted.lay.Goals as goal
 

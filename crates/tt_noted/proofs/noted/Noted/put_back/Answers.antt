@@ -1,7 +1,7 @@
 use Rattle.std.proofs.Common.{rules, ◌≡◌, ◌+◌, ◌%◌, [], ◌∷◌, Some, sym, ap, ◌∙◌, subst, arith}
 use mathlib.Core.Option.{none}
 use Rattle.atomic_table.specs.Table.{rest, step, Allows}
-use Rattle.tt_noted.specs.Rule.{IsKept, leaving, noted}
+use Rattle.tt_noted.specs.inside.Rule.{IsKept, leaving, noted}
 use Rattle.tt_noted.proofs.Keeps.{note_keeps}
 use Rattle.tt_noted.proofs.noted.Noted.put_back.Goals as goal
 
