@@ -14,8 +14,9 @@ mod row;
 mod run;
 mod table;
 mod telling;
-mod words;
 
+use row::Row;
+use rows_reader::tell_table;
 use std::fs;
 
 const TABLES: [&str; 1] = ["requests.rows"];
@@ -23,7 +24,8 @@ const TABLES: [&str; 1] = ["requests.rows"];
 fn main(rt: HostRuntime) -> anyhow::Result<()> {
     for name in TABLES {
         let text = fs::read_to_string(&rt, name)?;
-        table::tell(&rt, rt.alloc(), name, text.as_str())?;
+        let tally = tell_table::<Row>(&rt, rt.alloc(), name, text.as_str())?;
+        println!(rt; "{name}: {} of {} rows hold", tally.held, tally.rows)?;
     }
     Ok(())
 }

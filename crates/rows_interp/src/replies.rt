@@ -1,9 +1,10 @@
 //! A reply is written by its name and what it holds: truth as 0 or 1, an outcome as its code, its value, its trace and the
 //! code that it keeps.
 
-use crate::words::{Words, words_of};
+use crate::telling::CODES;
+use rows_reader::{Words, words_of};
 use std::alloc::Global;
-use tt_calls::{Event, Reply, Shape};
+use tt_calls::{Event, Outcome, Reply, Shape};
 use tt_text::Text;
 
 // How replies are written: a name, how many words follow, and which it is.
@@ -43,7 +44,7 @@ enum Happens {
 
 /// The reply that is written so.
 pub(crate) fn read_reply(alloc: Global, text: &Text) -> anyhow::Result<Reply> {
-    let words = words_of(alloc, text)?;
+    let words = words_of(alloc, text.as_bytes())?;
     match words.as_slice() {
         [event, name, rest @ ..] if event.as_bytes() == b"Event".as_slice() => {
             let happens = found(&EVENTS, name, rest)?;
@@ -67,20 +68,20 @@ fn found<T: Copy>(names: &[(&str, usize, T)], word: &Text, rest: &[Text]) -> any
 fn reply_of(shape: Shape, words: &Words) -> anyhow::Result<Reply> {
     let reply = match shape {
         Shape::Go => Reply::Go,
-        Shape::Value => Reply::Value(words.text(0)?),
-        Shape::Refused => Reply::Refused(words.text(0)?),
-        Shape::Found => Reply::Found(words.flag(0)?, words.text(1)?),
+        Shape::Value => Reply::Value(words.lines(0)?),
+        Shape::Refused => Reply::Refused(words.lines(0)?),
+        Shape::Found => Reply::Found(words.flag(0)?, words.lines(1)?),
         Shape::Posted => Reply::Posted(words.post(0)?),
         Shape::Waits => Reply::Waits(words.number(0)?),
-        Shape::Answer => Reply::Answer(words.outcome()?),
+        Shape::Answer => Reply::Answer(outcome(words)?),
         Shape::Died => Reply::Died,
         Shape::NoEvent | Shape::Event => Reply::NoEvent,
         Shape::Served => Reply::Served(words.flag(0)?),
-        Shape::Line => Reply::Line(words.text(0)?),
+        Shape::Line => Reply::Line(words.lines(0)?),
         Shape::LineEnd => Reply::LineEnd,
-        Shape::Job => Reply::Job(words.post(0)?, words.text(1)?, words.flag(2)?),
+        Shape::Job => Reply::Job(words.post(0)?, words.lines(1)?, words.flag(2)?),
         Shape::JobStop => Reply::JobStop,
-        Shape::Lists => Reply::Lists(words.text(0)?, words.text(1)?),
+        Shape::Lists => Reply::Lists(words.lines(0)?, words.lines(1)?),
     };
     Ok(reply)
 }
@@ -89,18 +90,28 @@ fn event_of(happens: Happens, words: &Words) -> anyhow::Result<Event> {
     let event = match happens {
         Happens::Script => Event::Script {
             n: words.post(0)?,
-            script: words.text(1)?,
+            script: words.lines(1)?,
             answer: words.flag(2)?,
             plain: words.flag(3)?,
         },
         Happens::SetVar => Event::SetVar {
-            name: words.text(0)?,
-            value: words.text(1)?,
+            name: words.lines(0)?,
+            value: words.lines(1)?,
         },
         Happens::Moved => Event::Moved {
-            chan: words.text(0)?,
+            chan: words.lines(0)?,
         },
         Happens::Stop => Event::Stop,
     };
     Ok(event)
+}
+
+// A code, a value, a trace and a kept code.
+fn outcome(words: &Words) -> anyhow::Result<Outcome> {
+    Ok(Outcome {
+        code: words.code(0, &CODES)?,
+        value: words.lines(1)?,
+        trace: words.lines(2)?,
+        kept: words.code(3, &CODES)?,
+    })
 }

@@ -2,7 +2,7 @@
 
 use crate::calls::{tell_chan, tell_lock, tell_pool, tell_tsv};
 use crate::telling::Telling;
-use crate::words::replaced;
+use rows_reader::replaced;
 use std::alloc::Global;
 use tt_calls::{Mode, Request};
 use tt_text::{NoMemory, Text};

@@ -19,10 +19,10 @@ mod row;
 mod run;
 mod settings;
 mod table;
-mod words;
 
+use row::Row;
+use rows_reader::{Tally, tell_table};
 use std::fs;
-use table::Tally;
 
 const TABLES: [&str; 17] = [
     "worked.rows",
@@ -45,12 +45,12 @@ const TABLES: [&str; 17] = [
 ];
 
 fn main(rt: HostRuntime) -> anyhow::Result<()> {
-    let mut all = Tally { rows: 0, kept: 0 };
+    let mut all = Tally::new();
     for name in TABLES {
         let text = fs::read_to_string(&rt, name)?;
-        let tally = table::tell(&rt, rt.alloc(), name, text.as_str())?;
+        let tally = tell_table::<Row>(&rt, rt.alloc(), name, text.as_str())?;
         all.add(tally);
     }
-    println!(rt; "{} of {} rows hold", all.kept, all.rows)?;
+    println!(rt; "{} of {} rows hold", all.held, all.rows)?;
     Ok(())
 }

@@ -1,7 +1,7 @@
 //! Rows are run over devices in memory.
 
 use crate::row::{Came, Row, Steps};
-use crate::words::copies;
+use rows_reader::copies;
 use std::alloc::Global;
 use tt_core::{NewFault, Setup, StepFault, System};
 use tt_devices::{MemorySink, MemorySource};

@@ -1,7 +1,7 @@
 //! The lines after `%% `, which say what a run begins with.
 
 use crate::row::{Row, Steps};
-use crate::words::{copies, number_of, with_newlines, words_of};
+use rows_reader::{copies, number_of, with_newlines, words_of};
 use std::alloc::Global;
 use tt_text::Text;
 
@@ -29,7 +29,7 @@ fn set_words(alloc: Global, row: &mut Row, name: &[u8], values: &[Text]) -> anyh
     }
     match values {
         [limit] if name == b"limit".as_slice() => {
-            row.limit = u64::from(number_of(limit)?);
+            row.limit = u64::from(number_of(limit.as_bytes())?);
             Ok(())
         }
         [device, call] if name == b"fails".as_slice() => set_failing(row, device.as_bytes(), call),
@@ -42,8 +42,8 @@ fn steps(alloc: Global, values: &[Text]) -> anyhow::Result<Vec<Steps>> {
     for pair in values.chunks(2) {
         match pair {
             [thread, count] => steps.push(Steps {
-                thread: number_of(thread)?,
-                count: number_of(count)?,
+                thread: number_of(thread.as_bytes())?,
+                count: number_of(count.as_bytes())?,
             })?,
             _ => anyhow::bail!("a thread with no number of steps"),
         }
@@ -52,7 +52,7 @@ fn steps(alloc: Global, values: &[Text]) -> anyhow::Result<Vec<Steps>> {
 }
 
 fn set_failing(row: &mut Row, device: &[u8], call: &Text) -> anyhow::Result<()> {
-    let call = u64::from(number_of(call)?);
+    let call = u64::from(number_of(call.as_bytes())?);
     if device == b"input".as_slice() {
         row.fails.input = call;
     } else if device == b"output".as_slice() {

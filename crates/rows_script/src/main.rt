@@ -10,6 +10,8 @@ mod host;
 mod row;
 mod table;
 
+use row::Row;
+use rows_reader::tell_table;
 use std::fs;
 
 const TABLES: [&str; 15] = [
@@ -33,7 +35,8 @@ const TABLES: [&str; 15] = [
 fn main(rt: HostRuntime) -> anyhow::Result<()> {
     for name in TABLES {
         let text = fs::read_to_string(&rt, name)?;
-        table::tell(&rt, rt.alloc(), name, text.as_str())?;
+        let tally = tell_table::<Row>(&rt, rt.alloc(), name, text.as_str())?;
+        println!(rt; "{name}: {} of {} rows hold", tally.held, tally.rows)?;
     }
     Ok(())
 }

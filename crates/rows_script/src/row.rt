@@ -12,6 +12,8 @@ pub struct Row {
     pub script: Text,
     /// How it has to end.
     pub wanted: Came,
+    /// What the next line belongs to.
+    pub part: Part,
 }
 
 /// What a script comes to.
@@ -41,12 +43,13 @@ impl Row {
             limit: 1 << 62,
             script: Text::new(alloc),
             wanted: Came::new(alloc),
+            part: Part::Script,
         })
     }
 
-    /// Adds a line to a part.
-    pub fn push(&mut self, part: Part, line: &[u8]) -> Result<(), NoMemory> {
-        let text = match part {
+    /// Adds a line to the part that it belongs to.
+    pub fn push(&mut self, line: &[u8]) -> Result<(), NoMemory> {
+        let text = match self.part {
             Part::Script => &mut self.script,
             Part::Out => &mut self.wanted.out,
             Part::Err => &mut self.wanted.err,

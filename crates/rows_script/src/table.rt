@@ -1,52 +1,49 @@
-//! Tables are read and told.
+//! The lines of a row, and what is shown of one that doesn't hold.
 
 use crate::host::run;
 use crate::row::{Came, Part, Row};
+use rows_reader::{number_of, shown};
 use std::alloc::Global;
-use tt_number::read_whole;
 use tt_text::Text;
 
 /// What a line of a table says.
+#[derive(Clone, Copy)]
 enum Line<'a> {
-    Name(&'a [u8]),
-    Limit(u64),
+    Limit(&'a [u8]),
     Begins(Part),
     Code(&'a [u8]),
     Other,
 }
 
-/// Says how many rows of a table hold, and shows those that don't.
-pub fn tell(rt: &impl Print, alloc: Global, name: &str, text: &str) -> anyhow::Result<()> {
-    let mut row = Row::new(alloc, b"")?;
-    let mut part = Part::Script;
-    let (mut rows, mut kept) = (0u32, 0u32);
-    for line in text.lines() {
-        let line = line.as_bytes();
-        match read_line(line) {
-            Line::Name(name) => {
-                row = Row::new(alloc, name)?;
-                part = Part::Script;
-            }
-            Line::Limit(limit) => row.limit = limit,
-            Line::Begins(next) => part = next,
-            Line::Other => row.push(part, line)?,
-            Line::Code(code) => {
-                row.wanted.code = Text::from_bytes(alloc, code)?;
-                rows = rows.saturating_add(1);
-                kept = kept.saturating_add(u32::from(holds(rt, alloc, &row)?));
-            }
-        }
+impl rows_reader::Row for Row {
+    fn named(alloc: Global, name: &[u8]) -> anyhow::Result<Self> {
+        let row = Row::new(alloc, name)?;
+        Ok(row)
     }
-    println!(rt; "{name}: {kept} of {rows} rows hold")?;
-    Ok(())
+
+    fn read_line(&mut self, alloc: Global, line: &[u8]) -> anyhow::Result<()> {
+        match kind_of(line) {
+            Line::Limit(limit) => self.limit = u64::from(number_of(limit)?),
+            Line::Begins(part) => self.part = part,
+            Line::Code(code) => self.wanted.code = Text::from_bytes(alloc, code)?,
+            Line::Other => self.push(line)?,
+        }
+        Ok(())
+    }
+
+    fn holds(&self, rt: &impl Print, alloc: Global, _table: &str) -> anyhow::Result<bool> {
+        let came = run(alloc, &self.script, self.limit)?;
+        let holds = came.is(&self.wanted);
+        if !holds {
+            show(rt, self, &came)?;
+        }
+        Ok(holds)
+    }
 }
 
-fn read_line(line: &[u8]) -> Line {
-    if let Some(name) = line.strip_prefix(b"== ") {
-        return Line::Name(name);
-    }
+fn kind_of(line: &[u8]) -> Line {
     if let Some(limit) = line.strip_prefix(b"%% limit ") {
-        return Line::Limit(number(limit));
+        return Line::Limit(limit);
     }
     if let Some(code) = line.strip_prefix(b"=> ") {
         return Line::Code(code);
@@ -60,30 +57,10 @@ fn read_line(line: &[u8]) -> Line {
     Line::Other
 }
 
-fn number(text: &[u8]) -> u64 {
-    match read_whole(text) {
-        Ok(number) => number.unsigned_abs(),
-        Err(_) => 0,
-    }
-}
-
-fn holds(rt: &impl Print, alloc: Global, row: &Row) -> anyhow::Result<bool> {
-    let came = run(alloc, &row.script, row.limit)?;
-    let holds = came.is(&row.wanted);
-    if !holds {
-        show(rt, row, &came)?;
-    }
-    Ok(holds)
-}
-
 fn show(rt: &impl Print, row: &Row, came: &Came) -> anyhow::Result<()> {
     println!(rt; "row: {}", shown(&row.name))?;
     println!(rt; "out: {}", shown(&came.out))?;
     println!(rt; "err: {}", shown(&came.err))?;
     println!(rt; "code: {}", shown(&came.code))?;
     Ok(())
-}
-
-fn shown(text: &Text) -> &str {
-    std::str::from_utf8(text.as_bytes()).unwrap_or("no UTF-8")
 }

@@ -1,10 +1,18 @@
-use crate::words::CODES;
 use std::alloc::Global;
 use tt_calls::{Code, Event, Outcome, Reply};
 use tt_lists::join_list;
 use tt_number::whole_text;
 use tt_shared::Applied;
 use tt_text::{Text, Texts};
+
+/// How codes of outcomes are written (catch(n)).
+pub(crate) const CODES: [(&str, Code); 5] = [
+    ("ok", Code::Fine),
+    ("error", Code::Failed),
+    ("return", Code::Returned),
+    ("break", Code::Broke),
+    ("continue", Code::Continued),
+];
 
 /// What answering a request gives, as a list: the reply and its values, then `out`, `err`, `over` and `made`, where there
 /// is something to put on standard output or error, the run is over, or threads were made.

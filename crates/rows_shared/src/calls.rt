@@ -1,5 +1,6 @@
 use crate::names::{OfChannel, OfLock, OfPool, OfVariable};
-use crate::words::Words;
+use crate::requests::outcome;
+use rows_reader::Words;
 use tt_calls::{ChanCall, Family, Kind, LockCall, PoolCall, TsvCall};
 
 pub(crate) fn tsv_call(which: OfVariable, words: &Words) -> anyhow::Result<TsvCall> {
@@ -129,7 +130,7 @@ fn job_call(which: OfPool, words: &Words) -> anyhow::Result<PoolCall> {
         OfPool::JobDone => PoolCall::JobDone {
             pool,
             job: u64::from(words.number(1)?),
-            outcome: words.outcome(2)?,
+            outcome: outcome(words, 2)?,
         },
         _ => PoolCall::JobTake { pool },
     };

@@ -12,7 +12,6 @@ mod calls;
 mod names;
 mod requests;
 mod table;
-mod words;
 
 use std::fs;
 

@@ -1,7 +1,8 @@
+use crate::answers::CODES;
 use crate::calls::{chan_call, lock_call, pool_call, tsv_call};
 use crate::names::{Input, Name, OfMail, OfThread, Plain};
-use crate::words::Words;
-use tt_calls::{Boxed, Mode, Request};
+use rows_reader::Words;
+use tt_calls::{Boxed, Mode, Outcome, Request};
 use tt_shared::Line;
 
 /// The request of a name and its words.
@@ -104,7 +105,7 @@ fn of_mail(which: OfMail, words: &Words) -> anyhow::Result<Request> {
         OfMail::TakeReady => Request::TakeReady,
         OfMail::Deliver => Request::Deliver {
             n: u64::from(words.number(0)?),
-            outcome: words.outcome(1)?,
+            outcome: outcome(words, 1)?,
         },
         OfMail::Report => Request::Report {
             trace: words.text(0)?,
@@ -130,4 +131,13 @@ fn send(words: &Words) -> anyhow::Result<Request> {
         variable: words.name(3)?,
         head: words.is(4, "head", "tail")?,
     })
+}
+
+/// A code and a value; an error's trace is its message.
+pub(crate) fn outcome(words: &Words, place: usize) -> anyhow::Result<Outcome> {
+    let code = words.code(place, &CODES)?;
+    let value = words.text(place.saturating_add(1))?;
+    let mut outcome = Outcome::failed(value)?;
+    outcome.code = code;
+    Ok(outcome)
 }

@@ -1,7 +1,7 @@
 use crate::answers::answer_text;
 use crate::names::name_of;
 use crate::requests::{line_of, request_of};
-use crate::words::{Words, number_of, words_of};
+use rows_reader::{Words, number_of, words_of};
 use anyhow::Context;
 use std::alloc::Global;
 use tt_calls::{Request, Start};
