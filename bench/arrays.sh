@@ -3,5 +3,5 @@
 # thread waits for it. From the least array to the greatest it may grow by no more than half.
 # Further runs differ by what else the machine does.
 set -eu
-cd "$(dirname "$0")/../crates/bench_tsv"
-rt run -- times
+cd "$(dirname "$0")/../crates/bench_shared"
+rt run -- times arrays

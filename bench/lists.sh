@@ -3,5 +3,5 @@
 # 256 KiB and 1 MiB; and reading a chain 1+1+.. of 1 KiB, 64 KiB and 1 MiB.
 # Further runs differ by what else the machine does.
 set -eu
-cd "$(dirname "$0")/../crates/bench_lists"
-rt run -- times
+cd "$(dirname "$0")/../crates/bench_values"
+rt run -- times lists

@@ -6,5 +6,5 @@
 # Further runs differ by what else the machine does.
 set -euo pipefail
 cd "$(dirname "$0")"
-(cd ../crates/bench_shared && rt run -- times)
+(cd ../crates/bench_shared && rt run -- times requests)
 ./arrays.sh

@@ -5,6 +5,5 @@
 # Further runs differ by what else the machine does.
 set -eu
 cd "$(dirname "$0")/../crates/bench_values"
-rt run -- times
-cd ../bench_vars
-rt run -- times
+rt run -- times commands
+rt run -- times variables

@@ -1,10 +1,13 @@
 //! First commands read: words in braces, scripts in brackets, short bodies, dense scripts, and 1,000
 //! brackets or indices, one in the other.
 //!
-//! Without arguments it says where a word of 64 KiB, the brackets and the indices end. With the
-//! argument `brackets` or `indices` it reads only those. With any other, as `times`, it prints how
-//! long reading takes for a byte.
+//! Without arguments it says if the lane kernels answer what plain loops do, and where a word of 64 KiB, the brackets and
+//! the indices end. With the argument `brackets` or `indices` it reads only those; with `lanes` it prints the times of the
+//! kernels, and with any other, as `times`, how long reading takes for a byte.
 #![tactic(auto)]
+
+mod lanes;
+mod plain;
 
 use std::alloc::Global;
 use std::env;
@@ -44,12 +47,14 @@ fn main(rt: HostRuntime) -> anyhow::Result<()> {
     let alloc = rt.alloc();
     match env::args(&rt)?.nth(1) {
         None => {
+            lanes::run_all(&rt, alloc, false)?;
             tell_end(&rt, alloc, "a braced word", &braced(alloc, LINE, 1 << 16)?)?;
             tell_end(&rt, alloc, "brackets", &nested(alloc, b"[", b"]")?)?;
             tell_end(&rt, alloc, "indices", &nested(alloc, b"$a(", b")")?)
         }
         Some(word) => match word.as_str() {
             "brackets" => tell_end(&rt, alloc, "brackets", &nested(alloc, b"[", b"]")?),
+            "lanes" => lanes::run_all(&rt, alloc, true),
             "indices" => tell_end(&rt, alloc, "indices", &nested(alloc, b"$a(", b")")?),
             _ => {
                 tell_braces(&rt, alloc)?;

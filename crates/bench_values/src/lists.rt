@@ -1,11 +1,7 @@
-//! Lists of 64 KiB, 256 KiB and 1 MiB split and joined, and expressions of these sizes read.
-//!
-//! Without arguments it says of the first what comes out. With the argument `times` it prints of all
-//! three how long each takes for a byte.
-#![tactic(auto)]
+//! Lists of 64 KiB, 256 KiB and 1 MiB split and joined, and expressions of these sizes read: how long each takes for a
+//! byte.
 
 use std::alloc::Global;
-use std::env;
 use std::rt::Clock;
 use std::time::{Duration, Instant};
 use tt_exprs::{Parsed, parse};
@@ -21,17 +17,16 @@ const OPERAND: &[u8] = b"12 * $x - abs(3), ";
 // How often a chain is read; the least times are told.
 const ROUNDS: usize = 16;
 
-fn main(rt: HostRuntime) -> anyhow::Result<()> {
-    let is_timed = env::args(&rt)?.any(|word| word.as_str() == "times");
-    run(&rt, rt.alloc(), 1 << 16, is_timed)?;
-    run_expression(&rt, rt.alloc(), 1 << 16, is_timed)?;
+pub(crate) fn run_all(rt: &(impl Clock + Print), alloc: Global, is_timed: bool) -> anyhow::Result<()> {
+    run(rt, alloc, 1 << 16, is_timed)?;
+    run_expression(rt, alloc, 1 << 16, is_timed)?;
     if is_timed {
         for size in [1 << 10, 1 << 16, 1 << 20] {
-            run_chain(&rt, rt.alloc(), size)?;
+            run_chain(rt, alloc, size)?;
         }
         for size in [1 << 18, 1 << 20] {
-            run(&rt, rt.alloc(), size, is_timed)?;
-            run_expression(&rt, rt.alloc(), size, is_timed)?;
+            run(rt, alloc, size, is_timed)?;
+            run_expression(rt, alloc, size, is_timed)?;
         }
     }
     Ok(())

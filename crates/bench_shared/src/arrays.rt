@@ -1,11 +1,7 @@
 //! Increments of one key of a shared array of 10, 1,000 and 100,000 keys, and whether a thread waits for it.
-//!
-//! Without arguments it says what the increments come to in an array of 10 keys. With the argument `times` it prints how
-//! long one takes, in nanoseconds, and one test of waiting.
-#![tactic(auto)]
+//! Times are in nanoseconds.
 
 use std::alloc::Global;
-use std::env;
 use std::rt::Clock;
 use std::time::Instant;
 use tt_calls::{Reply, Step, TsvCall};
@@ -20,13 +16,12 @@ const TIMES: u32 = 100_000;
 
 const ROUNDS: u32 = 10;
 
-fn main(rt: HostRuntime) -> anyhow::Result<()> {
-    let is_timed = env::args(&rt)?.any(|word| word.as_str() == "times");
+pub(crate) fn run_all(rt: &(impl Clock + Print), alloc: Global, is_timed: bool) -> anyhow::Result<()> {
     if !is_timed {
-        return tell(&rt, rt.alloc());
+        return tell(rt, alloc);
     }
     for size in SIZES {
-        run(&rt, rt.alloc(), size)?;
+        run(rt, alloc, size)?;
     }
     Ok(())
 }

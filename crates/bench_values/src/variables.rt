@@ -1,11 +1,7 @@
 //! One variable is read and written again and again, among 10, 1,000 and 100,000 others, through no link and
 //! through ten.
-//!
-//! Without arguments it says what was read among 10. With the argument `times` it prints how long each takes.
-#![tactic(auto)]
 
 use std::alloc::Global;
-use std::env;
 use std::rt::Clock;
 use std::time::Instant;
 use tt_number::whole_text;
@@ -22,13 +18,12 @@ const TIMES: u32 = 100_000;
 // How many times are taken; the least is told.
 const ROUNDS: usize = 16;
 
-fn main(rt: HostRuntime) -> anyhow::Result<()> {
-    let is_timed = env::args(&rt)?.any(|word| word.as_str() == "times");
+pub(crate) fn run_all(rt: &(impl Clock + Print), alloc: Global, is_timed: bool) -> anyhow::Result<()> {
     if !is_timed {
-        return tell(&rt, rt.alloc());
+        return tell(rt, alloc);
     }
     for others in [10, 1_000, 100_000] {
-        run(&rt, rt.alloc(), others)?;
+        run(rt, alloc, others)?;
     }
     Ok(())
 }

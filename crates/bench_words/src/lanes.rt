@@ -1,12 +1,7 @@
 //! The lane kernels beside loops that go a byte at a time.
-//!
-//! Without arguments it says whether both answer the same over 1 MiB. With the argument `times` it
-//! also prints how long each takes for a byte.
-#![tactic(auto)]
 
-mod plain;
-
-use std::env;
+use crate::plain;
+use std::alloc::Global;
 use std::rt::Clock;
 use std::time::Instant;
 
@@ -14,12 +9,11 @@ const SIZE: usize = 1 << 20;
 
 const ROUNDS: usize = 64;
 
-fn main(rt: HostRuntime) -> anyhow::Result<()> {
-    let is_timed = env::args(&rt)?.any(|word| word.as_str() == "times");
-    let letters = vec![in rt.alloc(); b'a'; SIZE]?;
-    let blanks = vec![in rt.alloc(); b' '; SIZE]?;
+pub(crate) fn run_all(rt: &(impl Clock + Print), alloc: Global, is_timed: bool) -> anyhow::Result<()> {
+    let letters = vec![in alloc; b'a'; SIZE]?;
+    let blanks = vec![in alloc; b' '; SIZE]?;
     compare(
-        &rt,
+        rt,
         "next_special",
         &letters,
         is_timed,
@@ -27,7 +21,7 @@ fn main(rt: HostRuntime) -> anyhow::Result<()> {
         plain::next_special,
     )?;
     compare(
-        &rt,
+        rt,
         "blank_run",
         &blanks,
         is_timed,
@@ -35,7 +29,7 @@ fn main(rt: HostRuntime) -> anyhow::Result<()> {
         plain::blank_run,
     )?;
     compare(
-        &rt,
+        rt,
         "count_newlines",
         &letters,
         is_timed,
@@ -43,7 +37,7 @@ fn main(rt: HostRuntime) -> anyhow::Result<()> {
         plain::count_newlines,
     )?;
     compare(
-        &rt,
+        rt,
         "count_chars",
         &letters,
         is_timed,
