@@ -16,7 +16,11 @@ const TIMES: u32 = 100_000;
 
 const ROUNDS: u32 = 10;
 
-pub(crate) fn run_all(rt: &(impl Clock + Print), alloc: Global, is_timed: bool) -> anyhow::Result<()> {
+pub(crate) fn run_all(
+    rt: &(impl Clock + Print),
+    alloc: Global,
+    is_timed: bool,
+) -> anyhow::Result<()> {
     if !is_timed {
         return tell(rt, alloc);
     }

@@ -53,7 +53,11 @@ const ROUNDS: u32 = 10;
 
 const LINE: &[u8; 64] = b"a line of sixty-four bytes, the last one of which is a newline.\n";
 
-pub(crate) fn run_all(rt: &(impl Clock + Print), alloc: Global, is_timed: bool) -> anyhow::Result<()> {
+pub(crate) fn run_all(
+    rt: &(impl Clock + Print),
+    alloc: Global,
+    is_timed: bool,
+) -> anyhow::Result<()> {
     let cases: &[Case] = if is_timed { &TIMED } else { &TOLD };
     for case in cases {
         run(rt, alloc, *case, is_timed)?;

@@ -39,7 +39,11 @@ const SIZES: [(usize, u128); 4] = [(8_192, 13), (16_384, 14), (32_768, 15), (65_
 // How many times are taken; the least is told.
 const ROUNDS: usize = 8;
 
-pub(crate) fn run_all(rt: &(impl Clock + Print), alloc: Global, is_timed: bool) -> anyhow::Result<()> {
+pub(crate) fn run_all(
+    rt: &(impl Clock + Print),
+    alloc: Global,
+    is_timed: bool,
+) -> anyhow::Result<()> {
     if !is_timed {
         return tell(rt, alloc);
     }

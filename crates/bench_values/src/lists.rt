@@ -17,7 +17,11 @@ const OPERAND: &[u8] = b"12 * $x - abs(3), ";
 // How often a chain is read; the least times are told.
 const ROUNDS: usize = 16;
 
-pub(crate) fn run_all(rt: &(impl Clock + Print), alloc: Global, is_timed: bool) -> anyhow::Result<()> {
+pub(crate) fn run_all(
+    rt: &(impl Clock + Print),
+    alloc: Global,
+    is_timed: bool,
+) -> anyhow::Result<()> {
     run(rt, alloc, 1 << 16, is_timed)?;
     run_expression(rt, alloc, 1 << 16, is_timed)?;
     if is_timed {

@@ -18,7 +18,11 @@ const TIMES: u32 = 100_000;
 // How many times are taken; the least is told.
 const ROUNDS: usize = 16;
 
-pub(crate) fn run_all(rt: &(impl Clock + Print), alloc: Global, is_timed: bool) -> anyhow::Result<()> {
+pub(crate) fn run_all(
+    rt: &(impl Clock + Print),
+    alloc: Global,
+    is_timed: bool,
+) -> anyhow::Result<()> {
     if !is_timed {
         return tell(rt, alloc);
     }

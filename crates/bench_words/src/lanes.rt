@@ -9,7 +9,11 @@ const SIZE: usize = 1 << 20;
 
 const ROUNDS: usize = 64;
 
-pub(crate) fn run_all(rt: &(impl Clock + Print), alloc: Global, is_timed: bool) -> anyhow::Result<()> {
+pub(crate) fn run_all(
+    rt: &(impl Clock + Print),
+    alloc: Global,
+    is_timed: bool,
+) -> anyhow::Result<()> {
     let letters = vec![in alloc; b'a'; SIZE]?;
     let blanks = vec![in alloc; b' '; SIZE]?;
     compare(
