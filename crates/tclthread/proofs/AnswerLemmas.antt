@@ -11,7 +11,7 @@ use Rattle.tt_machine.specs.Machine as run
 use Rattle.tt_schedule.proofs.LawLemmas.{one_list, one_place}
 use Rattle.tt_schedule.specs.ScheduleText.{IsFirstWrong, IsScheduleText}
 use Rattle.tt_words.proofs.OneLemmas.{one_reading}
-use Rattle.tt_words.specs.Asked.{Asked, Generate, Plain, Reads, Replay, generate, plain, replay}
+use Rattle.tt_words.specs.Asked.{Asked, Generate, Plain, WordsAskFor, Replay, generate, plain, replay}
 use Rattle.tclthread.specs.Answer.{Answers, AnswersTo, HasRun, IsRun, IsRefusal}
 use Rattle.tclthread.specs.Answer as answer
 use Rattle.tclthread.specs.Asking.{AreThere, AsksFor, IsMissing, generate_setup, kept_of, plain_setup, replay_setup}
@@ -366,7 +366,7 @@ only-plain (replay named) names setup steps P then is = go (names named.script) 
     go (Some script) text is = inner script (names named.schedule) is
 only-plain (generate named) names setup steps P then is = absurd (cc is)
 
-no-unread : (status : Status) (words : List (List ℕ)) (asked : Asked) → Reads words asked → IsSettled status → answer.IsWordRefusal status words → ⊥
+no-unread : (status : Status) (words : List (List ℕ)) (asked : Asked) → WordsAskFor words asked → IsSettled status → answer.IsWordRefusal status words → ⊥
 no-unread Usage words asked reads settled is = is asked reads
 no-unread NoMemory words asked reads settled is = settled
 no-unread (Done code) words asked reads settled is = is
@@ -400,7 +400,7 @@ one_answer F S K E one other words names input files store left right is also to
     let moved : AnswersTo asked other store right = subst (λ (x : Asked). AnswersTo x other store right) same b in
     same-view (found_by asked names) input one other left.schedule right.schedule
     (view asked one files names input left is told s a) (view asked other store names input right also heard t moved)
-    (λ setup steps begun. only-plain asked names setup steps (left.schedule ≡ right.schedule) (λ named plain_is. free named (subst (λ (x : Asked). Reads words x) plain_is reads)) begun)
+    (λ setup steps begun. only-plain asked names setup steps (left.schedule ≡ right.schedule) (λ named plain_is. free named (subst (λ (x : Asked). WordsAskFor words x) plain_is reads)) begun)
 
 -- ---- a run that is replayed
 

@@ -5,7 +5,7 @@ use Rattle.tt_interp.specs.declared.setup.Setup.{Setup}
 use Rattle.tt_machine.specs.Machine.{Machine}
 use Rattle.tt_schedule.specs.ScheduleText.{most_steps}
 use Rattle.tt_words.proofs.OneLemmas.{one_reading}
-use Rattle.tt_words.specs.Asked.{Asked, Generate, HasSteps, Plain, Reads, Replay, generate, plain, replay}
+use Rattle.tt_words.specs.Asked.{Asked, Generate, HasSteps, Plain, WordsAskFor, Replay, generate, plain, replay}
 use Rattle.tclthread.specs.Answer.{Answers, AnswersTo, AreCounted, IsAnswered, IsLeft, IsRefusal, IsRun, IsUntouched, IsUsage, IsWordRefusal}
 use Rattle.tclthread.specs.Answer as answer
 use Rattle.tclthread.specs.Asking.{AsksFor, kept_of}
@@ -100,7 +100,7 @@ kept-after map reads writes kept end status schedule old mid new same steady (ke
 
 -- ---- by the words
 
-pub by-words : {F S K E : Type 0} (words : List (List ℕ)) (asked : Asked) (status : Status) (files : Store F) (left : Left S K E) → Reads words asked → IsAnswered (AnswersTo asked status files) status left → IsAnswered (Answers status words files) status left
+pub by-words : {F S K E : Type 0} (words : List (List ℕ)) (asked : Asked) (status : Status) (files : Store F) (left : Left S K E) → WordsAskFor words asked → IsAnswered (AnswersTo asked status files) status left → IsAnswered (Answers status words files) status left
 by-words words asked status files left reads is = record { between = is.between; answered = answer.read asked reads is.answered; told = is.told }
 
 -- a run isn't answered by `Usage`
@@ -146,10 +146,10 @@ pub usage-answer : {F S K E : Type 0} (status : Status) (words : List (List ℕ)
 usage-answer status words files left is = usage-of status words files (with_errors left is.between) is.answered
 
 -- what is asked for is one
-pub not-replay : (words : List (List ℕ)) (named : Plain) (other : Replay) → Reads words (plain named) → Reads words (replay other) → ⊥
+pub not-replay : (words : List (List ℕ)) (named : Plain) (other : Replay) → WordsAskFor words (plain named) → WordsAskFor words (replay other) → ⊥
 not-replay words named other a b = let same = one_reading words (plain named) (replay other) a b in cc
 
-pub not-generate : (words : List (List ℕ)) (named : Plain) (other : Generate) → Reads words (plain named) → Reads words (generate other) → ⊥
+pub not-generate : (words : List (List ℕ)) (named : Plain) (other : Generate) → WordsAskFor words (plain named) → WordsAskFor words (generate other) → ⊥
 not-generate words named other a b = let same = one_reading words (plain named) (generate other) a b in cc
 
 -- a schedule has room for the steps that may be asked for
@@ -157,11 +157,11 @@ few : (value : Option (List ℕ)) (steps : ℕ) → HasSteps value steps → ste
 few None steps is = omega arith
 few (Some text) steps is = is.at_most
 
-pub few-generated : (words : List (List ℕ)) (named : Generate) → Reads words (generate named) → named.steps ≤ most_steps
+pub few-generated : (words : List (List ℕ)) (named : Generate) → WordsAskFor words (generate named) → named.steps ≤ most_steps
 few-generated words named is = few _ named.steps is.asks.steps
 
 -- no plain run is asked for where the words were refused
-pub no-plain : (status : Status) (words : List (List ℕ)) → IsWordRefusal status words → status ≢ NoMemory → (named : Plain) → ¬ (Reads words (plain named))
+pub no-plain : (status : Status) (words : List (List ℕ)) → IsWordRefusal status words → status ≢ NoMemory → (named : Plain) → ¬ (WordsAskFor words (plain named))
 no-plain Usage words is some named = is (plain named)
 no-plain NoMemory words is some named = absurd (some refl)
 no-plain (Done code) words is some named = absurd is

@@ -9,7 +9,7 @@ use Rattle.tt_devices.specs.declared.source.Source.{Ghosts as OfSource}
 use Rattle.tt_interp.specs.declared.setup.Setup.{Setup}
 use Rattle.tt_machine.specs.Machine.{Machine, start_machine}
 use Rattle.tt_schedule.specs.ScheduleText.{most_steps}
-use Rattle.tt_words.specs.Asked.{HasSteps, HasWorkers, Plain, Reads, plain}
+use Rattle.tt_words.specs.Asked.{HasSteps, HasWorkers, Plain, WordsAskFor, plain}
 use Rattle.tt_workers.specs.Ends.{IsEnd, ReadsCount, WritesCount, kept_with}
 use Rattle.tt_workers.specs.Ran.{IsRan}
 use Rattle.tt_workers.specs.declared.next.RunEnd.{RunEnd}
@@ -30,10 +30,10 @@ steps-within : (value : Option (List ℕ)) (steps : ℕ) → HasSteps value step
 steps-within None steps is = (omega (arith, is), omega (arith, is))
 steps-within (Some text) steps is = (is.at_least, is.at_most)
 
-pub plain-workers : (words : List (List ℕ)) (named : Plain) → Reads words (plain named) → (1 ≤ named.workers) × (named.workers ≤ 64)
+pub plain-workers : (words : List (List ℕ)) (named : Plain) → WordsAskFor words (plain named) → (1 ≤ named.workers) × (named.workers ≤ 64)
 plain-workers words named is = workers-within _ named.workers is.asks.workers
 
-pub plain-steps : (words : List (List ℕ)) (named : Plain) → Reads words (plain named) → (1 ≤ named.steps) × (named.steps ≤ most_steps)
+pub plain-steps : (words : List (List ℕ)) (named : Plain) → WordsAskFor words (plain named) → (1 ≤ named.steps) × (named.steps ≤ most_steps)
 plain-steps words named is = steps-within _ named.steps is.asks.steps
 
 -- ---- how it ends

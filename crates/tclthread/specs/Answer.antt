@@ -4,7 +4,7 @@ use Rattle.tt_core.specs.Faithful.{IsFaithful, is_cut}
 use Rattle.tt_devices.specs.Faults.{Rises}
 use Rattle.tt_interp.specs.declared.setup.Setup.{Setup}
 use Rattle.tt_machine.specs.Machine.{Machine, Runs, start_machine}
-use Rattle.tt_words.specs.Asked.{Asked, Reads}
+use Rattle.tt_words.specs.Asked.{Asked, WordsAskFor}
 use Rattle.tclthread.specs.Asking.{AsksFor, HasWrongText, IsMissing, kept_of}
 use Rattle.tclthread.specs.Choosing.{Allows, Chooses, Mode}
 use Rattle.tclthread.specs.Ending.{EndsAs, IsRunStatus, kept_by}
@@ -19,7 +19,7 @@ use Rattle.tclthread.specs.declared.status.Status.TheVariants.{Done, Usage, NoFi
 
 -- memory to read the words was refused, or they ask for nothing
 abbrev pub IsWordRefusal : Status → (words : List (List ℕ)) → Type 0
-IsWordRefusal Usage words = (asked : Asked) → ¬ Reads words asked
+IsWordRefusal Usage words = (asked : Asked) → ¬ WordsAskFor words asked
 IsWordRefusal NoMemory words = ⊤
 IsWordRefusal (Done code) words = ⊥
 IsWordRefusal (NoFile name) words = ⊥
@@ -105,7 +105,7 @@ pub data AnswersTo {F S K E : Type 0} (asked : Asked) (status : Status) (files :
 pub data Answers {F S K E : Type 0} (status : Status) (words : List (List ℕ)) (files : Store F)
     (left : Left S K E) : Type 0 where
   unread : IsWordRefusal status words → IsUntouched status files left → Answers status words files left
-  read : (asked : Asked) → Reads words asked → AnswersTo asked status files left → Answers status words files left
+  read : (asked : Asked) → WordsAskFor words asked → AnswersTo asked status files left → Answers status words files left
 
 -- what is answered and left: standard error was `between` before the status line
 pub record IsAnswered {S K E : Type 0} (answers : Left S K E → Type 0) (status : Status) (left : Left S K E) : Type 0 where
@@ -115,5 +115,5 @@ pub record IsAnswered {S K E : Type 0} (answers : Left S K E → Type 0) (status
 
 -- wrong words are answered by `Usage`, where memory suffices to read them, and no others are
 pub record IsUsage (status : Status) (words : List (List ℕ)) : Type 0 where
-  pub wrong : status ≡ Usage → (asked : Asked) → ¬ Reads words asked
-  pub only : ((asked : Asked) → ¬ Reads words asked) → (status ≡ Usage) ⊎ (status ≡ NoMemory)
+  pub wrong : status ≡ Usage → (asked : Asked) → ¬ WordsAskFor words asked
+  pub only : ((asked : Asked) → ¬ WordsAskFor words asked) → (status ≡ Usage) ⊎ (status ≡ NoMemory)

@@ -3,7 +3,7 @@ use Rattle.std.specs.Prelude.{◌≡◌, ⊤, ℕ, List, Some, IsSome}
 use Rattle.tt_devices.specs.Names.{Names}
 use Rattle.tt_devices.specs.Streams.{Grows}
 use Rattle.tt_schedule.specs.ScheduleText.{IsScheduleText}
-use Rattle.tt_words.specs.Asked.{Asked, Plain, Reads, Replay, plain, replay}
+use Rattle.tt_words.specs.Asked.{Asked, Plain, WordsAskFor, Replay, plain, replay}
 use Rattle.tclthread.specs.Answer.{Answers, IsRun}
 use Rattle.tclthread.specs.Choosing.{limit_of}
 use Rattle.tclthread.specs.Left.{Left, Store, Stream}
@@ -37,7 +37,7 @@ OneAnswerLaw F S K E =
     IsSettled other →
     Answers one words files left →
     Answers other words store right →
-    ((named : Plain) → Reads words (plain named) → left.schedule ≡ right.schedule) →
+    ((named : Plain) → WordsAskFor words (plain named) → left.schedule ≡ right.schedule) →
     (one ≡ other) × (left.schedule ≡ right.schedule)
 
 -- how a run ends that is replayed after its own schedule

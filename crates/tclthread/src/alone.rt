@@ -1,8 +1,8 @@
 ghost use Rattle.std.specs.Prelude.{◌≡◌, ◌≢◌, ◌≤◌, [], map, string_bytes};
 ghost use Rattle.tt_schedule.specs.ScheduleText.{most_steps};
-ghost use Rattle.tt_words.specs.Asked.{Reads};
+ghost use Rattle.tt_words.specs.Asked.{WordsAskFor};
 ghost use Rattle.tt_words.specs.Asked as words_asked;
-ghost use Rattle.tt_words.specs.Told.{told_generate, told_replay};
+ghost use Rattle.tt_words.specs.CodeValues.{told_generate, told_replay};
 ghost use Rattle.tclthread.specs.Answer.{Answers, AnswersTo, IsAnswered, IsUsage};
 ghost use Rattle.tclthread.specs.Ended.{HandsBack, IfEnded, IfPlain};
 ghost use Rattle.tclthread.specs.Lines.{IsTold};
@@ -42,9 +42,9 @@ pub fn alone<F: Files, S: Source, K: Sink, E: Sink>(
     ensures usage { IfEnded result (λ ended. IsUsage ended.status (map string_bytes words.now)) }
 
     // Whether the words ask for a plain run.
-    ensures plain { IfPlain result ((named : words_asked.Plain) × Reads (map string_bytes words.now) (words_asked.plain named)) }
+    ensures plain { IfPlain result ((named : words_asked.Plain) × WordsAskFor (map string_bytes words.now) (words_asked.plain named)) }
     ensures not_plain { IfEnded result (λ ended. (ended.status ≢ Status.NoMemory) →
-        (named : words_asked.Plain) → ¬ Reads (map string_bytes words.now) (words_asked.plain named)) }
+        (named : words_asked.Plain) → ¬ WordsAskFor (map string_bytes words.now) (words_asked.plain named)) }
     ensures handed_back { HandsBack result input output errors }
     ensures nothing_done { IfPlain result (files.new ≡ files.old) }
 {

@@ -1,6 +1,6 @@
 ghost use Rattle.std.specs.Prelude.{◌≡◌, ◌≢◌, Bool};
 ghost use Rattle.std.specs.Option.{option_map};
-ghost use Rattle.tt_words.specs.Told.{text_of};
+ghost use Rattle.tt_words.specs.CodeValues.{text_of};
 ghost use Rattle.tclthread.specs.Keeping.{IsKept};
 ghost use Rattle.tclthread.specs.Lines.{IsTold};
 

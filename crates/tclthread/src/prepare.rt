@@ -2,9 +2,9 @@ ghost use Rattle.std.specs.Prelude.{◌≡◌, ◌≢◌, ◌⊎◌, map, string
 ghost use Rattle.std.specs.Borrow.{Bor};
 ghost use Rattle.tt_devices.specs.Faults.{Rises};
 ghost use Rattle.tt_devices.specs.Names.{Tells};
-ghost use Rattle.tt_words.specs.Asked.{Reads};
+ghost use Rattle.tt_words.specs.Asked.{WordsAskFor};
 ghost use Rattle.tt_words.specs.Asked as words_asked;
-ghost use Rattle.tt_words.specs.Told.{text_of, told_asked, told_generate, told_plain, told_replay};
+ghost use Rattle.tt_words.specs.CodeValues.{text_of, told_asked, told_generate, told_plain, told_replay};
 ghost use Rattle.tclthread.specs.Answer.{IsRefusal, IsWordRefusal};
 ghost use Rattle.tclthread.specs.Asking.{BeginsGenerated, BeginsPlain, BeginsReplay};
 ghost use Rattle.tclthread.specs.Choosing.{Freely, InTurn, Replaying};
@@ -23,7 +23,7 @@ use tt_words::{Asked, Generate, Plain, Replay, read_words};
 ///
 /// `Usage` exactly where they ask for nothing, and `NoMemory` where memory to read them is refused.
 pub(crate) fn ask(alloc: Global, words: &[String]) -> Result<Asked<'_>, Status>
-    ensures asked { IfOk result (λ asked. Reads (map string_bytes words.now) (told_asked asked)) }
+    ensures asked { IfOk result (λ asked. WordsAskFor (map string_bytes words.now) (told_asked asked)) }
     ensures refused { IfErr result (λ status. IsWordRefusal status (map string_bytes words.now)) }
 {
     match read_words(alloc, words) {

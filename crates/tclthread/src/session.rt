@@ -1,9 +1,9 @@
 ghost use Rattle.std.specs.Prelude.{◌≡◌, ◌≢◌, ◌≤◌, ◌⊎◌, map, string_bytes};
 ghost use Rattle.tt_devices.specs.Faults.{Rises};
 ghost use Rattle.tt_schedule.specs.ScheduleText.{most_steps};
-ghost use Rattle.tt_words.specs.Asked.{Reads};
+ghost use Rattle.tt_words.specs.Asked.{WordsAskFor};
 ghost use Rattle.tt_words.specs.Asked as words_asked;
-ghost use Rattle.tt_words.specs.Told.{told_plain};
+ghost use Rattle.tt_words.specs.CodeValues.{told_plain};
 ghost use Rattle.tclthread.specs.Answer.{Answers, AnswersTo, IsAnswered, IsUsage};
 ghost use Rattle.tclthread.specs.Choosing.{Freely};
 ghost use Rattle.tclthread.specs.Ending.{IsRunStatus};
@@ -82,7 +82,7 @@ fn plain<
     errors: E,
     gate: &G,
 ) -> Ended<S, K, E>
-    requires { (named : words_asked.Plain) × Reads (map string_bytes words.now) (words_asked.plain named) }
+    requires { (named : words_asked.Plain) × WordsAskFor (map string_bytes words.now) (words_asked.plain named) }
     ensures { IsAnswered
         (Answers result.status (map string_bytes words.now) (record { map = F.map; reads = F.read_fault_count; writes = F.write_fault_count; old = files.old; new = files.new }))
         result.status (record {

@@ -8,10 +8,10 @@ use Rattle.clap.specs.Lexer.{long_of}
 use Rattle.clap.specs.Walk.{Row, Text, Waiting, idle, option, positional, Walk, used, walked}
 use Rattle.clap.specs.declared.error.kind.ErrorKind.{ErrorKind}
 use Rattle.clap.specs.declared.error.kind.ErrorKind.TheVariants as kind
-use Rattle.tt_words.specs.Splitting.{BeginsWith, next, joined, Given, Splits, nothing, marked, ordinary, option as given_option, is_dashed, name_of}
+use Rattle.tt_words.specs.Splitting.{BeginsWith, next, same_word, Given, Splits, nothing, end_mark, ordinary, option as given_option, is_dashed, name_of}
 use Rattle.tt_words.specs.declared.setting.Setting.{Setting}
 use Rattle.tt_words.proofs.KindLemmas.{HasChar, Kind, is_mark, kind_of, option_name, option_value, plain, unknown_long, unknown_short}
-use Rattle.tt_words.specs.Program.{bare, words_name}
+use Rattle.tt_words.specs.inside.Program.{bare, words_name}
 use Rattle.tt_words.proofs.RuleLemmas.{by_id, by_long, long_joined, long_name, option_of, option_takes, top}
 use Rattle.tt_words.proofs.StepLemmas.{IsFree, at, joined_refused, joined_walked, long_refused, mark_walked, named_fault, named_walked, pending_fault, plain_walked, short_refused, trailing_fault, value_walked, with_pending}
 use Rattle.tt_words.proofs.WalkLemmas.{fault_end, fault_from, fault_step, joined_not_mark, name_not_mark, pending_lacks}
@@ -161,11 +161,11 @@ pub faultless : (all : List Text) → AllByRecursion IsUtf8 all → (rows : List
 faultless [] utf8 rows pending waiting free fine = record { options = []; words = []; splits = nothing }
 faultless (word ∷ []) utf8 rows pending waiting free fine = elim (kind_of word utf8.0) [
   | plain flat ↦ parts_word word [] flat (record { options = []; words = []; splits = nothing })
-  | is_mark is ↦ record { options = []; words = []; splits = marked is }
+  | is_mark is ↦ record { options = []; words = []; splits = end_mark is }
   | option_name setting is ↦
       absurd (lacks_at_end (with_pending rows pending) setting (option (bare setting)) false (after_name rows pending waiting word [] setting is fine))
   | option_value setting value is ↦
-      parts_option (word ∷ []) [] (record { setting = setting; value = value }) (joined setting is)
+      parts_option (word ∷ []) [] (record { setting = setting; value = value }) (same_word setting is)
       (record { options = []; words = []; splits = nothing })
   | unknown_long name value no_mark is none ↦ absurd (unknown_long_wrong rows pending waiting word [] name value no_mark is none fine)
   | unknown_short flag flags no_mark no_long is has ↦
@@ -176,7 +176,7 @@ faultless (word ∷ value ∷ rest) utf8 rows pending waiting free fine = elim (
       parts_word word (value ∷ rest) flat
       (faultless (value ∷ rest) utf8.1 (with_pending rows pending) (Some (words_name, word ∷ [])) positional tt
       (after_plain rows pending waiting word (value ∷ rest) free flat fine))
-  | is_mark is ↦ record { options = []; words = value ∷ rest; splits = marked is }
+  | is_mark is ↦ record { options = []; words = value ∷ rest; splits = end_mark is }
   | option_name setting is ↦
       let more = after_name rows pending waiting word (value ∷ rest) setting is fine in
       let flat = value_flat (with_pending rows pending) setting value rest (kind_of value utf8.1.0) (is_dashed value) refl more in
@@ -184,7 +184,7 @@ faultless (word ∷ value ∷ rest) utf8 rows pending waiting free fine = elim (
       (faultless rest utf8.1.1 (with_pending rows pending) (Some (bare setting, value ∷ [])) idle tt
       (after_value (with_pending rows pending) setting value rest flat more))
   | option_value setting given is ↦
-      parts_option (word ∷ value ∷ rest) (value ∷ rest) (record { setting = setting; value = given }) (joined setting is)
+      parts_option (word ∷ value ∷ rest) (value ∷ rest) (record { setting = setting; value = given }) (same_word setting is)
       (faultless (value ∷ rest) utf8.1 (used (option_of setting) (given ∷ []) (with_pending rows pending)) None idle tt
       (after_joined rows pending waiting word (value ∷ rest) setting given is fine))
   | unknown_long name given no_mark is none ↦ absurd (unknown_long_wrong rows pending waiting word (value ∷ rest) name given no_mark is none fine)

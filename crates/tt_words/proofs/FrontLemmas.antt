@@ -1,6 +1,6 @@
 -- What words begin with is one thing.
 use Rattle.std.proofs.Common.{◌≡◌, ◌≢◌, ◌==◌, ℕ, true, List, [], ◌∷◌, ◌++◌, bytes_eq, Option, Some, None, if◌then◌else◌, refl, sym, ap, ◌∙◌}
-use Rattle.tt_words.specs.Splitting.{BeginsWith, next, joined, Given, is_dashed, mark, name_of}
+use Rattle.tt_words.specs.Splitting.{BeginsWith, next, same_word, Given, is_dashed, mark, name_of}
 use Rattle.tt_words.specs.declared.setting.Setting.{Setting}
 use Rattle.tt_words.specs.declared.setting.Setting.TheVariants.{Workers, Steps, Limit, Record, Replay, Generate}
 
@@ -116,12 +116,12 @@ FirstIs P (word ∷ rest) = P word
 pub front_dashed : {words rest : List (List ℕ)} {given : Given} →
     BeginsWith words given rest → FirstIs (λ word. is_dashed word ≡ true) words
 front_dashed (next setting e plain) = ap is_dashed e ∙ dashed_name setting
-front_dashed (joined setting {word} {value} e) = ap is_dashed e ∙ dashed_joined setting value
+front_dashed (same_word setting {word} {value} e) = ap is_dashed e ∙ dashed_joined setting value
 
 pub front_no_mark : {words rest : List (List ℕ)} {given : Given} →
     BeginsWith words given rest → FirstIs (λ word. word ≢ mark) words
 front_no_mark (next setting e plain) = λ m. mark_no_name setting (sym m ∙ e)
-front_no_mark (joined setting {word} {value} e) = λ m. mark_not_joined setting value (sym m ∙ e)
+front_no_mark (same_word setting {word} {value} e) = λ m. mark_not_joined setting value (sym m ∙ e)
 
 -- an option with its value
 abbrev pub giving : Setting → List ℕ → Given
@@ -132,8 +132,8 @@ pub one_front : {words rest second : List (List ℕ)} {given other : Given} →
     BeginsWith words given rest → BeginsWith words other second → (given ≡ other) × (rest ≡ second)
 one_front (next s {name} {value} e plain) (next t f flat) =
     (ap (λ (of : Setting). giving of value) (one_name s t (sym e ∙ f)), refl)
-one_front (next s e plain) (joined t {word} {value} f) = absurd (name_not_joined s t value (sym e ∙ f))
-one_front (joined s {word} {value} e) (next t f flat) = absurd (name_not_joined t s value (sym f ∙ e))
-one_front (joined s {word} {value} e) (joined t {word = same} {value = second} f) =
+one_front (next s e plain) (same_word t {word} {value} f) = absurd (name_not_joined s t value (sym e ∙ f))
+one_front (same_word s {word} {value} e) (next t f flat) = absurd (name_not_joined t s value (sym f ∙ e))
+one_front (same_word s {word} {value} e) (same_word t {word = same} {value = second} f) =
     let parts = one_joined s t value second (sym e ∙ f) in
     (ap (λ (of : Setting). giving of value) parts.0 ∙ ap (giving t) parts.1, refl)

@@ -10,7 +10,7 @@ use Rattle.tt_words.specs.Splitting.{is_dashed, mark, name_of}
 use Rattle.tt_words.specs.declared.setting.Setting.{Setting}
 use Rattle.tt_words.specs.declared.setting.Setting.TheVariants.{Workers, Steps, Limit, Record, Replay, Generate}
 use Rattle.tt_words.proofs.RowLemmas.{same_text}
-use Rattle.tt_words.specs.Program.{bare}
+use Rattle.tt_words.specs.inside.Program.{bare}
 use Rattle.tt_words.proofs.RuleLemmas.{by_no_long, top}
 
 -- ---- a text and its first `=`

@@ -1,6 +1,6 @@
 -- Options and ordinary words ask for one thing at most.
 use Rattle.std.proofs.Common.{◌≡◌, ℕ, List, [], ◌∷◌, Option, Some, None, refl, sym, ap, ◌∙◌, subst}
-use Rattle.tt_words.specs.Asked.{Asked, plain, replay, generate, Plain, Replay, Generate, AsksFor, HasFile, HasNumber, IsPlain, IsReplay, IsGenerate, Reads, Values, WritesWithin}
+use Rattle.tt_words.specs.Asked.{Asked, plain, replay, generate, Plain, Replay, Generate, PartsAskFor, HasFile, HasNumber, IsPlain, IsReplay, IsGenerate, WordsAskFor, Values, WritesWithin}
 use Rattle.tt_words.proofs.ReadingLemmas.{asks_of}
 
 -- ---- numbers, files and scripts
@@ -96,7 +96,7 @@ one_generate values ordinary one other a b =
     (one_file values.kept one.kept other.kept a.kept b.kept)
 
 one_asked : (values : Values) (ordinary : List (List ℕ)) (one other : Asked) →
-    AsksFor values ordinary one → AsksFor values ordinary other → one ≡ other
+    PartsAskFor values ordinary one → PartsAskFor values ordinary other → one ≡ other
 one_asked values ordinary (plain one) (plain other) a b = one_plain values ordinary one other a b
 one_asked values ordinary (replay one) (replay other) a b = one_replay values ordinary one other a b
 one_asked values ordinary (generate one) (generate other) a b = one_generate values ordinary one other a b
@@ -109,6 +109,6 @@ one_asked values ordinary (replay one) (generate other) a b = absurd (no_value v
 one_asked values ordinary (generate one) (plain other) a b = absurd (no_value values.generate a.value b.no_generate a.given)
 one_asked values ordinary (generate one) (replay other) a b = absurd (no_value values.generate a.value b.no_generate a.given)
 
-pub one_reading : (words : List (List ℕ)) (one other : Asked) → Reads words one → Reads words other → one ≡ other
+pub one_reading : (words : List (List ℕ)) (one other : Asked) → WordsAskFor words one → WordsAskFor words other → one ≡ other
 one_reading words one other a b =
     one_asked _ a.ordinary one other a.asks (asks_of words a.options a.ordinary other a.splits b)

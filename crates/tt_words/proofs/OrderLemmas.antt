@@ -1,8 +1,8 @@
 -- The order of options doesn't matter.
 use Rattle.std.proofs.Common.{◌≡◌, ◌≤◌, ℕ, Bool, true, false, List, ◌∷◌, ◌++◌, length, bytes_eq, if◌then◌else◌, refl, sym, ap, ◌∙◌, subst, arith}
-use Rattle.tt_words.specs.Asked.{Asked, AsksFor, Reads, Values, values_in, values_of}
-use Rattle.tt_words.specs.Laws.{AreWhole, IsOption, none, ordinary as whole_word, option as whole_option}
-use Rattle.tt_words.specs.Splitting.{BeginsWith, next, joined, Given, Splits, ordinary, option, is_dashed, name_of}
+use Rattle.tt_words.specs.Asked.{Asked, PartsAskFor, WordsAskFor, Values, values_in, values_of}
+use Rattle.tt_words.specs.WordLaws.{AreWhole, IsOption, none, ordinary as whole_word, option as whole_option}
+use Rattle.tt_words.specs.Splitting.{BeginsWith, next, same_word, Given, Splits, ordinary, option, is_dashed, name_of}
 use Rattle.tt_words.specs.declared.setting.Setting.{Setting}
 use Rattle.tt_words.specs.declared.setting.Setting.TheVariants.{Workers, Steps, Limit, Record, Replay, Generate}
 use Rattle.tt_words.proofs.SplitLemmas.{only_option, only_word}
@@ -57,7 +57,7 @@ Moves all other = (options : List Given) (words : List (List ℕ)) → Splits al
 pub front_more : {words rest : List (List ℕ)} {given : Given} (more : List (List ℕ)) →
     BeginsWith words given rest → BeginsWith (words ++ more) given (rest ++ more)
 front_more more (next setting e plain) = next setting e plain
-front_more more (joined setting e) = joined setting e
+front_more more (same_word setting e) = same_word setting e
 
 with_word : (word : List ℕ) (rest : List (List ℕ)) (options : List Given) (words left : List (List ℕ)) →
     is_dashed word ≡ false → words ≡ word ∷ left → MovesTo rest options left → MovesTo (word ∷ rest) options words
@@ -141,7 +141,7 @@ same_values options others same =
     rw (same Workers, same Steps, same Limit, same Record, same Replay, same Generate) refl
 
 -- words ask for the same
-pub reads_moved : (all other : List (List ℕ)) (asked : Asked) → Moves all other → Reads all asked → Reads other asked
+pub reads_moved : (all other : List (List ℕ)) (asked : Asked) → Moves all other → WordsAskFor all asked → WordsAskFor other asked
 reads_moved all other asked moves reads =
     let to = moves reads.options reads.ordinary reads.splits in
     let same : (setting : Setting) → values_of setting to.others ≡ values_of setting reads.options =
@@ -151,5 +151,5 @@ reads_moved all other asked moves reads =
       ordinary = reads.ordinary;
       splits = to.splits;
       once = λ setting. few_moved (values_of setting reads.options) (values_of setting to.others) (same setting) (reads.once setting);
-      asks = subst (λ (values : Values). AsksFor values reads.ordinary asked) (same_values reads.options to.others same) reads.asks;
+      asks = subst (λ (values : Values). PartsAskFor values reads.ordinary asked) (same_values reads.options to.others same) reads.asks;
     }

@@ -19,13 +19,13 @@ use Rattle.clap.specs.declared.parser.matches.Found.{Found}
 use Rattle.clap.proofs.WalkLemmas.{find_row}
 use Rattle.clap.specs.Facts.{Entry}
 use Rattle.tt_words.specs.Asked.{values_of}
-use Rattle.tt_words.specs.Program.{bare, program, words_name}
+use Rattle.tt_words.specs.inside.Program.{bare, program, words_name}
 use Rattle.tt_words.specs.Splitting.{Given, Splits}
 use Rattle.tt_words.specs.declared.setting.Setting.{Setting}
 use Rattle.tt_words.proofs.FaultLemmas.{Parts, faultless}
 use Rattle.tt_words.proofs.RowLemmas.{values_at}
 use Rattle.tt_words.proofs.RuleLemmas.{no_defaults, program_free, program_simple, top}
-use Rattle.tt_words.specs.Told.{AreWrong, HasParts}
+use Rattle.tt_words.specs.inside.Matches.{AreWrong, HasParts}
 use Rattle.tt_words.proofs.StepLemmas.{at, or_else_none}
 use Rattle.tt_words.proofs.WalkLemmas.{EndsWell, ends_split, fault_from, rows_from}
 

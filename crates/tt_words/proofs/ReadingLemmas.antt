@@ -1,26 +1,27 @@
 -- Words ask for one thing at most.
 use Rattle.std.proofs.Common.{◌≡◌, ◌≤◌, ◌<◌, ℕ, List, length, Option, Some, None, IfSome, IfNone, refl, sym, subst, arith}
 use Rattle.std.specs.Option.{option_map}
-use Rattle.tt_words.specs.Asked.{Asked, AsksFor, IsReading, Reads, values_in, values_of}
+use Rattle.tt_words.specs.Asked.{Asked, PartsAskFor, IsReading, WordsAskFor, values_in, values_of}
 use Rattle.clap.specs.declared.parser.matches.ArgMatches.{ArgMatches}
-use Rattle.tt_words.specs.Program.{bare}
+use Rattle.tt_words.specs.inside.Program.{bare}
 use Rattle.tt_words.specs.declared.setting.Setting.TheVariants.{Workers, Steps, Limit, Record, Replay, Generate}
 use Rattle.tt_words.specs.Splitting.{Given, Splits}
-use Rattle.tt_words.specs.Told.{HasParts, IsOnceBy, given_in, told_asked, values_by}
+use Rattle.tt_words.specs.CodeValues.{told_asked}
+use Rattle.tt_words.specs.inside.Matches.{HasParts, IsOnceBy, given_in, values_by}
 use Rattle.tt_words.specs.declared.asked.Asked.{Asked as CodeAsked}
 use Rattle.tt_words.specs.declared.setting.Setting.{Setting}
 use Rattle.tt_words.proofs.SplitLemmas.{one_split}
 
 -- what words ask for, by the one way in which they split
 pub asks_of : (words : List (List ℕ)) (options : List Given) (ordinary : List (List ℕ)) (asked : Asked) →
-    Splits words options ordinary → Reads words asked → AsksFor (values_in options) ordinary asked
+    Splits words options ordinary → WordsAskFor words asked → PartsAskFor (values_in options) ordinary asked
 asks_of words options ordinary asked splits reads =
     let same = one_split words reads.options options reads.ordinary ordinary reads.splits splits in
-    subst (λ (o : List Given). AsksFor (values_in o) ordinary asked) same.0
-    (subst (λ (w : List (List ℕ)). AsksFor (values_in reads.options) w asked) same.1 reads.asks)
+    subst (λ (o : List Given). PartsAskFor (values_in o) ordinary asked) same.0
+    (subst (λ (w : List (List ℕ)). PartsAskFor (values_in reads.options) w asked) same.1 reads.asks)
 
 pub once_of : (words : List (List ℕ)) (options : List Given) (ordinary : List (List ℕ)) (asked : Asked) →
-    Splits words options ordinary → Reads words asked → ((setting : Setting) → length (values_of setting options) ≤ 1)
+    Splits words options ordinary → WordsAskFor words asked → ((setting : Setting) → length (values_of setting options) ≤ 1)
 once_of words options ordinary asked splits reads =
     let same = one_split words reads.options options reads.ordinary ordinary reads.splits splits in
     subst (λ (o : List Given). (setting : Setting) → length (values_of setting o) ≤ 1) same.0 reads.once
@@ -28,8 +29,8 @@ once_of words options ordinary asked splits reads =
 -- what the code answers to words that split, where each option comes at most once
 pub reading_is : (words : List (List ℕ)) (options : List Given) (ordinary : List (List ℕ)) →
     Splits words options ordinary → ((setting : Setting) → length (values_of setting options) ≤ 1) → (asked : Option CodeAsked) →
-    IfSome asked (λ a. AsksFor (values_in options) ordinary (told_asked a)) →
-    IfNone asked ((a : Asked) → ¬ (AsksFor (values_in options) ordinary a)) →
+    IfSome asked (λ a. PartsAskFor (values_in options) ordinary (told_asked a)) →
+    IfNone asked ((a : Asked) → ¬ (PartsAskFor (values_in options) ordinary a)) →
     IsReading words (option_map told_asked asked)
 reading_is words options ordinary splits once (Some asked) found none = record {
   options = options;

@@ -10,7 +10,7 @@ use Rattle.clap.specs.Faults.{is_simple_and_free}
 use Rattle.clap.specs.declared.builder.action.ArgAction.TheVariants.{Append}
 use Rattle.clap.specs.declared.builder.value_parser.Reading.TheVariants as reading
 use Rattle.clap.specs.declared.builder.value_parser.ValueParser.TheVariants as parser
-use Rattle.tt_words.specs.Program.{bare, option_rule, program, words_name, words_rule}
+use Rattle.tt_words.specs.inside.Program.{bare, option_rule, program, words_name, words_rule}
 use Rattle.tt_words.specs.Splitting.{name_of}
 use Rattle.tt_words.specs.declared.setting.Setting.{Setting}
 use Rattle.tt_words.specs.declared.setting.Setting.TheVariants.{Workers, Steps, Limit, Record, Replay, Generate}

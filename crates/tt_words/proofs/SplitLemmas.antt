@@ -1,6 +1,6 @@
 -- Words split in one way at most, and part by part.
 use Rattle.std.proofs.Common.{◌≡◌, ℕ, Bool, true, false, List, [], ◌∷◌, refl, sym, ap, ◌∙◌, subst}
-use Rattle.tt_words.specs.Splitting.{BeginsWith, Given, Splits, nothing, marked, ordinary, option, is_dashed, mark}
+use Rattle.tt_words.specs.Splitting.{BeginsWith, Given, Splits, nothing, end_mark, ordinary, option, is_dashed, mark}
 use Rattle.tt_words.proofs.FrontLemmas.{front_dashed, front_no_mark, one_front}
 
 true_not_false : (b : Bool) → b ≡ true → b ≡ false → ⊥
@@ -15,7 +15,7 @@ mark_dashed word e = ap is_dashed e
 -- after the mark all words are ordinary
 pub only_mark : (word : List ℕ) (rest : List (List ℕ)) (options : List Given) (words : List (List ℕ)) →
     word ≡ mark → Splits (word ∷ rest) options words → (options ≡ []) × (words ≡ rest)
-only_mark word rest options words is (marked e) = (refl, refl)
+only_mark word rest options words is (end_mark e) = (refl, refl)
 only_mark word rest options words is (ordinary plain after) =
     absurd (true_not_false (is_dashed word) (mark_dashed word is) plain)
 only_mark word rest options words is (option front after) = absurd (front_no_mark front is)
@@ -28,7 +28,7 @@ pub record AfterWord (word : List ℕ) (rest : List (List ℕ)) (options : List 
 
 pub only_word : (word : List ℕ) (rest : List (List ℕ)) (options : List Given) (words : List (List ℕ)) →
     is_dashed word ≡ false → Splits (word ∷ rest) options words → AfterWord word rest options words
-only_word word rest options words plain (marked e) =
+only_word word rest options words plain (end_mark e) =
     absurd (true_not_false (is_dashed word) (mark_dashed word e) plain)
 only_word word rest options words plain (ordinary {words = left} flat after) =
     record { left = left; cut = refl; splits = after }
@@ -52,7 +52,7 @@ after_front given other rest second options words same splits = record {
 pub only_option : (all rest : List (List ℕ)) (given : Given) (options : List Given) (words : List (List ℕ)) →
     BeginsWith all given rest → Splits all options words → AfterOption given rest options words
 only_option all rest given options words front nothing = absurd (front_dashed front)
-only_option all rest given options words front (marked e) = absurd (front_no_mark front e)
+only_option all rest given options words front (end_mark e) = absurd (front_no_mark front e)
 only_option all rest given options words front (ordinary {word = word} plain after) =
     absurd (true_not_false (is_dashed word) (front_dashed front) plain)
 only_option all rest given options words front (option {rest = second} {given = other} {options = left} again after) =
@@ -64,7 +64,7 @@ pub one_split : (all : List (List ℕ)) (options others : List Given) (words sec
     Splits all options words → Splits all others second → (options ≡ others) × (words ≡ second)
 one_split all options others words second nothing nothing = (refl, refl)
 one_split all options others words second nothing (option front after) = absurd (front_dashed front)
-one_split all options others words second (marked {word} {rest} e) again =
+one_split all options others words second (end_mark {word} {rest} e) again =
     let same = only_mark word rest others second e again in
     (sym same.0, sym same.1)
 one_split all options others words second (ordinary {word} {rest} {options = o} {words = w} plain after) again =

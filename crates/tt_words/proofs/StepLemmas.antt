@@ -11,7 +11,7 @@ use Rattle.clap.specs.declared.error.kind.ErrorKind.TheVariants as kind
 use Rattle.clap.specs.declared.parser.matches.ValueSource.TheVariants.{CommandLine}
 use Rattle.tt_words.specs.Splitting.{is_dashed, mark}
 use Rattle.tt_words.proofs.RowLemmas.{same_test, same_text}
-use Rattle.tt_words.specs.Program.{words_name}
+use Rattle.tt_words.specs.inside.Program.{words_name}
 use Rattle.tt_words.proofs.RuleLemmas.{TakesOne, by_index, by_no_short, top, words_several, words_take, words_trailing}
 
 -- ---- small facts

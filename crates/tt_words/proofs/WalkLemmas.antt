@@ -9,12 +9,12 @@ use Rattle.clap.specs.declared.builder.value_parser.Reading.TheVariants as readi
 use Rattle.clap.specs.declared.error.kind.ErrorKind.TheVariants as kind
 use Rattle.clap.specs.declared.parser.matches.ValueSource.TheVariants.{CommandLine}
 use Rattle.tt_words.specs.Asked.{values_of}
-use Rattle.tt_words.specs.Splitting.{next, joined, Given, Splits, nothing, marked, ordinary, option as given_option, mark, name_of}
+use Rattle.tt_words.specs.Splitting.{next, same_word, Given, Splits, nothing, end_mark, ordinary, option as given_option, mark, name_of}
 use Rattle.tt_words.specs.declared.setting.Setting.{Setting}
 use Rattle.tt_words.specs.declared.setting.Setting.TheVariants.{Workers, Steps, Limit, Record, Replay, Generate}
 use Rattle.tt_words.proofs.FrontLemmas.{mark_no_name, mark_not_joined}
 use Rattle.tt_words.proofs.RowLemmas.{same_text, values_at, values_more, values_same}
-use Rattle.tt_words.specs.Program.{bare, words_name}
+use Rattle.tt_words.specs.inside.Program.{bare, words_name}
 use Rattle.tt_words.proofs.RuleLemmas.{TakesOne, by_id, by_long, by_words, long_joined, long_name, option_of, option_takes, top, words, words_take}
 use Rattle.tt_words.proofs.StepLemmas.{IsFree, at, joined_walked, mark_fault, mark_walked, named_fault, named_walked, pending_fault, plain_fault, plain_walked, trailing_fault, trailing_walked, use_is_right, use_lacks, used_is, value_fault, value_walked, with_pending, joined_fault}
 
@@ -281,7 +281,7 @@ pub ends_split : (rows : List Row) (pending : Option (Text × List Text)) (waiti
     IsFree waiting → pending_fault rows pending ≡ [] → Splits all options more →
     EndsWell rows pending waiting false all options more
 ends_split rows pending waiting all options more free fine nothing = ends_here rows pending waiting false fine
-ends_split rows pending waiting all options more free fine (marked {word} {rest} is) =
+ends_split rows pending waiting all options more free fine (end_mark {word} {rest} is) =
     subst (λ (w : Text). EndsWell rows pending waiting false (w ∷ rest) [] rest) (sym is)
     (ends_on rows rows pending pending waiting waiting false true (mark ∷ rest) rest [] [] [] rest
     (reach _ _ mark rest (mark_walked rows pending waiting) (mark_fault rows pending waiting)) (grows_none (with_pending rows pending))
@@ -314,7 +314,7 @@ ends_split rows pending waiting all options more free fine
     (ends_split (with_pending rows pending) (Some (bare setting, value ∷ [])) idle rest o w tt
     (pending_right (with_pending rows pending) (bare setting) value (option_of setting) (by_id setting) one) after)
 ends_split rows pending waiting all options more free fine
-    (given_option {options = o} {words = w} (joined setting {word} {value} {rest} is) after) =
+    (given_option {options = o} {words = w} (same_word setting {word} {value} {rest} is) after) =
     let no_mark = joined_not_mark setting word value is in
     let long : long_of word ≡ Some (bare setting, Some value) = ap long_of is ∙ long_joined setting value in
     let one = option_takes setting in

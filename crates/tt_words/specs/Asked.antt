@@ -1,5 +1,6 @@
 -- What a command line asks for, by its options and its ordinary words.
-use Rattle.std.specs.Prelude.{◌≡◌, ◌≢◌, ◌≤◌, ⊤, ℕ, List, [], ◌∷◌, length, IsTrue, bytes_eq, Option, Some, None, if◌then◌else◌}
+use Rattle.std.specs.Prelude.{◌≡◌, ◌≢◌, ◌≤◌, ⊤, ℕ, List, [], ◌∷◌, length, IsTrue, bytes_eq, Option, Some, None}
+use Rattle.std.specs.Prelude.{if◌then◌else◌}
 use Rattle.std.specs.Char.{is_ascii_digit}
 use Rattle.std.specs.List.{list_all}
 use Rattle.std.specs.Str.Parse.{digits_value}
@@ -87,7 +88,7 @@ pub record WritesWithin (least most : ℕ) (text : List ℕ) (number : ℕ) : Ty
   pub at_least : least ≤ number
   pub at_most : number ≤ most
 
--- the number that an option has: the one that its value writes, or the one that stands where it isn't given
+-- the number that an option has: the one that its value writes, or the default if it isn't given
 abbrev pub HasNumber : (least most default : ℕ) → Option (List ℕ) → (number : ℕ) → Type 0
 HasNumber least most default None number = number ≡ default
 HasNumber least most default (Some text) number = WritesWithin least most text number
@@ -149,20 +150,20 @@ pub record IsGenerate (values : Values) (ordinary : List (List ℕ)) (generate :
   pub no_replay : values.replay ≡ None
 
 -- what options and ordinary words ask for
-abbrev pub AsksFor : Values → (ordinary : List (List ℕ)) → Asked → Type 0
-AsksFor values ordinary (plain asked) = IsPlain values ordinary asked
-AsksFor values ordinary (replay asked) = IsReplay values ordinary asked
-AsksFor values ordinary (generate asked) = IsGenerate values ordinary asked
+abbrev pub PartsAskFor : Values → (ordinary : List (List ℕ)) → Asked → Type 0
+PartsAskFor values ordinary (plain asked) = IsPlain values ordinary asked
+PartsAskFor values ordinary (replay asked) = IsReplay values ordinary asked
+PartsAskFor values ordinary (generate asked) = IsGenerate values ordinary asked
 
 -- what a command line asks for: it splits, each option comes at most once, and they ask for it
-pub record Reads (words : List (List ℕ)) (asked : Asked) : Type 0 where
+pub record WordsAskFor (words : List (List ℕ)) (asked : Asked) : Type 0 where
   pub options : List Given
   pub ordinary : List (List ℕ)
   pub splits : Splits words options ordinary
   pub once : (setting : Setting) → length (values_of setting options) ≤ 1
-  pub asks : AsksFor (values_in options) ordinary asked
+  pub asks : PartsAskFor (values_in options) ordinary asked
 
 -- what is answered: what the words ask for, or that they ask for nothing
 abbrev pub IsReading : (words : List (List ℕ)) → Option Asked → Type 0
-IsReading words (Some asked) = Reads words asked
-IsReading words None = (asked : Asked) → ¬ Reads words asked
+IsReading words (Some asked) = WordsAskFor words asked
+IsReading words None = (asked : Asked) → ¬ WordsAskFor words asked

@@ -1,5 +1,5 @@
 pub mod Asked
-pub mod Laws
-pub mod Program
+pub mod CodeValues
 pub mod Splitting
-pub mod Told
+pub mod WordLaws
+pub mod inside

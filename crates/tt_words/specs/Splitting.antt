@@ -35,14 +35,14 @@ pub data BeginsWith : List (List ℕ) → Given → (rest : List (List ℕ)) →
       is_dashed value ≡ false →
       BeginsWith (name ∷ value ∷ rest) (record { setting = setting; value = value }) rest
   -- or it follows `=` in the same word
-  joined : (setting : Setting) {word value : List ℕ} {rest : List (List ℕ)} →
+  same_word : (setting : Setting) {word value : List ℕ} {rest : List (List ℕ)} →
       word ≡ name_of setting ++ (61 ∷ value) →
       BeginsWith (word ∷ rest) (record { setting = setting; value = value }) rest
 
 -- words have these options and these ordinary words, each in the order in which they stand
 pub data Splits : (words : List (List ℕ)) → List Given → (ordinary : List (List ℕ)) → Type 0 where
   nothing : Splits [] [] []
-  marked : {word : List ℕ} {rest : List (List ℕ)} →
+  end_mark : {word : List ℕ} {rest : List (List ℕ)} →
       word ≡ mark →
       Splits (word ∷ rest) [] rest
   ordinary : {word : List ℕ} {rest : List (List ℕ)} {options : List Given} {words : List (List ℕ)} →

@@ -1,7 +1,7 @@
 ghost use Rattle.std.specs.Prelude.{◌≡◌, ◌≤◌, ℕ, List, map, IfSome, IfNone, Some};
 ghost use Rattle.std.specs.Option.{option_map};
 ghost use Rattle.tt_words.specs.Asked as spec;
-ghost use Rattle.tt_words.specs.Told.{text_of, told_asked, told_generate, told_plain, told_replay, told_values};
+ghost use Rattle.tt_words.specs.CodeValues.{text_of, told_asked, told_generate, told_plain, told_replay, told_values};
 
 use crate::numbers::{number, number_within};
 use crate::values::Values;
@@ -68,12 +68,12 @@ pub enum Asked<'a> {
     Generate(Generate<'a>),
 }
 
-/// What the options and the ordinary words ask for; `None` exactly where they ask for nothing.
+/// What the options and the ordinary words ask for; `None` exactly if they ask for nothing.
 pub(crate) fn asked_by<'a>(values: &Values<'a>, ordinary: Vec<&'a str>) -> Option<Asked<'a>>
     ensures found { IfSome result (λ asked.
-        spec.AsksFor (told_values values.now) (map text_of ordinary.entry.items) (told_asked asked)) }
+        spec.PartsAskFor (told_values values.now) (map text_of ordinary.entry.items) (told_asked asked)) }
     ensures none { IfNone result ((asked : spec.Asked) →
-        ¬ spec.AsksFor (told_values values.now) (map text_of ordinary.entry.items) asked) }
+        ¬ spec.PartsAskFor (told_values values.now) (map text_of ordinary.entry.items) asked) }
 {
     match (values.replay, values.generate) {
         (None, None) => match read_plain(values, ordinary) {
@@ -169,7 +169,7 @@ fn read_generate<'a>(values: &Values<'a>, ordinary: &[&'a str]) -> Option<Genera
     })
 }
 
-/// The file that the option names, or none where it isn't given; `None` exactly where its name is empty.
+/// The file that the option names, or none if it isn't given; `None` exactly if its name is empty.
 fn file(value: Option<&str>) -> Option<Option<&str>>
     ensures found { IfSome result (λ file. spec.HasFile (option_map text_of value.entry) (option_map text_of file)) }
     ensures none { IfNone result ((file : _) → ¬ spec.HasFile (option_map text_of value.entry) file) }
@@ -180,7 +180,7 @@ fn file(value: Option<&str>) -> Option<Option<&str>>
     }
 }
 
-/// The script and its arguments; `None` exactly where there is no word, or the first is empty.
+/// The script and its arguments; `None` exactly if there is no word, or the first is empty.
 fn script<'a>(ordinary: Vec<&'a str>) -> Option<(&'a str, Vec<&'a str>)>
     ensures found { IfSome result (λ found.
         spec.HasScript (map text_of ordinary.entry.items) found.0.now (map text_of found.1.items)) }

@@ -1,6 +1,6 @@
 ghost use Rattle.std.specs.Prelude.{◌≡◌, IfOk, false};
 ghost use Rattle.clap.specs.Words.{app_of, rule_of};
-ghost use Rattle.tt_words.specs.Program.{option_rule, program};
+ghost use Rattle.tt_words.specs.inside.Program.{option_rule, program};
 
 use crate::setting::Setting;
 use clap::{Arg, ArgAction, Command, Error};

@@ -1,5 +1,5 @@
 //! What holds of the definitions.
-ghost use Rattle.tt_words.specs.Laws.{OneReadingLaw, OptionsSwapLaw, WordSwapLaw};
+ghost use Rattle.tt_words.specs.WordLaws.{OneReadingLaw, OptionsSwapLaw, WordSwapLaw};
 
 /// Words ask for one thing at most.
 pub fn one_reading()

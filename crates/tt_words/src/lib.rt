@@ -12,6 +12,3 @@ mod values;
 
 pub use asked::{Asked, Generate, Plain, Replay};
 pub use reading::{USAGE, read_words};
-
-#[cfg(test)]
-mod tests;

@@ -3,12 +3,12 @@ ghost use Rattle.std.specs.Char.{is_ascii_digit};
 ghost use Rattle.std.specs.List.{list_all};
 ghost use Rattle.std.specs.Option.{option_map};
 ghost use Rattle.tt_words.specs.Asked.{HasNumber, Writes, WritesWithin};
-ghost use Rattle.tt_words.specs.Told.{text_of};
+ghost use Rattle.tt_words.specs.CodeValues.{text_of};
 
 /// The most digits of a number.
 const MOST_DIGITS: usize = 20;
 
-/// The number that the option has: that of its value, or the default where it isn't given; `None` exactly where its
+/// The number that the option has: that of its value, or the default if it isn't given; `None` exactly if its
 /// value writes no number from the least to the most.
 pub(crate) fn number(value: Option<&str>, least: u64, most: u64, default: u64) -> Option<u64>
     requires { default ≤ most }
@@ -23,7 +23,7 @@ pub(crate) fn number(value: Option<&str>, least: u64, most: u64, default: u64) -
     }
 }
 
-/// The number that the text writes, from the least to the most; `None` exactly where it writes no such one.
+/// The number that the text writes, from the least to the most; `None` exactly if it writes no such one.
 pub(crate) fn number_within(text: &str, least: u64, most: u64) -> Option<u64>
     ensures found { IfSome result (WritesWithin least most text.now) }
     ensures within { IfSome result (λ number. number ≤ most) }
@@ -36,7 +36,7 @@ pub(crate) fn number_within(text: &str, least: u64, most: u64) -> Option<u64>
     Some(number)
 }
 
-/// The number that 1 to 20 digits write; `None` exactly where the text isn't so, or the number is 2^64 or more.
+/// The number that 1 to 20 digits write; `None` exactly if the text isn't so, or the number is 2^64 or more.
 fn written(text: &str) -> Option<u64>
     ensures found { IfSome result (Writes text.now) }
     ensures none { IfNone result ((number : ℕ) → number < 2 ^ 64 → ¬ Writes text.now number) }

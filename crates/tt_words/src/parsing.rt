@@ -1,5 +1,5 @@
 ghost use Rattle.std.specs.Prelude.{map, string_bytes, IfOk};
-ghost use Rattle.tt_words.specs.Told.{AreParts};
+ghost use Rattle.tt_words.specs.inside.Matches.{AreParts};
 
 use crate::command::command;
 use clap::ArgMatches;
@@ -7,10 +7,10 @@ use clap::error::ErrorKind;
 use std::alloc::Global;
 use tt_text::NoMemory;
 
-/// The options and the ordinary words; `None` exactly where the words do not split into them: a dashed word before the
+/// The options and the ordinary words; `None` exactly if the words do not split into them: a dashed word before the
 /// end mark is no option, or an option has no value.
 ///
-/// `NoMemory` where memory for the parse is refused.
+/// `NoMemory` if memory for the parse is refused.
 pub(crate) fn parse(alloc: Global, words: &[String]) -> Result<Option<ArgMatches<'_>>, NoMemory>
     ensures { IfOk result (AreParts (map string_bytes words.now)) }
 {

@@ -1,7 +1,7 @@
 ghost use Rattle.std.specs.Prelude.{map, string_bytes, IfOk};
 ghost use Rattle.std.specs.Option.{option_map};
 ghost use Rattle.tt_words.specs.Asked.{IsReading};
-ghost use Rattle.tt_words.specs.Told.{told_asked};
+ghost use Rattle.tt_words.specs.CodeValues.{told_asked};
 
 use crate::asked::{Asked, asked_by};
 use crate::parsing::parse;
@@ -11,16 +11,17 @@ use tt_text::NoMemory;
 
 /// How the program is called.
 pub const USAGE: &[u8] =
-    b"tclthread [--workers N] [--steps N] [--limit N] [--record FILE] [--replay FILE] [--generate NUMBER] SCRIPT [ARG ...]";
+    b"tclthread [--workers N] [--steps N] [--limit N] [--record FILE] [--replay FILE] [--generate NUMBER] \
+      SCRIPT [ARG ...]";
 
 /// What the words after the program's name ask for (`USAGE`).
 ///
 /// The value of an option is the next word, unless that begins with `-` and is longer than `-`, or follows `=` in the
-/// same word. Each option comes at most once, before or after other words, and up to the word `--`; the words after that
-/// are ordinary. A number is 1 to 20 digits, and a name is not empty. `--replay` excludes each other option but
+/// same word. Each option comes at most once, before or after other words, and up to the word `--`; the words after
+/// that are ordinary. A number is 1 to 20 digits, and a name is not empty. `--replay` excludes each other option but
 /// `--limit`; `--generate` excludes `--workers`, and then the one ordinary word is a number of jobs.
 ///
-/// `None` exactly where the words are not so. `NoMemory` where memory for the words is refused.
+/// `None` exactly if the words are not so. `NoMemory` if memory for the words is refused.
 pub fn read_words(alloc: Global, words: &[String]) -> Result<Option<Asked<'_>>, NoMemory>
     ensures { IfOk result (λ asked. IsReading (map string_bytes words.now) (option_map told_asked asked)) }
 {

@@ -1,5 +1,5 @@
 ghost use Rattle.std.specs.Prelude.{◌≡◌};
-ghost use Rattle.tt_words.specs.Program.{bare};
+ghost use Rattle.tt_words.specs.inside.Program.{bare};
 
 /// An option of the program.
 #[derive(Clone, Copy)]

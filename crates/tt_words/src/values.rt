@@ -1,8 +1,9 @@
 ghost use Rattle.std.specs.Prelude.{◌≡◌, ◌≤◌, ◌<◌, IfSome, IfNone, IfOk, map, length};
 ghost use Rattle.std.specs.Option.{option_map};
 ghost use Rattle.tt_words.specs.Asked.{first};
-ghost use Rattle.tt_words.specs.Program.{bare, words_name};
-ghost use Rattle.tt_words.specs.Told.{IsOnceBy, given_in, text_of, told_values, values_by};
+ghost use Rattle.tt_words.specs.inside.Program.{bare, words_name};
+ghost use Rattle.tt_words.specs.CodeValues.{text_of, told_values};
+ghost use Rattle.tt_words.specs.inside.Matches.{IsOnceBy, given_in, values_by};
 
 use crate::command::WORDS;
 use crate::setting::Setting;
@@ -21,7 +22,7 @@ pub(crate) struct Values<'a> {
     pub(crate) generate: Option<&'a str>,
 }
 
-/// What each option has; `None` exactly where one comes twice.
+/// What each option has; `None` exactly if one comes twice.
 pub(crate) fn read_values<'a>(matches: &ArgMatches<'a>) -> Option<Values<'a>>
     ensures found { IfSome result (λ values.
         told_values values ≡ values_by (λ setting. given_in matches.now (bare setting))) }
@@ -38,7 +39,7 @@ pub(crate) fn read_values<'a>(matches: &ArgMatches<'a>) -> Option<Values<'a>>
     })
 }
 
-/// The value that an option is given, if it is given one; `None` exactly where it is given two.
+/// The value that an option is given, if it is given one; `None` exactly if it is given two.
 fn value<'a>(matches: &ArgMatches<'a>, setting: Setting) -> Option<Option<&'a str>>
     ensures found { IfSome result (λ value. option_map text_of value ≡ first (given_in matches.now (bare setting))) }
     ensures once { IfSome result (λ value. length (given_in matches.now (bare setting)) ≤ 1) }
@@ -53,7 +54,7 @@ fn value<'a>(matches: &ArgMatches<'a>, setting: Setting) -> Option<Option<&'a st
 
 /// The ordinary words.
 ///
-/// `NoMemory` where memory for their list is refused.
+/// `NoMemory` if memory for their list is refused.
 pub(crate) fn ordinary<'a>(
     alloc: Global,
     matches: &ArgMatches<'a>,

@@ -1,5 +1,5 @@
 use Rattle.std.proofs.Common.{◌≡◌, map, take}
-use Rattle.tt_words.specs.Told.{text_of}
+use Rattle.tt_words.specs.CodeValues.{text_of}
 use Rattle.tclthread.proofs.prepare.texts.Given as goal
 
 abbrev pub invariant-loop-word : goal.invariant-loop-word

@@ -1,4 +1,4 @@
-use Rattle.tt_words.specs.Told.{told_plain}
+use Rattle.tt_words.specs.CodeValues.{told_plain}
 use Rattle.tclthread.proofs.CloseLemmas.{by-words, not-generate, not-replay}
 use Rattle.tclthread.proofs.FreelyLemmas.{plain-steps, plain-workers}
 use Rattle.tclthread.proofs.session.plain.Goals as goal

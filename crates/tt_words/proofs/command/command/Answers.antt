@@ -1,7 +1,7 @@
 use Rattle.std.proofs.Common.{rules, ◌≡◌, ◌∙◌, ap, ap₂, true, codes}
 use Rattle.clap.specs.Walk.{rule_of}
 use Rattle.clap.specs.Simple.{app_of, app_of_fields, new_app, on_top, with_rule}
-use Rattle.tt_words.specs.Program.{base, option_rule, words_rule}
+use Rattle.tt_words.specs.inside.Program.{base, option_rule, words_rule}
 use Rattle.tt_words.proofs.command.command.Goals as goal
 
 pub returns : goal.returns

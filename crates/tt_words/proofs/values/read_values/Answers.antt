@@ -1,5 +1,5 @@
-use Rattle.tt_words.specs.Program.{bare}
-use Rattle.tt_words.specs.Told.{given_in}
+use Rattle.tt_words.specs.inside.Program.{bare}
+use Rattle.tt_words.specs.inside.Matches.{given_in}
 use Rattle.tt_words.specs.declared.setting.Setting.TheVariants.{Workers, Steps, Limit, Record, Replay, Generate}
 use Rattle.tt_words.proofs.ReadingLemmas.{not_once}
 use Rattle.tt_words.proofs.values.read_values.Goals as goal

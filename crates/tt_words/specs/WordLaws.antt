@@ -1,11 +1,12 @@
 -- Laws of the reading of command lines.
 use Rattle.std.specs.Prelude.{◌≡◌, ◌↔◌, ℕ, false, List, [], ◌∷◌, ◌++◌}
-use Rattle.tt_words.specs.Asked.{Asked, Reads}
+use Rattle.tt_words.specs.Asked.{Asked, WordsAskFor}
 use Rattle.tt_words.specs.Splitting.{BeginsWith, Given, is_dashed}
 
 -- words ask for one thing at most
 abbrev pub OneReadingLaw : Type 0
-OneReadingLaw = (words : List (List ℕ)) (one other : Asked) → Reads words one → Reads words other → one ≡ other
+OneReadingLaw =
+    (words : List (List ℕ)) (one other : Asked) → WordsAskFor words one → WordsAskFor words other → one ≡ other
 
 -- ordinary words, and options with their values, and no end mark
 pub data AreWhole : List (List ℕ) → Type 0 where
@@ -24,8 +25,8 @@ OptionsSwapLaw =
     AreWhole before →
     IsOption one first →
     IsOption other second →
-    Reads (before ++ (one ++ (other ++ after))) asked →
-    Reads (before ++ (other ++ (one ++ after))) asked
+    WordsAskFor (before ++ (one ++ (other ++ after))) asked →
+    WordsAskFor (before ++ (other ++ (one ++ after))) asked
 
 -- and so do an option and an ordinary word
 abbrev pub WordSwapLaw : Type 0
@@ -34,4 +35,4 @@ WordSwapLaw =
     AreWhole before →
     IsOption one given →
     is_dashed word ≡ false →
-    Reads (before ++ (one ++ (word ∷ after))) asked ↔ Reads (before ++ (word ∷ (one ++ after))) asked
+    WordsAskFor (before ++ (one ++ (word ∷ after))) asked ↔ WordsAskFor (before ++ (word ∷ (one ++ after))) asked
