@@ -1,5 +1,5 @@
-//! Requests on what threads share: a send and a take, a lock and an unlock, a job posted, begun and ended, and a line put
-//! into a pipe and got, each with few and with many threads or with little and with much that is queued.
+//! Requests on what threads share: a send and a take, a lock and an unlock, a job posted, begun and ended, and a line
+//! put into a pipe and got, each with few and with many threads or with little and with much that is queued.
 //!
 //! Without arguments it says how many of each were answered. With the argument `times` it prints how long one takes, in
 //! nanoseconds, and how long 16,384 do, in microseconds: so many lines of 64 bytes are 1 MiB.
@@ -24,8 +24,8 @@ enum Work {
     Lines,
 }
 
-/// What is done, its name, among how many threads, and with how much queued. All threads but the first wait for the lock,
-/// and the second is the worker of the pool.
+/// What is done, its name, among how many threads, and with how much queued. All threads but the first wait for the
+/// lock, and the second is the worker of the pool.
 type Case = (Work, &'static str, u32, u32);
 
 const TOLD: [Case; 4] = [

@@ -1,7 +1,7 @@
 //! Increments of one key of a shared array of 10, 1,000 and 100,000 keys, and whether a thread waits for it.
 //!
-//! Without arguments it says what the increments come to in an array of 10 keys. With the argument `times` it prints how
-//! long one takes, in nanoseconds, and one test of waiting.
+//! Without arguments it says what the increments come to in an array of 10 keys. With the argument `times` it prints
+//! how long one takes, in nanoseconds, and one test of waiting.
 #![tactic(auto)]
 
 use std::alloc::Global;
