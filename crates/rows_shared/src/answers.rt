@@ -14,7 +14,7 @@ pub(crate) const CODES: [(&str, Code); 5] = [
     ("continue", Code::Continued),
 ];
 
-/// What answering a request gives, as a list: the reply and its values, then `out`, `err`, `over` and `made`, where there
+/// What answering a request gives, as a list: the reply and its values, then `out`, `err`, `over` and `made`, if there
 /// is something to put on standard output or error, the run is over, or threads were made.
 pub(crate) fn answer_text(alloc: Global, gives: &Applied) -> anyhow::Result<Text> {
     let mut words = Texts::new(alloc);

@@ -73,7 +73,7 @@ fn start(alloc: Global) -> anyhow::Result<Shared> {
     Ok(shared)
 }
 
-// What came, where it isn't the row's answer.
+// What came, if it isn't the row's answer.
 fn row(alloc: Global, shared: &mut Shared, line: &str) -> anyhow::Result<Option<Text>> {
     let (request, answer) = line.split_once(" => ").context("a row without an answer")?;
     let words = words_of(alloc, answer.as_bytes())?;
@@ -86,7 +86,7 @@ fn row(alloc: Global, shared: &mut Shared, line: &str) -> anyhow::Result<Option<
     Ok(Some(came))
 }
 
-// `COUNT * THREAD: REQUEST`, where a count of 1 is left out.
+// `COUNT * THREAD: REQUEST`, with a count of 1 left out.
 fn ask_often(alloc: Global, shared: &mut Shared, words: &[Text]) -> anyhow::Result<Text> {
     match words {
         [count, star, rest @ ..] if star.as_bytes() == b"*".as_slice() => {

@@ -1,7 +1,7 @@
 -- A line is the front of the bytes.
-use Rattle.std.proofs.Common.{◌≡◌, ◌∙◌, ◌==◌, ℕ, zero, suc, Bool, true, false, not, nat_lt, List, [], ◌∷◌, ◌++◌, take, drop, count_by, cond, ap, refl, sym, rules}
+use Rattle.std.proofs.Common.{◌≡◌, ◌∙◌, ℕ, suc, Bool, true, false, List, [], ◌∷◌, ◌++◌, ap, refl, sym, rules}
 use Rattle.std.proofs.Math.Numerals.{one-add}
-use Rattle.tt_chans.specs.Laws.{LineLaw}
+use Rattle.tt_chans.specs.ChannelLaws.{LineLaw}
 use Rattle.tt_chans.specs.Lines.{first_line, has_line, is_newline, later_lines, line_length}
 
 -- by the count of bytes before the newline

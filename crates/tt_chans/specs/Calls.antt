@@ -1,12 +1,12 @@
 -- What calls on channels do, and when they wait: a case each (puts(n), gets(n), eof(n), close(n), chan(n), thread(n),
 -- thread::detach, thread::attach, thread::transfer).
-use Rattle.std.specs.Prelude.{ℕ, Bool, true, false, ◌&&◌, ◌==◌, not, List, [], ◌∷◌, ◌++◌, codes, Option, Some, None, is_some, if◌then◌else◌}
+use Rattle.std.specs.Prelude.{ℕ, Bool, false, ◌&&◌, ◌==◌, not, List, [], ◌∷◌, ◌++◌, codes, Option, Some, None, is_some, if◌then◌else◌}
+use Rattle.tt_calls.specs.Replies as replies
+use Rattle.tt_calls.specs.Replies.{Answered, answers, refuses}
 use Rattle.tt_calls.specs.declared.chan_call.ChanCall.{ChanCall}
 use Rattle.tt_calls.specs.declared.chan_call.ChanCall.TheVariants as ask
-use Rattle.tt_calls.specs.declared.reply.Reply.{Reply}
-use Rattle.tt_calls.specs.declared.reply.Reply.TheVariants.{Go, Value, Refused, Died}
+use Rattle.tt_calls.specs.declared.reply.Reply.TheVariants.{Go, Value, Died}
 use Rattle.tt_calls.specs.declared.reply.Step.{Step}
-use Rattle.tt_calls.specs.declared.reply.Step.TheVariants as step
 use Rattle.tt_chans.specs.Channels.{ChannelTable, channel_of, is_standard, read_id, with_channel, with_pipe, without_channel, write_id}
 use Rattle.tt_chans.specs.Ends.{Taken, gets_line, is_owned, moves_from, of_channel, owned, puts_into, with_owner}
 use Rattle.tt_chans.specs.Lines.{has_line}
@@ -42,64 +42,62 @@ waits table t call = false
 
 -- ---- what a call does ----
 
--- the table after a call, and the reply
-pub record Answered : Type 0 where
-  pub table : ChannelTable
-  pub reply : Reply
-
-abbrev pub answers : ChannelTable → Reply → Answered
-answers table reply = record { table = table; reply = reply }
-
-abbrev pub refuses : ChannelTable → List ℕ → Answered
-refuses table message = answers table (Refused message)
-
--- a call that no command makes
-abbrev pub is_not_asked : ChannelTable → Answered
-is_not_asked table = refuses table []
-
 -- a message with an id in it
 abbrev pub named : (before text after : List ℕ) → List ℕ
 named before text after = before ++ (text ++ after)
 
 -- a channel that the thread does not own is none to it
-abbrev pub not_found : ChannelTable → List ℕ → Answered
-not_found table text = refuses table (named (codes "can not find channel named \"") text (codes "\""))
+abbrev pub no_channel : List ℕ → List ℕ
+no_channel text = named (codes "can not find channel named \"") text (codes "\"")
+
+abbrev pub not_found : ChannelTable → List ℕ → Answered ChannelTable
+not_found table text = refuses table (no_channel text)
 
 -- what is done to a channel that the thread owns
-abbrev pub if_owned : (Channel → Answered) → ChannelTable → ℕ → List ℕ → Answered
+abbrev pub if_owned :
+    (Channel → Answered ChannelTable) → ChannelTable → ℕ → List ℕ → Answered ChannelTable
 if_owned does table t text =
     elim (owned t (channel_of table text)) [ None ↦ not_found table text | Some channel ↦ does channel ]
 
 -- the channel of an id after a call on it
-abbrev pub took : ChannelTable → List ℕ → Taken → Answered
+abbrev pub took : ChannelTable → List ℕ → Taken → Answered ChannelTable
 took table text taken = answers (with_channel table text taken.channel) taken.reply
 
--- puts: into the read end, where that was not closed
-abbrev pub puts_at : ChannelTable → (other bytes : List ℕ) → Option Channel → Answered
+-- puts: into the read end, if that was not closed
+abbrev pub puts_at : ChannelTable → (other bytes : List ℕ) → Option Channel → Answered ChannelTable
 puts_at table other bytes None = refuses table (codes "broken pipe")
 puts_at table other bytes (Some reader) = took table other (puts_into reader bytes reader.end)
 
-abbrev pub puts : ChannelTable → (text bytes : List ℕ) → Channel → Answered
+abbrev pub puts_other : ChannelTable → (other bytes : List ℕ) → Answered ChannelTable
+puts_other table other bytes = puts_at table other bytes (channel_of table other)
+
+abbrev pub puts : ChannelTable → (text bytes : List ℕ) → Channel → Answered ChannelTable
 puts table text bytes channel =
     elim channel.end [
-      | Writes ↦ puts_at table channel.other bytes (channel_of table channel.other)
+      | Writes ↦ puts_other table channel.other bytes
       | Reads before ended ↦ refuses table (of_channel text (codes "\" wasn't opened for writing"))
     ]
 
+abbrev pub puts_named : ChannelTable → ℕ → (text bytes : List ℕ) → Answered ChannelTable
+puts_named table t text bytes = if_owned (puts table text bytes) table t text
+
 -- gets
-abbrev pub gets : ChannelTable → List ℕ → Channel → Answered
+abbrev pub gets : ChannelTable → List ℕ → Channel → Answered ChannelTable
 gets table text channel = took table text (gets_line channel text channel.end)
+
+abbrev pub gets_named : ChannelTable → ℕ → List ℕ → Answered ChannelTable
+gets_named table t text = if_owned (gets table text) table t text
 
 -- eof: whether the end was met
 abbrev pub is_at_end : End → Bool
 is_at_end (Reads bytes ended) = ended
 is_at_end Writes = false
 
-abbrev pub eof : ChannelTable → Channel → Answered
+abbrev pub eof : ChannelTable → Channel → Answered ChannelTable
 eof table channel = answers table (Value (if is_at_end channel.end then codes "1" else codes "0"))
 
 -- close
-abbrev pub closes : ChannelTable → ℕ → List ℕ → Answered
+abbrev pub closes : ChannelTable → ℕ → List ℕ → Answered ChannelTable
 closes table t text = if_owned (λ channel. answers (without_channel table text) Go) table t text
 
 -- a channel under its id, with another owner
@@ -108,14 +106,14 @@ owned_by table text owner None = table
 owned_by table text owner (Some channel) = with_channel table text (with_owner channel owner)
 
 -- thread::detach
-abbrev pub detaches : ChannelTable → ℕ → List ℕ → Answered
+abbrev pub detaches : ChannelTable → ℕ → List ℕ → Answered ChannelTable
 detaches table t text = if_owned (λ channel. answers (owned_by table text Detached (Some channel)) Go) table t text
 
 -- thread::attach: of a channel that nobody owns
-abbrev pub not_detached : ChannelTable → List ℕ → Answered
+abbrev pub not_detached : ChannelTable → List ℕ → Answered ChannelTable
 not_detached table text = refuses table (of_channel text (codes "\" is not detached"))
 
-abbrev pub attaches : ChannelTable → ℕ → List ℕ → Option Channel → Answered
+abbrev pub attaches : ChannelTable → ℕ → List ℕ → Option Channel → Answered ChannelTable
 attaches table t text None = not_detached table text
 attaches table t text (Some channel) =
     elim channel.owner [
@@ -123,16 +121,23 @@ attaches table t text (Some channel) =
       | owner ↦ not_detached table text
     ]
 
+abbrev pub attaches_named : ChannelTable → ℕ → List ℕ → Answered ChannelTable
+attaches_named table t text = attaches table t text (channel_of table text)
+
 -- thread::transfer: to oneself nothing changes; else the channel is on its way
-abbrev pub transfers : ChannelTable → ℕ → (thread text : List ℕ) → (target : Option ℕ) → Channel → Answered
+abbrev pub transfers :
+    ChannelTable → ℕ → (thread text : List ℕ) → (target : Option ℕ) → Channel → Answered ChannelTable
 transfers table t thread text None channel =
     refuses table (named (codes "thread \"") thread (codes "\" does not exist"))
 transfers table t thread text (Some target) channel =
     if target == t then answers table (Value []) else
     answers (with_channel table text (with_owner channel (Moving (Some t) target))) Go
 
--- the end of that wait: where the target ended first, the sender owns the channel again
-abbrev pub moved : ChannelTable → ℕ → Option Channel → Answered
+abbrev pub transfers_named : ChannelTable → ℕ → (thread text : List ℕ) → (target : Option ℕ) → Answered ChannelTable
+transfers_named table t thread text target = if_owned (transfers table t thread text target) table t text
+
+-- the end of that wait: if the target ended first, the sender owns the channel again
+abbrev pub moved : ChannelTable → ℕ → Option Channel → Answered ChannelTable
 moved table t None = answers table Go
 moved table t (Some channel) = answers table (if is_owned channel.owner t then Died else Go)
 
@@ -145,15 +150,15 @@ standard_message text (ask.Transfer thread chan) = of_channel text (codes "\" be
 standard_message text call = []
 
 -- the others
-abbrev pub act_own : ChannelTable → ℕ → (target : Option ℕ) → ChanCall → Answered
+abbrev pub act_own : ChannelTable → ℕ → (target : Option ℕ) → ChanCall → Answered ChannelTable
 act_own table t target ask.Pipe = answers (with_pipe table t) (Value (read_id table ++ 32 ∷ write_id table))
-act_own table t target (ask.Put text bytes) = if_owned (puts table text bytes) table t text
-act_own table t target (ask.GetLine text) = if_owned (gets table text) table t text
+act_own table t target (ask.Put text bytes) = puts_named table t text bytes
+act_own table t target (ask.GetLine text) = gets_named table t text
 act_own table t target (ask.Eof text) = if_owned (eof table) table t text
 act_own table t target (ask.Close text) = closes table t text
 act_own table t target (ask.Detach text) = detaches table t text
-act_own table t target (ask.Attach text) = attaches table t text (channel_of table text)
-act_own table t target (ask.Transfer thread text) = if_owned (transfers table t thread text target) table t text
+act_own table t target (ask.Attach text) = attaches_named table t text
+act_own table t target (ask.Transfer thread text) = transfers_named table t thread text target
 act_own table t target (ask.AwaitMove text) = moved table t (channel_of table text)
 
 -- the id that a call names
@@ -168,15 +173,14 @@ id_of (ask.Attach text) = text
 id_of (ask.Transfer thread text) = text
 id_of (ask.AwaitMove text) = text
 
-abbrev pub act : ChannelTable → ℕ → (target : Option ℕ) → ChanCall → Answered
+abbrev pub act : ChannelTable → ℕ → (target : Option ℕ) → ChanCall → Answered ChannelTable
 act table t target call =
     if is_standard (id_of call) then refuses table (standard_message (id_of call) call) else act_own table t target call
 
 -- ---- a call whole ----
 
--- a thread that waits changes nothing
 abbrev pub table_after : ChannelTable → ℕ → (target : Option ℕ) → ChanCall → ChannelTable
-table_after table t target call = if waits table t call then table else (act table t target call).table
+table_after table t target call = replies.table_after (waits table t call) table (act table t target call)
 
 abbrev pub step_after : ChannelTable → ℕ → (target : Option ℕ) → ChanCall → Step
-step_after table t target call = if waits table t call then step.Wait else step.Reply (act table t target call).reply
+step_after table t target call = replies.step_after (waits table t call) (act table t target call)

@@ -1,5 +1,5 @@
 -- All channels, by their ids (chan(n)).
-use Rattle.std.specs.Prelude.{ℕ, ◌+◌, Bool, true, false, ◌||◌, List, [], ◌∷◌, ◌++◌, codes, bytes_eq, map, ◌==◌, Option, Some, None, if◌then◌else◌}
+use Rattle.std.specs.Prelude.{ℕ, ◌+◌, Bool, false, ◌||◌, List, [], codes, bytes_eq, map, ◌==◌, Option, Some, None, if◌then◌else◌}
 use Rattle.std.specs.BTreeMap.{insert_entry, is_at}
 use Rattle.std.specs.Cmp.Lexicographic.{slice_cmp}
 use Rattle.std.specs.Map.{lookup, remove_entry, set_value}
@@ -25,7 +25,7 @@ no_channels = record { channels = []; next = 1 }
 abbrev pub is_id : List ℕ → List ℕ → Bool
 is_id text = is_at (slice_cmp nat_cmp text)
 
--- the channel of an id; none where it was closed, or never made
+-- the channel of an id; none if it was closed, or never made
 abbrev pub channel_of : ChannelTable → List ℕ → Option Channel
 channel_of table text = lookup (is_id text) table.channels
 
@@ -77,7 +77,7 @@ abbrev pub owner_given : ℕ → Owner → Owner
 owner_given t (Moving from to) = if to == t then Thread t else Moving from to
 owner_given t owner = owner
 
--- the channel has come to the thread, where it was on its way there
+-- the channel has come to the thread, if it was on its way there
 abbrev pub given : ChannelTable → ℕ → List ℕ → Option Channel → ChannelTable
 given table t text None = table
 given table t text (Some channel) =

@@ -27,7 +27,7 @@ moves_from owner t = false
 abbrev pub with_owner : Channel → Owner → Channel
 with_owner channel owner = record channel { owner = owner }
 
--- the channel that is found, where the thread owns it
+-- the channel that is found, if the thread owns it
 abbrev pub owned : ℕ → Option Channel → Option Channel
 owned t None = None
 owned t (Some channel) = if is_owned channel.owner t then Some channel else None

@@ -1,5 +1,5 @@
-pub mod Answers
+pub mod Calls
+pub mod ChannelLaws
 pub mod Channels
 pub mod Ends
-pub mod Laws
 pub mod Lines

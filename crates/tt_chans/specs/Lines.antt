@@ -1,11 +1,11 @@
 -- The lines of the bytes in a pipe (gets(n)).
-use Rattle.std.specs.Prelude.{ℕ, Bool, ◌==◌, not, nat_lt, List, length, take, drop, count_by}
+use Rattle.std.specs.Prelude.{ℕ, Bool, ◌==◌, not, nat_lt, List, take, drop, count_by}
 use Rattle.std.specs.List.{prefix_len}
 
 abbrev pub is_newline : ℕ → Bool
 is_newline byte = byte == 10
 
--- how many bytes stand before the first newline; all of them where there is none
+-- how many bytes stand before the first newline; all of them if there is none
 abbrev pub line_length : List ℕ → ℕ
 line_length bytes = prefix_len (λ byte. not (is_newline byte)) bytes
 

@@ -1,6 +1,6 @@
 ghost use Rattle.std.specs.Prelude.{◌≡◌, ◌++◌, ◌∷◌, IfOk, OnOk};
 ghost use Rattle.tt_calls.specs.declared.reply.Reply.TheVariants.{Value};
-ghost use Rattle.tt_chans.specs.Answers.{act, act_own, attaches, closes, detaches, eof, gets, if_owned, moved, owned_by, puts, puts_at, step_after, table_after, transfers};
+ghost use Rattle.tt_chans.specs.Calls.{act, act_own, attaches_named, closes, detaches, eof, gets_named, if_owned, moved, owned_by, puts_named, puts_other, step_after, table_after, transfers_named};
 ghost use Rattle.tt_chans.specs.Channels.{channel_of, read_id, with_pipe, write_id};
 
 use crate::refusals::{id_of, is_standard, no_thread, not_found, of_channel, refuse_standard};
@@ -10,11 +10,11 @@ use tt_ids::{IdKind, id_text, number_after};
 use tt_text::{NoMemory, Text};
 
 impl Chans {
-    /// What a call of a thread on channels does, and its reply; `Wait` exactly where it has to wait, and then nothing is
-    /// done. `target` is the linked thread that a transfer names, and `None` where it names none (chan(n); thread(n),
+    /// What a call of a thread on channels does, and its reply; `Wait` exactly if it has to wait, and then nothing is
+    /// done. `target` is the linked thread that a transfer names, and `None` if it names none (chan(n); thread(n),
     /// thread::transfer).
     ///
-    /// `NoMemory` where memory for a channel, its bytes or the reply is refused.
+    /// `NoMemory` if memory for a channel, its bytes or the reply is refused.
     pub fn apply(
         &mut self,
         thread: u32,
@@ -96,8 +96,8 @@ impl Chans {
 
     // Bytes go into the pipe.
     fn put(&mut self, thread: u32, id: &Text, bytes: &Text) -> Result<Reply, NoMemory>
-        ensures table { OnOk result (self.new ≡ (if_owned (puts self.old id.now bytes.now) self.old thread id.now).table) }
-        ensures reply { IfOk result (λ reply. reply ≡ (if_owned (puts self.old id.now bytes.now) self.old thread id.now).reply) }
+        ensures table { OnOk result (self.new ≡ (puts_named self.old thread id.now bytes.now).table) }
+        ensures reply { IfOk result (λ reply. reply ≡ (puts_named self.old thread id.now bytes.now).reply) }
     {
         let Some(channel) = self.owned(thread, id) else {
             return not_found(self.alloc, id);
@@ -113,8 +113,8 @@ impl Chans {
 
     // Bytes go to the end of what the read end has.
     fn put_into(&mut self, reader: &Text, bytes: &Text) -> Result<Reply, NoMemory>
-        ensures table { OnOk result (self.new ≡ (puts_at self.old reader.now bytes.now (channel_of self.old reader.now)).table) }
-        ensures reply { IfOk result (λ reply. reply ≡ (puts_at self.old reader.now bytes.now (channel_of self.old reader.now)).reply) }
+        ensures table { OnOk result (self.new ≡ (puts_other self.old reader.now bytes.now).table) }
+        ensures reply { IfOk result (λ reply. reply ≡ (puts_other self.old reader.now bytes.now).reply) }
     {
         match self.channels.get_mut(reader) {
             None => {
@@ -127,8 +127,8 @@ impl Chans {
 
     // The next line leaves the pipe.
     fn get_line(&mut self, thread: u32, id: &Text) -> Result<Reply, NoMemory>
-        ensures table { OnOk result (self.new ≡ (if_owned (gets self.old id.now) self.old thread id.now).table) }
-        ensures reply { IfOk result (λ reply. reply ≡ (if_owned (gets self.old id.now) self.old thread id.now).reply) }
+        ensures table { OnOk result (self.new ≡ (gets_named self.old thread id.now).table) }
+        ensures reply { IfOk result (λ reply. reply ≡ (gets_named self.old thread id.now).reply) }
     {
         if self.owned(thread, id).is_none() {
             return not_found(self.alloc, id);
@@ -176,8 +176,8 @@ impl Chans {
 
     // The thread owns a channel that nobody owned.
     fn attach(&mut self, thread: u32, id: &Text) -> Result<Reply, NoMemory>
-        ensures table { OnOk result (self.new ≡ (attaches self.old thread id.now (channel_of self.old id.now)).table) }
-        ensures reply { IfOk result (λ reply. reply ≡ (attaches self.old thread id.now (channel_of self.old id.now)).reply) }
+        ensures table { OnOk result (self.new ≡ (attaches_named self.old thread id.now).table) }
+        ensures reply { IfOk result (λ reply. reply ≡ (attaches_named self.old thread id.now).reply) }
     {
         match self.channels.get(id) {
             Some(
@@ -201,8 +201,8 @@ impl Chans {
         id: &Text,
         target: Option<u32>,
     ) -> Result<Reply, NoMemory>
-        ensures table { OnOk result (self.new ≡ (if_owned (transfers self.old thread to.now id.now target) self.old thread id.now).table) }
-        ensures reply { IfOk result (λ reply. reply ≡ (if_owned (transfers self.old thread to.now id.now target) self.old thread id.now).reply) }
+        ensures table { OnOk result (self.new ≡ (transfers_named self.old thread to.now id.now target).table) }
+        ensures reply { IfOk result (λ reply. reply ≡ (transfers_named self.old thread to.now id.now target).reply) }
     {
         if self.owned(thread, id).is_none() {
             return not_found(self.alloc, id);

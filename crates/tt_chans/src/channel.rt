@@ -1,5 +1,5 @@
 ghost use Rattle.std.specs.Prelude.{◌≡◌, IfOk, OnOk};
-ghost use Rattle.tt_chans.specs.Answers.{is_at_end};
+ghost use Rattle.tt_chans.specs.Calls.{is_at_end};
 ghost use Rattle.tt_chans.specs.Channels.{owner_given};
 ghost use Rattle.tt_chans.specs.Ends.{gets_line, is_owned, moves_from, owner_after, puts_into, rest_reply, stays_open};
 

@@ -1,5 +1,5 @@
 ghost use Rattle.std.specs.Prelude.{◌≡◌, option_copied};
-ghost use Rattle.tt_chans.specs.Answers.{lacks_line, waits};
+ghost use Rattle.tt_chans.specs.Calls.{lacks_line, waits};
 ghost use Rattle.tt_chans.specs.Channels.{channel_of, given, no_channels, table_after_end};
 ghost use Rattle.tt_chans.specs.Ends.{owned};
 
@@ -38,7 +38,7 @@ impl Chans {
         }
     }
 
-    // The channel of an id, where the thread owns it.
+    // The channel of an id, if the thread owns it.
     pub(crate) fn owned(&self, thread: u32, id: &Text) -> Option<&Channel>
         ensures { option_copied result ≡ owned thread (channel_of self.now id.now) }
     {
@@ -46,8 +46,8 @@ impl Chans {
         channel.owner.is(thread).then_some(channel)
     }
 
-    /// Whether the thread has to wait before its call is done: for a line that may come, or until a channel has moved. It
-    /// takes no memory.
+    /// Whether the thread has to wait before its call is done: for a line that may come, or until a channel has
+    /// moved. It takes no memory.
     pub fn waits(&self, thread: u32, call: &ChanCall) -> bool
         ensures waits { result ≡ waits self.now thread call.now }
     {
@@ -75,7 +75,7 @@ impl Chans {
         }
     }
 
-    /// The thread has a channel, where that was on its way to it (thread(n), thread::transfer). It takes no memory.
+    /// The thread has a channel, if that was on its way to it (thread(n), thread::transfer). It takes no memory.
     pub fn give(&mut self, thread: u32, id: &Text)
         ensures given { self.new ≡ given self.old thread id.now (channel_of self.old id.now) }
     {
@@ -84,8 +84,8 @@ impl Chans {
         }
     }
 
-    /// The end of a thread: the channels that it owns are closed, and those on their way to it go back to their senders,
-    /// or are closed where these have ended. It takes no memory.
+    /// The end of a thread: the channels that it owns are closed, and those on their way to it go back to their
+    /// senders, or are closed if these have ended. It takes no memory.
     pub fn end(&mut self, thread: u32)
         ensures ended { self.new ≡ table_after_end self.old thread }
     {

@@ -11,6 +11,3 @@ mod refusals;
 pub use channel::{Channel, End, Owner};
 pub use chans::Chans;
 pub use pipe::Pipe;
-
-#[cfg(test)]
-mod tests;

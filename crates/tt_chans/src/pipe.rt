@@ -71,7 +71,7 @@ impl Pipe {
         Some(byte)
     }
 
-    // Takes the bytes up to the first newline, and that too; all where there is none.
+    // Takes the bytes up to the first newline, and that too; all if there is none.
     pub(crate) fn take_line(&mut self, alloc: Global) -> Result<Text, NoMemory>
         ensures line { IfOk result (λ line. line ≡ first_line self.old) }
         ensures rest { OnOk result (self.new ≡ later_lines self.old) }

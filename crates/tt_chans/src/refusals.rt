@@ -1,6 +1,6 @@
 ghost use Rattle.std.specs.Prelude.{◌≡◌, ◌++◌, codes, IfOk};
 ghost use Rattle.tt_calls.specs.declared.reply.Reply.TheVariants.{Refused};
-ghost use Rattle.tt_chans.specs.Answers.{id_of, named, standard_message};
+ghost use Rattle.tt_chans.specs.Calls.{id_of, named, no_channel, standard_message};
 ghost use Rattle.tt_chans.specs.Ends.{of_channel};
 ghost use Rattle.tt_chans.specs.Channels.{is_standard};
 
@@ -21,7 +21,7 @@ pub(crate) fn is_standard(id: &[u8]) -> bool
     id == STDIN || id == STDOUT || id == STDERR
 }
 
-// The id that a call names; the empty text where it names none.
+// The id that a call names; the empty text if it names none.
 pub(crate) fn id_of(call: &ChanCall) -> &[u8]
     ensures { result.now ≡ id_of call.now }
 {
@@ -52,7 +52,7 @@ pub(crate) fn refuse_standard(alloc: Global, call: &ChanCall) -> Result<Reply, N
 }
 
 pub(crate) fn not_found(alloc: Global, id: &Text) -> Result<Reply, NoMemory>
-    ensures { IfOk result (λ reply. reply ≡ Refused (named (codes "can not find channel named \"") id.now (codes "\""))) }
+    ensures { IfOk result (λ reply. reply ≡ Refused (no_channel id.now)) }
 {
     named(alloc, b"can not find channel named \"", id, b"\"")
 }

@@ -1,4 +1,4 @@
-use Rattle.std.proofs.Common.{◌≡◌, rules}
+use Rattle.std.proofs.Common.{rules}
 use Rattle.std.proofs.lemmas.Map.Made.{filter_same_pairs, map_same_pairs}
 use Rattle.tt_chans.specs.Ends.{after_end, stays_open}
 use Rattle.tt_chans.proofs.chans.Chans.end.Goals as goal
