@@ -1,8 +1,8 @@
 //! Tables of scripts, and of what they write and how they end (Tcl(n) and the pages of its commands). They stand in the
-//! files of `data/`, and this says of each how many rows hold, or the first that doesn't and what came in its place.
+//! files of `data/`, and this says of each how many rows hold, and what came in place of each that doesn't.
 //!
 //! A row begins with `== ` and its name; a `*` at the end of the name says that Tcl 8.6 itself differs there. The lines
-//! after it are the script, after a line `%% limit N` where it may spend so many units alone. After a line `-- ` come the
+//! after it are the script, after a line `%% limit N` if it may spend so many units alone. After a line `-- ` come the
 //! lines of standard output, after a line `!! ` those of standard error, and `=> ` with the exit code ends the row.
 #![tactic(auto)]
 
@@ -14,7 +14,7 @@ use row::Row;
 use rows_reader::tell_table;
 use std::fs;
 
-const TABLES: [&str; 15] = [
+const TABLES: [&str; 20] = [
     "words.rows",
     "expressions.rows",
     "control.rows",
@@ -30,6 +30,11 @@ const TABLES: [&str; 15] = [
     "arrays.rows",
     "info.rows",
     "nesting.rows",
+    "numbers.rows",
+    "spellings.rows",
+    "formats.rows",
+    "values.rows",
+    "frames.rows",
 ];
 
 fn main(rt: HostRuntime) -> anyhow::Result<()> {

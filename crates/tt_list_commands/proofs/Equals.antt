@@ -9,7 +9,7 @@ use Rattle.std.specs.List.Sorted.{IsSorted}
 use Rattle.std.specs.Ordering.{is_eq, is_lt, ordering_reverse}
 use Rattle.std.specs.declared.cmp.Ordering.{Ordering}
 use Rattle.std.specs.declared.cmp.Ordering.TheVariants.{Less, Equal, Greater}
-use Rattle.tt_list_commands.specs.Runs.{equals_next, last_in_runs}
+use Rattle.tt_list_commands.specs.inside.Runs.{equals_next, last_in_runs}
 use Rattle.tt_list_commands.specs.Sorting.{equals_later, last_of_equals, number_of, order}
 use Rattle.tt_list_commands.specs.declared.sorting.Sorting.{Sorting}
 use Rattle.tt_list_commands.proofs.Orders.{order_by}

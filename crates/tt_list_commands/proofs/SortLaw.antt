@@ -6,8 +6,8 @@ use Rattle.std.specs.List.{AllByRecursion, filter}
 use Rattle.std.specs.List.Sorted.{IsSorted, ties}
 use Rattle.std.specs.Ordering.{is_lt}
 use Rattle.std.specs.declared.cmp.Ordering.{Ordering}
-use Rattle.tt_list_commands.specs.SortFunction.{SortLaw, in_order, placed, sort_answer, sort_in, sort_unless}
-use Rattle.tt_list_commands.specs.Sorting.{IsInOrder, IsSortIn, IsSortUnless, fault_of, kept, order}
+use Rattle.tt_list_commands.specs.SortFunction.{SortLaw, in_order, with_item, sort_answer, sort_in, sort_unless}
+use Rattle.tt_list_commands.specs.Sorting.{IsInOrder, IsSortIn, IsSortUnless, fault_of, sort_result, order}
 use Rattle.tt_list_commands.specs.declared.sorting.Sorting.{Sorting}
 use Rattle.tt_list_commands.proofs.Equals.{first_ascends, order-total, sorted_later}
 use Rattle.tt_lists.specs.Reading.{split_of}
@@ -103,19 +103,19 @@ same-list lt weak (y ∷ ys) (z ∷ zs) up-y up-z same =
 
 -- ---- the function's list ----
 
-placed-all : {X : Type 0} (cmp : X → X → Ordering) (P : X → Type 0) (x : X) (xs : List X) → P x → AllByRecursion P xs → AllByRecursion P (placed cmp x xs)
+placed-all : {X : Type 0} (cmp : X → X → Ordering) (P : X → Type 0) (x : X) (xs : List X) → P x → AllByRecursion P xs → AllByRecursion P (with_item cmp x xs)
 placed-all cmp P x [] one all = (one, tt)
 placed-all cmp P x (y ∷ xs) one all = go (is_lt (cmp y x)) refl (placed-all cmp P x xs one all.1)
   where
-    go : (b : Bool) → is_lt (cmp y x) ≡ b → AllByRecursion P (placed cmp x xs) → AllByRecursion P (placed cmp x (y ∷ xs))
+    go : (b : Bool) → is_lt (cmp y x) ≡ b → AllByRecursion P (with_item cmp x xs) → AllByRecursion P (with_item cmp x (y ∷ xs))
     go true e later = rw e (all.0, later)
     go false e later = rw e (one, all)
 
-placed-ascends : {X : Type 0} (cmp : X → X → Ordering) → IsStrictWeakOrder (λ a b. is_lt (cmp a b)) → (x : X) (xs : List X) → Ascends (λ a b. is_lt (cmp a b)) xs → Ascends (λ a b. is_lt (cmp a b)) (placed cmp x xs)
+placed-ascends : {X : Type 0} (cmp : X → X → Ordering) → IsStrictWeakOrder (λ a b. is_lt (cmp a b)) → (x : X) (xs : List X) → Ascends (λ a b. is_lt (cmp a b)) xs → Ascends (λ a b. is_lt (cmp a b)) (with_item cmp x xs)
 placed-ascends cmp weak x [] up = (tt, tt)
 placed-ascends cmp weak x (y ∷ xs) up = go (is_lt (cmp y x)) refl (placed-ascends cmp weak x xs up.1)
   where
-    go : (b : Bool) → is_lt (cmp y x) ≡ b → Ascends (λ a b. is_lt (cmp a b)) (placed cmp x xs) → Ascends (λ a b. is_lt (cmp a b)) (placed cmp x (y ∷ xs))
+    go : (b : Bool) → is_lt (cmp y x) ≡ b → Ascends (λ a b. is_lt (cmp a b)) (with_item cmp x xs) → Ascends (λ a b. is_lt (cmp a b)) (with_item cmp x (y ∷ xs))
     go true e later = rw e (placed-all cmp (λ w. is_lt (cmp w y) ≡ false) x xs (weak.one_way y x e) up.0, later)
     go false e later = rw e ((e, least-later (λ a b. is_lt (cmp a b)) weak x y xs e up.0), up)
 
@@ -133,12 +133,12 @@ behind : {X : Type 0} (lt : X → X → Bool) → IsStrictWeakOrder lt → (t x 
 behind lt weak t x y front back true tie less later = rw (tie, later, apart lt weak t x y less tie) refl
 behind lt weak t x y front back false tie less later = rw (tie, later) refl
 
-placed-ties : {X : Type 0} (cmp : X → X → Ordering) → IsStrictWeakOrder (λ a b. is_lt (cmp a b)) → (t x : X) (xs : List X) → filter (ties (λ a b. is_lt (cmp a b)) t) (placed cmp x xs) ≡ filter (ties (λ a b. is_lt (cmp a b)) t) (x ∷ xs)
+placed-ties : {X : Type 0} (cmp : X → X → Ordering) → IsStrictWeakOrder (λ a b. is_lt (cmp a b)) → (t x : X) (xs : List X) → filter (ties (λ a b. is_lt (cmp a b)) t) (with_item cmp x xs) ≡ filter (ties (λ a b. is_lt (cmp a b)) t) (x ∷ xs)
 placed-ties cmp weak t x [] = refl
 placed-ties cmp weak t x (y ∷ xs) = go (is_lt (cmp y x)) refl (placed-ties cmp weak t x xs)
   where
-    go : (b : Bool) → is_lt (cmp y x) ≡ b → filter (ties (λ a b. is_lt (cmp a b)) t) (placed cmp x xs) ≡ filter (ties (λ a b. is_lt (cmp a b)) t) (x ∷ xs) → filter (ties (λ a b. is_lt (cmp a b)) t) (placed cmp x (y ∷ xs)) ≡ filter (ties (λ a b. is_lt (cmp a b)) t) (x ∷ y ∷ xs)
-    go true e later = rw e (behind (λ a b. is_lt (cmp a b)) weak t x y (placed cmp x xs) xs (ties (λ a b. is_lt (cmp a b)) t y) refl e later)
+    go : (b : Bool) → is_lt (cmp y x) ≡ b → filter (ties (λ a b. is_lt (cmp a b)) t) (with_item cmp x xs) ≡ filter (ties (λ a b. is_lt (cmp a b)) t) (x ∷ xs) → filter (ties (λ a b. is_lt (cmp a b)) t) (with_item cmp x (y ∷ xs)) ≡ filter (ties (λ a b. is_lt (cmp a b)) t) (x ∷ y ∷ xs)
+    go true e later = rw e (behind (λ a b. is_lt (cmp a b)) weak t x y (with_item cmp x xs) xs (ties (λ a b. is_lt (cmp a b)) t y) refl e later)
     go false e later = rw e refl
 
 order-ascends : {X : Type 0} (cmp : X → X → Ordering) → IsStrictWeakOrder (λ a b. is_lt (cmp a b)) → (xs : List X) → Ascends (λ a b. is_lt (cmp a b)) (in_order cmp xs)
@@ -162,7 +162,7 @@ one-order how items sorted is =
 
 unless : (fault : Option (List ℕ)) (how : Sorting) (items : List (List ℕ)) (answer : ListAnswer) → IsSortUnless fault how items answer → answer ≡ sort_unless fault how items
 unless (Some message) how items answer is = is
-unless None how items answer is = is.2 ∙ ap (λ sorted. Made (list_of (kept how sorted))) (one-order how items is.0 is.1)
+unless None how items answer is = is.2 ∙ ap (λ sorted. Made (list_of (sort_result how sorted))) (one-order how items is.0 is.1)
 
 within : (how : Sorting) (read : Split) (answer : ListAnswer) → IsSortIn how read answer → answer ≡ sort_in how read
 within how (split.Items items) answer is = unless (fault_of how items) how items answer is

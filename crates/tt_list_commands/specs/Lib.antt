@@ -2,6 +2,6 @@ pub mod Concatenating
 pub mod Joining
 pub mod Repeating
 pub mod Reversing
-pub mod Runs
 pub mod SortFunction
 pub mod Sorting
+pub mod inside

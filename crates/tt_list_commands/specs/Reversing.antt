@@ -1,6 +1,6 @@
 -- The items of a list in reverse order (lreverse(n)).
 use Rattle.std.specs.Prelude.{ℕ, List, reverse}
-use Rattle.tt_lists.specs.Answers.{for_items}
+use Rattle.tt_lists.specs.Commands.{for_items}
 use Rattle.tt_lists.specs.Reading.{split_of}
 use Rattle.tt_lists.specs.Spelling.{list_of}
 use Rattle.tt_lists.specs.declared.answer.ListAnswer.{ListAnswer}

@@ -2,7 +2,7 @@
 use Rattle.std.specs.Prelude.{◌≡◌, ℕ, if◌then◌else◌, List, [], ◌∷◌, Option, Some, None}
 use Rattle.std.specs.Ordering.{is_lt}
 use Rattle.std.specs.declared.cmp.Ordering.{Ordering}
-use Rattle.tt_list_commands.specs.Sorting.{IsSortAnswer, fault_of, kept, order}
+use Rattle.tt_list_commands.specs.Sorting.{IsSortAnswer, fault_of, sort_result, order}
 use Rattle.tt_list_commands.specs.declared.sorting.Sorting.{Sorting}
 use Rattle.tt_lists.specs.Messages.{list_message}
 use Rattle.tt_lists.specs.Reading.{split_of}
@@ -13,20 +13,20 @@ use Rattle.tt_lists.specs.declared.items.Split.{Split}
 use Rattle.tt_lists.specs.declared.items.Split.TheVariants as split
 
 -- an item goes before the first of the sorted later ones that isn't less than it
-abbrev pub placed : {X : Type 0} → (X → X → Ordering) → X → (later : List X) → List X
-placed cmp item [] = item ∷ []
-placed cmp item (other ∷ later) =
-    if is_lt (cmp other item) then other ∷ placed cmp item later else item ∷ other ∷ later
+abbrev pub with_item : {X : Type 0} → (X → X → Ordering) → X → (later : List X) → List X
+with_item cmp item [] = item ∷ []
+with_item cmp item (other ∷ later) =
+    if is_lt (cmp other item) then other ∷ with_item cmp item later else item ∷ other ∷ later
 
 -- the items in order
 abbrev pub in_order : {X : Type 0} → (X → X → Ordering) → List X → List X
 in_order cmp [] = []
-in_order cmp (item ∷ later) = placed cmp item (in_order cmp later)
+in_order cmp (item ∷ later) = with_item cmp item (in_order cmp later)
 
 -- the answer of sorting a list
 abbrev pub sort_unless : Option (List ℕ) → Sorting → (items : List (List ℕ)) → ListAnswer
 sort_unless (Some message) how items = Bad message
-sort_unless None how items = Made (list_of (kept how (in_order (order how) items)))
+sort_unless None how items = Made (list_of (sort_result how (in_order (order how) items)))
 
 abbrev pub sort_in : Sorting → Split → ListAnswer
 sort_in how (split.Items items) = sort_unless (fault_of how items) how items

@@ -46,8 +46,8 @@ last_of_equals how (item ∷ later) =
     if equals_later how item later then last_of_equals how later else item ∷ last_of_equals how later
 
 -- what stays of items in order: with `-unique` the last of equals
-abbrev pub kept : Sorting → List (List ℕ) → List (List ℕ)
-kept how sorted = if how.unique then last_of_equals how sorted else sorted
+abbrev pub sort_result : Sorting → List (List ℕ) → List (List ℕ)
+sort_result how sorted = if how.unique then last_of_equals how sorted else sorted
 
 -- why items are no numbers: that the first is none that isn't one
 abbrev pub number_fault : List (List ℕ) → Option (List ℕ)
@@ -63,7 +63,7 @@ fault_of how items = if how.integer then number_fault items else None
 abbrev pub IsSortUnless : Option (List ℕ) → Sorting → List (List ℕ) → ListAnswer → Type 0
 IsSortUnless (Some message) how items answer = answer ≡ Bad message
 IsSortUnless None how items answer =
-    (sorted : List (List ℕ)) × IsInOrder how items sorted × (answer ≡ Made (list_of (kept how sorted)))
+    (sorted : List (List ℕ)) × IsInOrder how items sorted × (answer ≡ Made (list_of (sort_result how sorted)))
 
 -- an answer is that of sorting what a text was split into
 abbrev pub IsSortIn : Sorting → Split → ListAnswer → Type 0

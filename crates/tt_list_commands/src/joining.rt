@@ -1,6 +1,6 @@
 ghost use Rattle.std.specs.Prelude.{◌≡◌, ◌++◌, IfOk, OnOk};
 ghost use Rattle.std.specs.List.{flat_map};
-ghost use Rattle.tt_list_commands.specs.Joining.{join_answer, joined};
+ghost use Rattle.tt_list_commands.specs.Joining.{join_answer, joined_text};
 
 use std::alloc::Global;
 use tt_lists::{ListAnswer, Split, split};
@@ -14,7 +14,7 @@ pub fn join(alloc: Global, list: &[u8], separator: &[u8]) -> Result<ListAnswer, 
 {
     match split(alloc, list)? {
         Split::Items(items) => {
-            let text = joined(alloc, separator, items.as_slice())?;
+            let text = joined_text(alloc, separator, items.as_slice())?;
             Ok(ListAnswer::Made(text))
         }
         Split::Bad(fault) => Ok(ListAnswer::Bad(fault.message(alloc)?)),
@@ -22,8 +22,8 @@ pub fn join(alloc: Global, list: &[u8], separator: &[u8]) -> Result<ListAnswer, 
 }
 
 /// The texts with the separator between each two.
-pub(crate) fn joined(alloc: Global, separator: &[u8], texts: &[Text]) -> Result<Text, NoMemory>
-    ensures { IfOk result (λ text. text ≡ joined separator.now texts.now) }
+pub(crate) fn joined_text(alloc: Global, separator: &[u8], texts: &[Text]) -> Result<Text, NoMemory>
+    ensures { IfOk result (λ text. text ≡ joined_text separator.now texts.now) }
 {
     let Some((first, later)) = texts.split_first() else {
         return Ok(Text::new(alloc));

@@ -14,6 +14,3 @@ pub use joining::join;
 pub use repeating::{LONGEST, repeat};
 pub use reversing::reverse;
 pub use sorting::{Sorting, sort};
-
-#[cfg(test)]
-mod tests;

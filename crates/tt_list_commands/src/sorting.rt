@@ -1,8 +1,10 @@
 ghost use Rattle.std.specs.Prelude.{◌≡◌, IfOk, OnOk};
 ghost use Rattle.std.specs.List.Sorted.{IsSorted};
 ghost use Rattle.tt_lists.specs.Spelling.{list_of};
-ghost use Rattle.tt_list_commands.specs.Runs.{equals_next, last_in_runs};
-ghost use Rattle.tt_list_commands.specs.Sorting.{IsInOrder, IsSortAnswer, IsSortUnless, fault_of, increasing, kept, number_fault, number_of, order};
+ghost use Rattle.tt_list_commands.specs.inside.Runs.{equals_next, last_in_runs};
+ghost use Rattle.tt_list_commands.specs.Sorting.{IsInOrder, IsSortAnswer, IsSortUnless, fault_of, increasing};
+ghost use Rattle.tt_list_commands.specs.Sorting.{sort_result};
+ghost use Rattle.tt_list_commands.specs.Sorting.{number_fault, number_of, order};
 
 use std::alloc::Global;
 use std::cmp::{Ordering, Reverse};
@@ -42,7 +44,7 @@ fn sort_items(alloc: Global, how: Sorting, items: Texts) -> Result<ListAnswer, N
     }
     let mut items = items.into_vec();
     put_in_order(how, &mut items)?;
-    let text = kept_text(alloc, how, items.as_slice())?;
+    let text = result_text(alloc, how, items.as_slice())?;
     Ok(ListAnswer::Made(text))
 }
 
@@ -87,9 +89,9 @@ fn number_of(item: &[u8]) -> i64
 }
 
 #[tactic(auto, using(crate::proofs::Equals::last_in_runs_is))]
-fn kept_text(alloc: Global, how: Sorting, sorted: &[Text]) -> Result<Text, NoMemory>
+fn result_text(alloc: Global, how: Sorting, sorted: &[Text]) -> Result<Text, NoMemory>
     requires { IsSorted (order how) sorted.now }
-    ensures { IfOk result (λ text. text ≡ list_of (kept how sorted.now)) }
+    ensures { IfOk result (λ text. text ≡ list_of (sort_result how sorted.now)) }
 {
     if !how.unique {
         return join_list(alloc, sorted);

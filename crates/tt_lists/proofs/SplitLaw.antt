@@ -14,7 +14,7 @@ use Rattle.tt_lists.specs.ListText.IsItem.{braced, quoted, bare}
 use Rattle.tt_lists.specs.ListText.IsListText.{none, space, first}
 use Rattle.tt_lists.specs.ListText.IsFollowed.{by}
 use Rattle.tt_lists.specs.ListText.IsFaulty.{space as space_before, later, open_brace, after_brace, open_quote, after_quote}
-use Rattle.tt_lists.specs.Reading.{run, split_of, split_after, with_item, item_at, in_braces, in_quotes, in_bare, ended, is_separated, IsSplit, SplitLaw}
+use Rattle.tt_lists.specs.Reading.{run, split_of, split_after, with_item, item_at, in_braces, in_quotes, in_bare, closed_item, is_separated, IsSplit, SplitLaw}
 use Rattle.tt_lists.specs.declared.items.Split.{Split}
 use Rattle.tt_lists.specs.declared.items.Split.TheVariants.{Items, Bad}
 use Rattle.tt_lists.specs.declared.items.ListFault.{ListFault}
@@ -41,25 +41,25 @@ followed_from (b ∷ after) h = by h
 followed_to : {after told : List ℕ} → IsFollowed after told → (is_separated after ≡ false) × (told ≡ take 20 (take_while is_no_white_space after))
 followed_to (by h) = (h, refl)
 
-ended_item : (fault : List ℕ → ListFault) (value item : List ℕ) (n takes : ℕ) (after : List ℕ) → ended fault value n after ≡ Item item takes → (is_separated after ≡ true) × (value ≡ item) × (n ≡ takes)
+ended_item : (fault : List ℕ → ListFault) (value item : List ℕ) (n takes : ℕ) (after : List ℕ) → closed_item fault value n after ≡ Item item takes → (is_separated after ≡ true) × (value ≡ item) × (n ≡ takes)
 ended_item fault value item n takes after h =
     elim (cases_Bool (is_separated after)) [
-      | inl p ↦ (let e : Item value n ≡ Item item takes = rw (p, ended) at h in (p, cc, cc))
-      | inr p ↦ (let e : Wrong (fault (take 20 (take_while is_no_white_space after))) ≡ Item item takes = rw (p, ended) at h in absurd (cc))
+      | inl p ↦ (let e : Item value n ≡ Item item takes = rw (p, closed_item) at h in (p, cc, cc))
+      | inr p ↦ (let e : Wrong (fault (take 20 (take_while is_no_white_space after))) ≡ Item item takes = rw (p, closed_item) at h in absurd (cc))
     ]
 
-ended_wrong : (fault : List ℕ → ListFault) (value : List ℕ) (n : ℕ) (after : List ℕ) (told : ListFault) → ended fault value n after ≡ Wrong told → (is_separated after ≡ false) × (fault (take 20 (take_while is_no_white_space after)) ≡ told)
+ended_wrong : (fault : List ℕ → ListFault) (value : List ℕ) (n : ℕ) (after : List ℕ) (told : ListFault) → closed_item fault value n after ≡ Wrong told → (is_separated after ≡ false) × (fault (take 20 (take_while is_no_white_space after)) ≡ told)
 ended_wrong fault value n after told h =
     elim (cases_Bool (is_separated after)) [
-      | inl p ↦ (let e : Item value n ≡ Wrong told = rw (p, ended) at h in absurd (cc))
-      | inr p ↦ (let e : Wrong (fault (take 20 (take_while is_no_white_space after))) ≡ Wrong told = rw (p, ended) at h in (p, cc))
+      | inl p ↦ (let e : Item value n ≡ Wrong told = rw (p, closed_item) at h in absurd (cc))
+      | inr p ↦ (let e : Wrong (fault (take 20 (take_while is_no_white_space after))) ≡ Wrong told = rw (p, closed_item) at h in (p, cc))
     ]
 
-ended_yes : (fault : List ℕ → ListFault) (value : List ℕ) (n : ℕ) (after : List ℕ) → is_separated after ≡ true → ended fault value n after ≡ Item value n
-ended_yes fault value n after p = rw (p, ended) refl
+ended_yes : (fault : List ℕ → ListFault) (value : List ℕ) (n : ℕ) (after : List ℕ) → is_separated after ≡ true → closed_item fault value n after ≡ Item value n
+ended_yes fault value n after p = rw (p, closed_item) refl
 
-ended_no : (fault : List ℕ → ListFault) (value : List ℕ) (n : ℕ) (after : List ℕ) → is_separated after ≡ false → ended fault value n after ≡ Wrong (fault (take 20 (take_while is_no_white_space after)))
-ended_no fault value n after p = rw (p, ended) refl
+ended_no : (fault : List ℕ → ListFault) (value : List ℕ) (n : ℕ) (after : List ℕ) → is_separated after ≡ false → closed_item fault value n after ≡ Wrong (fault (take 20 (take_while is_no_white_space after)))
+ended_no fault value n after p = rw (p, closed_item) refl
 
 -- ---- braces
 
@@ -214,12 +214,12 @@ record ReadsItemAt (text item rest : List ℕ) : Type 0 where
   cut : drop takes text ≡ rest
 
 -- quotes in which a run ends at a quote
-in_quotes_yes : (text item rest : List ℕ) (quote : ℕ) → IsRun is_quote text item (quote ∷ rest) → (takes : ℕ) × (in_quotes text (run is_quote 0 text) ≡ ended AfterQuote item (takes + 2) rest) × (drop (takes + 1) text ≡ rest)
+in_quotes_yes : (text item rest : List ℕ) (quote : ℕ) → IsRun is_quote text item (quote ∷ rest) → (takes : ℕ) × (in_quotes text (run is_quote 0 text) ≡ closed_item AfterQuote item (takes + 2) rest) × (drop (takes + 1) text ≡ rest)
 in_quotes_yes text item rest quote r =
     let q = run_complete r in
     let within : q.takes < length text = omega (arith, q.size) in
     let back : drop (q.takes + 1) text ≡ rest = sym (drop-drop 1 q.takes text) ∙ ap (λ t. drop 1 t) q.cut in
-    (q.takes, ap (in_quotes text) q.is ∙ rw (lt-ltb q.takes (length text) within, in_quotes) (ap (λ t. ended AfterQuote item (q.takes + 2) t) back), back)
+    (q.takes, ap (in_quotes text) q.is ∙ rw (lt-ltb q.takes (length text) within, in_quotes) (ap (λ t. closed_item AfterQuote item (q.takes + 2) t) back), back)
 
 complete_item : {text item rest : List ℕ} → IsItem text item rest → ReadsItemAt text item rest
 complete_item (braced {text} {item} {rest} e b s) =

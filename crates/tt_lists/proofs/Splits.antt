@@ -7,7 +7,7 @@ use Rattle.std.proofs.lemmas.List.Sums.{prefix_len-le-length}
 use Rattle.tt_text.specs.Braces.{matching_brace}
 use Rattle.tt_text.specs.Characters.{is_white_space, without_white_front}
 use Rattle.tt_lists.specs.ListText.{is_no_white_space, is_quote}
-use Rattle.tt_lists.specs.Reading.{run, split_of, split_after, with_item, item_at, item_with, in_braces, in_quotes, in_bare, ended, is_separated}
+use Rattle.tt_lists.specs.Reading.{run, split_of, split_after, with_item, item_at, item_with, in_braces, in_quotes, in_bare, closed_item, is_separated}
 use Rattle.tt_lists.specs.declared.items.Split.{Split}
 use Rattle.tt_lists.specs.declared.items.Split.TheVariants.{Items, Bad}
 use Rattle.tt_lists.specs.declared.items.ListFault.{ListFault}
@@ -53,12 +53,12 @@ run_some stops b text h =
       | inr q ↦ rw (run-letter stops b text h q) (omega arith)
     ]
 
-ended_takes : (fault : List ℕ → ListFault) (value item : List ℕ) (n takes : ℕ) (after : List ℕ) → ended fault value n after ≡ Item item takes → takes ≡ n
+ended_takes : (fault : List ℕ → ListFault) (value item : List ℕ) (n takes : ℕ) (after : List ℕ) → closed_item fault value n after ≡ Item item takes → takes ≡ n
 ended_takes fault value item n takes after h = both (is_separated after) refl h
   where
-    both : (t : Bool) → is_separated after ≡ t → ended fault value n after ≡ Item item takes → takes ≡ n
-    both true e h = cc (rw (e, ended) at h)
-    both false e h = absurd (cc (rw (e, ended) at h))
+    both : (t : Bool) → is_separated after ≡ t → closed_item fault value n after ≡ Item item takes → takes ≡ n
+    both true e h = cc (rw (e, closed_item) at h)
+    both false e h = absurd (cc (rw (e, closed_item) at h))
 
 -- ---- the item at the front, by its first byte
 

@@ -1,5 +1,7 @@
 -- The indices of list commands (lindex(n)): a grammar, and the function that follows it.
-use Rattle.std.specs.Prelude.{◌≡◌, ℕ, ◌^◌, nat_lt, Bool, true, false, ◌&&◌, ◌||◌, if◌then◌else◌, ◌==◌, ◌↔◌, IsTrue, ℤ, pos, negsuc, neg_ℤ, ◌+ℤ◌, FitsSigned, List, [], ◌∷◌, ◌++◌, length, drop, take_while, Option, Some, None}
+use Rattle.std.specs.Prelude.{◌≡◌, ℕ, ◌^◌, nat_lt, Bool, true, false, ◌&&◌, ◌||◌, if◌then◌else◌, ◌==◌, ◌↔◌, IsTrue, ℤ}
+use Rattle.std.specs.Prelude.{pos, negsuc, neg_ℤ, ◌+ℤ◌, FitsSigned, List, [], ◌∷◌, ◌++◌, length, drop, take_while}
+use Rattle.std.specs.Prelude.{Option, Some, None}
 use Rattle.std.specs.Char.{is_digit}
 use Rattle.std.specs.Int.{w64}
 use Rattle.std.specs.List.{list_all, prefix_len}

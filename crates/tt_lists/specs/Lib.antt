@@ -1,4 +1,4 @@
-pub mod Answers
+pub mod Commands
 pub mod Growing
 pub mod Indices
 pub mod ListText

@@ -1,5 +1,6 @@
 -- The function that reads list text. It follows the grammar, and answers lengths where that cuts texts.
-use Rattle.std.specs.Prelude.{◌≡◌, ℕ, zero, suc, ◌+◌, ◌-◌, nat_lt, Bool, true, false, not, ◌&&◌, ◌==◌, ◌↔◌, List, [], ◌∷◌, ◌++◌, length, drop, take, take_while, Option, Some, None}
+use Rattle.std.specs.Prelude.{◌≡◌, ℕ, zero, suc, ◌+◌, ◌-◌, nat_lt, Bool, true, false, not, ◌&&◌, ◌==◌, ◌↔◌, List, []}
+use Rattle.std.specs.Prelude.{◌∷◌, ◌++◌, length, drop, take, take_while, Option, Some, None}
 use Rattle.tt_text.specs.Backslash.{backslash}
 use Rattle.tt_text.specs.Braces.{matching_brace}
 use Rattle.tt_text.specs.Characters.{is_white_space}
@@ -46,8 +47,8 @@ is_separated [] = true
 is_separated (b ∷ after) = is_white_space b
 
 -- an item whose braces or quotes have ended, and what follows
-abbrev pub ended : (List ℕ → ListFault) → List ℕ → ℕ → List ℕ → Reading
-ended fault item takes after =
+abbrev pub closed_item : (List ℕ → ListFault) → List ℕ → ℕ → List ℕ → Reading
+closed_item fault item takes after =
     elim (is_separated after) [
       | true ↦ Item item takes
       | false ↦ Wrong (fault (take 20 (take_while is_no_white_space after)))
@@ -55,12 +56,12 @@ ended fault item takes after =
 
 abbrev pub in_braces : List ℕ → Option ℕ → Reading
 in_braces text None = Wrong OpenBrace
-in_braces text (Some place) = ended AfterBrace (take place text) (place + 2) (drop (place + 1) text)
+in_braces text (Some place) = closed_item AfterBrace (take place text) (place + 2) (drop (place + 1) text)
 
 abbrev pub in_quotes : List ℕ → Run → Reading
 in_quotes text run =
     elim (nat_lt run.takes (length text)) [
-      | true ↦ ended AfterQuote run.value (run.takes + 2) (drop (run.takes + 1) text)
+      | true ↦ closed_item AfterQuote run.value (run.takes + 2) (drop (run.takes + 1) text)
       | false ↦ Wrong OpenQuote
     ]
 

@@ -1,6 +1,7 @@
 ghost use Rattle.std.specs.Prelude.{◌≡◌, IfOk, decimal};
 ghost use Rattle.std.specs.Option.{option_map};
-ghost use Rattle.tt_lists.specs.Answers.{count_answer, insert_among, insert_answer, item_among, item_answer, item_of, range_among, range_answer, replace_among, replace_answer};
+ghost use Rattle.tt_lists.specs.Commands.{count_answer, insert_among, insert_answer, item_among, item_answer, item_of};
+ghost use Rattle.tt_lists.specs.Commands.{range_among, range_answer, replace_among, replace_answer};
 ghost use Rattle.tt_lists.specs.Indices.{index_of};
 ghost use Rattle.tt_lists.specs.Messages.{bad_index_message, list_message};
 ghost use Rattle.tt_lists.specs.Places.{place_in};

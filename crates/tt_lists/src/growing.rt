@@ -14,7 +14,8 @@ use tt_text::{NoMemory, Text};
 #[tactic(auto, using(crate::proofs::Longer::grown))]
 pub fn push_item(alloc: Global, text: &mut Text, item: &[u8]) -> Result<(), NoMemory>
     ensures pushed { OnOk result (text.new ≡ with_last text.old item.now) }
-    ensures longer { OnOk result ((items : List (List ℕ)) → text.old ≡ list_of items → text.new ≡ list_of (items ++ item.now ∷ [])) }
+    ensures longer { OnOk result ((items : List (List ℕ)) →
+        text.old ≡ list_of items → text.new ≡ list_of (items ++ item.now ∷ [])) }
     ensures unchanged { OnErr result (text.new ≡ text.old) }
 {
     let piece = piece_of(alloc, text, item)?;

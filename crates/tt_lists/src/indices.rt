@@ -1,7 +1,9 @@
-ghost use Rattle.std.specs.Prelude.{if◌then◌else◌, ◌≡◌, IsTrue, ◌<◌, ◌≤◌, ◌^◌, ◌+ℤ◌, pos, length, take, take_while, drop};
+ghost use Rattle.std.specs.Prelude.{if◌then◌else◌, ◌≡◌, IsTrue, ◌<◌, ◌≤◌, ◌^◌, ◌+ℤ◌, pos, length, take, take_while};
+ghost use Rattle.std.specs.Prelude.{drop};
 ghost use Rattle.std.specs.List.{prefix_len};
 ghost use Rattle.std.specs.Str.Parse.{digits_value};
-ghost use Rattle.tt_lists.specs.Indices.{index_of, is_end_first, is_sign_first, from_first_of, offset_of, number_of, signed_with, place_of, sum_of, is_decimal, fits};
+ghost use Rattle.tt_lists.specs.Indices.{index_of, is_end_first, is_sign_first, from_first_of, offset_of, number_of};
+ghost use Rattle.tt_lists.specs.Indices.{signed_with, place_of, sum_of, is_decimal, fits};
 ghost use Rattle.tt_lists.specs.declared.place.Index.TheVariants.{At, FromEnd};
 
 use crate::place::Index;

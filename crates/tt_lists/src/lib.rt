@@ -26,6 +26,3 @@ pub use place::Index;
 pub use searching::{Matching, Search, find};
 pub use spelling::{element, join_list, push_later_items};
 pub use splitting::split;
-
-#[cfg(test)]
-mod tests;

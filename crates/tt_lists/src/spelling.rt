@@ -3,7 +3,9 @@ ghost use Rattle.std.specs.List.{list_any, flat_map};
 ghost use Rattle.tt_text.specs.Braces.{is_balanced};
 ghost use Rattle.tt_lists.specs.ListText.{IsListText};
 ghost use Rattle.tt_lists.specs.Reading.{split_of};
-ghost use Rattle.tt_lists.specs.Spelling.{is_comment_sign, joins_lines, is_substituted, wants_braces, wants_braces_first, fits_braces, style_of, escape, escape_first, escape_bare, escaped, styled, spelling, later_item, list_of};
+ghost use Rattle.tt_lists.specs.Spelling.{is_comment_sign, joins_lines, is_substituted, wants_braces};
+ghost use Rattle.tt_lists.specs.Spelling.{wants_braces_first, fits_braces, style_of, escape, escape_first};
+ghost use Rattle.tt_lists.specs.Spelling.{escape_bare, escaped, styled, spelling, later_item, list_of};
 
 use crate::items::Split;
 use std::alloc::Global;

@@ -1,12 +1,15 @@
 -- The operators on whole numbers (expr(n), OPERATORS): on integers without a bound, whose result is cut at
 -- signed 64 bits.
-use Rattle.std.specs.Prelude.{ℕ, Bool, suc, ◌^◌, nat_lt, if◌then◌else◌, ◌==◌, ℤ, pos, negsuc, neg_ℤ, ◌+ℤ◌, ◌-ℤ◌, ◌*ℤ◌, Result, Ok, Err}
-use Rattle.std.specs.Int.{w64, int_div_euclid, int_rem_euclid, int_pow, int_bit_and, int_bit_or, int_bit_xor, int_bit_not}
+use Rattle.std.specs.Prelude.{ℕ, Bool, suc, ◌^◌, nat_lt, if◌then◌else◌, ◌==◌, ℤ, pos, negsuc, neg_ℤ, ◌+ℤ◌, ◌-ℤ◌, ◌*ℤ◌}
+use Rattle.std.specs.Prelude.{Result, Ok, Err}
+use Rattle.std.specs.Int.{w64, int_div_euclid, int_rem_euclid, int_pow, int_bit_and, int_bit_or, int_bit_xor}
+use Rattle.std.specs.Int.{int_bit_not}
 use Rattle.std.specs.Int.RustNames.{unsigned_abs}
 use Rattle.tt_number.specs.declared.operators.ArithFault.{ArithFault}
 use Rattle.tt_number.specs.declared.operators.ArithFault.TheVariants.{Overflow, DivideByZero, NegativeShift, ZeroPower}
 use Rattle.tt_number.specs.declared.operators.NumOp.{NumOp}
-use Rattle.tt_number.specs.declared.operators.NumOp.TheVariants.{Add, Sub, Mul, Div, Mod, Pow, Shl, Shr, BitAnd, BitOr, BitXor}
+use Rattle.tt_number.specs.declared.operators.NumOp.TheVariants.{Add, Sub, Mul, Div, Mod, Pow, Shl, Shr, BitAnd}
+use Rattle.tt_number.specs.declared.operators.NumOp.TheVariants.{BitOr, BitXor}
 use Rattle.tt_number.specs.declared.operators.OneOp.{OneOp}
 use Rattle.tt_number.specs.declared.operators.OneOp.TheVariants.{Neg, Plus, BitNot, Abs}
 

@@ -11,6 +11,3 @@ mod operators;
 pub use decimal::whole_text;
 pub use numeral::{NumberFault, digits_of, read_whole, trimmed};
 pub use operators::{ArithFault, NumOp, OneOp, binary, unary};
-
-#[cfg(test)]
-mod tests;

@@ -1,6 +1,8 @@
 ghost use Rattle.std.specs.Prelude.{◌≡◌, ◌≤◌, ◌<◌, ◌^◌, ◌-◌, min, length, position, IfSome};
 ghost use Rattle.std.specs.Option.{option_map};
-ghost use Rattle.tt_number.specs.Numerals.{trimmed, without_white_back, whole_of, is_minus_first, unsigned_part, number_of, base_and_digits, is_float, is_scaled, is_pointed, is_exponent_mark, is_point, is_numeral, all_digits, cut};
+ghost use Rattle.tt_number.specs.Numerals.{trimmed, without_white_back, whole_of, is_minus_first, unsigned_part};
+ghost use Rattle.tt_number.specs.Numerals.{number_of, base_and_digits, is_float, is_scaled, is_pointed};
+ghost use Rattle.tt_number.specs.Numerals.{is_exponent_mark, is_point, is_numeral, all_digits, cut};
 
 use thiserror::Error;
 use tt_text::{is_white_space, without_white_front};

@@ -1,7 +1,8 @@
 ghost use Rattle.std.specs.Prelude.{◌≡◌, ◌≤◌, ◌<◌, ◌^◌, pos, negsuc, FitsSigned, ◌*ℤ◌, ◌<ℤ◌, ◌≤ℤ◌};
 ghost use Rattle.std.specs.Int.{w64, int_pow};
 ghost use Rattle.std.specs.Int.RustNames.{unsigned_abs};
-ghost use Rattle.tt_number.specs.Operators.{fitted, quotient_down, remainder_down, power, inverse_power, shifted_left, shifted_right, binary_of, unary_of, unless_zero};
+ghost use Rattle.tt_number.specs.Operators.{fitted, quotient_down, remainder_down, power, inverse_power};
+ghost use Rattle.tt_number.specs.Operators.{shifted_left, shifted_right, binary_of, unary_of, unless_zero};
 
 use thiserror::Error;
 

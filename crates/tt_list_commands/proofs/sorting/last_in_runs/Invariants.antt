@@ -1,5 +1,5 @@
 use Rattle.std.proofs.Common.{◌≡◌, ◌++◌, length}
-use Rattle.tt_list_commands.specs.Runs.{last_in_runs}
+use Rattle.tt_list_commands.specs.inside.Runs.{last_in_runs}
 use Rattle.tt_list_commands.proofs.sorting.last_in_runs.Given as goal
 
 abbrev pub invariant-loop-rest : goal.invariant-loop-rest

@@ -1,5 +1,5 @@
 use Rattle.std.proofs.Common.{◌≡◌, drop}
-use Rattle.tt_lists.specs.Answers.{item_answer}
+use Rattle.tt_lists.specs.Commands.{item_answer}
 use Rattle.tt_lists.proofs.commands.item.Given as goal
 
 abbrev pub invariant-loop-word : goal.invariant-loop-word
