@@ -3,7 +3,7 @@ use Rattle.std.proofs.Common.{◌≡◌, ℕ, List, [], ◌∷◌, ◌++◌, ref
 use Rattle.tt_script.specs.Words.{PlainPart, letters, variable, element, script, PlainParts, none, more, with_letters, with_part}
 use Rattle.tt_script.specs.Plain.{plain_step, plain_part, plain_parts, plain_word, plain_words}
 use Rattle.tt_script.specs.declared.command.Word.{Word}
-use Rattle.tt_script.specs.Building.{before, apart}
+use Rattle.tt_script.specs.inside.Building.{before, apart}
 use Rattle.tt_script.specs.declared.command.Part.{Part}
 use Rattle.tt_script.specs.declared.command.Part.TheVariants.{Letters, Variable, Element, Script, rolls-Letters, rolls-Variable, rolls-Element, rolls-Script}
 use Rattle.tt_script.specs.declared.command.Part.TheOpen.{Part-F}

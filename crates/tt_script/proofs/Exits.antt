@@ -1,8 +1,8 @@
 -- The exits of the parser by `?`.
 use Rattle.std.proofs.Common.{◌≡◌, ℕ, List, drop, ap, sym, subst, Result, Ok, Err}
 use Rattle.std.specs.Prelude.{IsErrAnd}
-use Rattle.tt_script.specs.Answers.{Answers, Continues, Refuses}
-use Rattle.tt_script.specs.Building.{Adds, Ends}
+use Rattle.tt_script.specs.inside.Parsing.{Answers, Continues, Refuses}
+use Rattle.tt_script.specs.inside.Building.{Adds, Ends}
 use Rattle.tt_script.specs.Reading.{Read, fails, after, mapped, and_then, Level, parts}
 use Rattle.tt_script.specs.declared.builder.Builder.{Builder}
 use Rattle.tt_script.specs.declared.command.Ending.{Ending}

@@ -4,7 +4,7 @@ use Rattle.tt_script.specs.Words.{PlainWord, PlainCommand, nothing, bad, command
 use Rattle.tt_script.specs.Reading.{most_open, Read, takes, fails, level, words, skipped, command_at, first}
 use Rattle.tt_script.specs.Grammar.{IsSkipped}
 use Rattle.tt_script.specs.FaultGrammar.{IsFirstFault}
-use Rattle.tt_script.specs.Law.{FirstFaultLaw}
+use Rattle.tt_script.specs.GrammarLaw.{FirstFaultLaw}
 use Rattle.tt_script.specs.declared.command.ParseFault.{ParseFault}
 use Rattle.tt_script.specs.declared.command.Place.TheVariants as places
 use Rattle.tt_script.proofs.Cuts.{skipped_cut}

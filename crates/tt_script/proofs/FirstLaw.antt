@@ -4,7 +4,7 @@ use Rattle.std.proofs.lemmas.List.{length-drop}
 use Rattle.tt_script.specs.Words.{PlainWord, PlainCommand, nothing, bad, command}
 use Rattle.tt_script.specs.Reading.{most_open, Read, takes, fails, ends_command, level, words, gap, skipped, terminator_length, command_at, first}
 use Rattle.tt_script.specs.Grammar.{IsSkipped, IsWords, last_word, next_word, IsFirst}
-use Rattle.tt_script.specs.Law.{CommandLaw, NothingLaw, FaultLaw}
+use Rattle.tt_script.specs.GrammarLaw.{CommandLaw, NothingLaw, FaultLaw}
 use Rattle.tt_script.specs.declared.command.ParseFault.{ParseFault}
 use Rattle.tt_script.specs.declared.command.Place.{Place}
 use Rattle.tt_script.specs.declared.command.Place.TheVariants as places

@@ -2,7 +2,7 @@
 use Rattle.std.proofs.Common.{◌≡◌, ℕ, List, [], ◌∷◌, ◌++◌, drop, refl, ap, sym, ◌∙◌, Ok}
 use Rattle.std.proofs.lemmas.List.{append_assoc}
 use Rattle.tt_script.specs.Words.{PlainWord}
-use Rattle.tt_script.specs.Answers.{Answers}
+use Rattle.tt_script.specs.inside.Parsing.{Answers}
 use Rattle.tt_script.specs.Plain.{plain_word, plain_words}
 use Rattle.tt_script.specs.Reading.{Read, takes, fails, after, mapped, Level, words}
 use Rattle.tt_script.specs.declared.command.Place.{Place}

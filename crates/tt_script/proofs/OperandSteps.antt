@@ -1,7 +1,7 @@
 -- Operands of an expression are parts of a word.
 use Rattle.std.proofs.Common.{◌≡◌, ℕ, ◌+◌, List, refl, ap, sym, subst, ◌∙◌}
 use Rattle.tt_script.specs.Words.{PlainPart, script}
-use Rattle.tt_script.specs.Answers.{Refuses}
+use Rattle.tt_script.specs.inside.Parsing.{Refuses}
 use Rattle.tt_script.specs.Reading.{Read, takes, fails, after, and_then, Level, part, dollar}
 use Rattle.tt_script.specs.declared.command.ParseFault.{ParseFault}
 use Rattle.tt_script.specs.declared.stop.Stop.{Stop}

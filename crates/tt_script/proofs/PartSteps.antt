@@ -8,7 +8,7 @@ use Rattle.tt_text.specs.Backslash.{backslash}
 use Rattle.tt_script.specs.Words.{PlainPart, letters, variable, element, script, PlainParts, none, with_letters, with_part}
 use Rattle.tt_script.specs.Reading.{Read, takes, fails, after, mapped, and_then, begins, Level, level, part, parts, parts_at_end, ends_parts, separates, is_terminator, continues_line, dollar, named_variable, braced_variable, named, name_length, letters_of}
 use Rattle.tt_lanes.specs.Classes.{is_special, is_special_in_quotes, is_special_in_index}
-use Rattle.tt_script.specs.Scanning.{ends_run, is_letter}
+use Rattle.tt_script.specs.inside.Scanning.{ends_run, is_letter}
 use Rattle.tt_script.specs.declared.command.ParseFault.{ParseFault}
 use Rattle.tt_script.specs.declared.command.ParseFault.TheVariants.{TooDeep, VariableBrace}
 use Rattle.tt_script.specs.declared.command.Place.{Place}
@@ -19,7 +19,7 @@ use Rattle.tt_script.specs.declared.command.Ending.TheVariants as endings
 use Rattle.tt_script.proofs.Runs.{passes, all}
 use Rattle.tt_script.proofs.Readers.{after-after, after-zero, after-mapped, mapped-mapped, mapped-same}
 use Rattle.tt_script.proofs.Scanning.{unlike, begins_at}
-use Rattle.tt_script.specs.Answers.{ends_within}
+use Rattle.tt_script.specs.inside.Parsing.{ends_within}
 use Rattle.tt_script.proofs.Builds.{with_letters-++}
 use Rattle.tt_script.proofs.Joining.{slice-more}
 

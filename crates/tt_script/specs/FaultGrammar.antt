@@ -8,7 +8,8 @@ use Rattle.tt_script.specs.Words.{PlainPart, PlainParts, PlainWord}
 use Rattle.tt_script.specs.Reading.{most_open, begins, separates, ends_command, ends_parts, expands}
 use Rattle.tt_script.specs.Grammar.{IsGap, IsSkipped, IsNamed, IsPart, IsParts, IsWord, IsWords}
 use Rattle.tt_script.specs.declared.command.ParseFault.{ParseFault}
-use Rattle.tt_script.specs.declared.command.ParseFault.TheVariants.{CloseBrace, CloseBracket, CloseQuote, AfterBrace, AfterQuote, CloseParen, VariableBrace, TooDeep}
+use Rattle.tt_script.specs.declared.command.ParseFault.TheVariants.{CloseBrace, CloseBracket, CloseQuote, AfterBrace}
+use Rattle.tt_script.specs.declared.command.ParseFault.TheVariants.{AfterQuote, CloseParen, VariableBrace, TooDeep}
 use Rattle.tt_script.specs.declared.command.Place.{Place}
 use Rattle.tt_script.specs.declared.command.Place.TheVariants as places
 use Rattle.tt_script.specs.declared.command.Ending.{Ending}

@@ -1,12 +1,15 @@
 -- The command grammar: how a text is cut into commands, words and parts (Tcl(n)). Each relation says that
 -- `text` begins with something and that `rest` follows it. `depth` brackets and indices may still be opened.
-use Rattle.std.specs.Prelude.{◌≡◌, ◌≢◌, ℕ, suc, ◌+◌, Bool, true, false, ◌||◌, ◌&&◌, ◌==◌, List, [], ◌∷◌, ◌++◌, length, drop}
+use Rattle.std.specs.Prelude.{◌≡◌, ◌≢◌, ℕ, suc, ◌+◌, Bool, true, false, ◌||◌, ◌&&◌, ◌==◌, List, [], ◌∷◌, ◌++◌, length}
+use Rattle.std.specs.Prelude.{drop}
 use Rattle.std.specs.List.{position_or_len}
 use Rattle.tt_text.specs.Characters.{is_white_space, is_blank}
 use Rattle.tt_text.specs.Backslash.{backslash}
 use Rattle.tt_text.specs.Braces.{IsBalanced}
-use Rattle.tt_script.specs.Words.{PlainPart, letters, variable, element, script, PlainParts, none, with_part, PlainWord, PlainCommand}
-use Rattle.tt_script.specs.Reading.{most_open, begins, continues_line, separates, ends_command, ends_parts, expands, letters_of, joined_lines, is_name_byte, named}
+use Rattle.tt_script.specs.Words.{PlainPart, letters, variable, element, script, PlainParts, none, with_part, PlainWord}
+use Rattle.tt_script.specs.Words.{PlainCommand}
+use Rattle.tt_script.specs.Reading.{most_open, begins, continues_line, separates, ends_command, ends_parts, expands}
+use Rattle.tt_script.specs.Reading.{letters_of, joined_lines, is_name_byte, named}
 use Rattle.tt_script.specs.declared.command.Place.{Place}
 use Rattle.tt_script.specs.declared.command.Place.TheVariants as places
 use Rattle.tt_script.specs.declared.command.Ending.{Ending}

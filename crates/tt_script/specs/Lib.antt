@@ -1,13 +1,11 @@
-pub mod Answers
-pub mod Building
 pub mod ByteClasses
 pub mod FaultGrammar
 pub mod Grammar
-pub mod Law
+pub mod GrammarLaw
 pub mod Messages
 pub mod Names
 pub mod Operands
 pub mod Plain
 pub mod Reading
-pub mod Scanning
 pub mod Words
+pub mod inside

@@ -1,7 +1,8 @@
 -- How a command that can't be read is told (Tcl(n)).
 use Rattle.std.specs.Prelude.{ℕ, List, codes}
 use Rattle.tt_script.specs.declared.command.ParseFault.{ParseFault}
-use Rattle.tt_script.specs.declared.command.ParseFault.TheVariants.{CloseBrace, CloseBracket, CloseQuote, AfterBrace, AfterQuote, CloseParen, VariableBrace, TooDeep}
+use Rattle.tt_script.specs.declared.command.ParseFault.TheVariants.{CloseBrace, CloseBracket, CloseQuote, AfterBrace}
+use Rattle.tt_script.specs.declared.command.ParseFault.TheVariants.{AfterQuote, CloseParen, VariableBrace, TooDeep}
 
 -- the text of each fault
 abbrev pub parse_message : ParseFault → List ℕ

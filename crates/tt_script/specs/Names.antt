@@ -1,5 +1,6 @@
 -- Names of variables as commands are given them (Tcl(n), rule 8; set(n)).
-use Rattle.std.specs.Prelude.{◌≡◌, ℕ, ◌+◌, ◌-◌, ◌==◌, ◌↔◌, List, [], ◌∷◌, ◌++◌, length, take, drop, slice_range, Option, Some, None, if◌then◌else◌, nat_eq, codes}
+use Rattle.std.specs.Prelude.{◌≡◌, ℕ, ◌+◌, ◌-◌, ◌==◌, ◌↔◌, List, [], ◌∷◌, ◌++◌, length, take, drop, slice_range, Option}
+use Rattle.std.specs.Prelude.{Some, None, if◌then◌else◌, nat_eq, codes}
 use Rattle.std.specs.List.{position_or_len, starts_with}
 use Rattle.std.specs.Option.{option_map, unwrap_or}
 use Rattle.tt_script.specs.Reading.{index_start}

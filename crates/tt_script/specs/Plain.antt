@@ -1,6 +1,7 @@
 -- The plain form of what the parser answers: its trees with lists in place of vectors.
 use Rattle.std.specs.Prelude.{List, [], ◌∷◌, map}
-use Rattle.tt_script.specs.Words.{PlainPart, letters, variable, element, script, PlainParts, none, more, PlainWord, PlainCommand, PlainFirst, nothing, bad, command}
+use Rattle.tt_script.specs.Words.{PlainPart, letters, variable, element, script, PlainParts, none, more, PlainWord}
+use Rattle.tt_script.specs.Words.{PlainCommand, PlainFirst, nothing, bad, command}
 use Rattle.tt_script.specs.declared.command.Part.{Part}
 use Rattle.tt_script.specs.declared.command.Part.TheOpen.{Part-F}
 use Rattle.tt_script.specs.declared.command.Part.TheFolds.{fold-Part}

@@ -1,14 +1,18 @@
 -- The first command of a text, or why it has none: a recursive descent over lists (Tcl(n)).
 -- It answers values with the number of bytes that they take. `k` is a number of bytes that are passed over.
-use Rattle.std.specs.Prelude.{ℕ, zero, suc, pred, ◌+◌, ◌-◌, Bool, true, false, not, ◌&&◌, ◌||◌, if◌then◌else◌, ◌==◌, nat_lt, min, List, [], ◌∷◌, ◌++◌, length, take, drop, slice_range, position, Option, Some, None}
+use Rattle.std.specs.Prelude.{ℕ, zero, suc, pred, ◌+◌, ◌-◌, Bool, true, false, not, ◌&&◌, ◌||◌, if◌then◌else◌, ◌==◌}
+use Rattle.std.specs.Prelude.{nat_lt, min, List, [], ◌∷◌, ◌++◌, length, take, drop, slice_range, position, Option, Some}
+use Rattle.std.specs.Prelude.{None}
 use Rattle.std.specs.List.{position_or_len, prefix_len}
 use Rattle.std.specs.Char.{is_ascii_alphanumeric}
 use Rattle.tt_text.specs.Characters.{is_white_space, is_blank}
 use Rattle.tt_text.specs.Backslash.{backslash}
 use Rattle.tt_text.specs.Braces.{matching_brace}
-use Rattle.tt_script.specs.Words.{PlainPart, letters, variable, element, script, PlainParts, none, with_letters, with_part, PlainWord, PlainFirst, nothing, bad, command}
+use Rattle.tt_script.specs.Words.{PlainPart, letters, variable, element, script, PlainParts, none, with_letters}
+use Rattle.tt_script.specs.Words.{with_part, PlainWord, PlainFirst, nothing, bad, command}
 use Rattle.tt_script.specs.declared.command.ParseFault.{ParseFault}
-use Rattle.tt_script.specs.declared.command.ParseFault.TheVariants.{CloseBrace, CloseBracket, CloseQuote, AfterBrace, AfterQuote, CloseParen, VariableBrace, TooDeep}
+use Rattle.tt_script.specs.declared.command.ParseFault.TheVariants.{CloseBrace, CloseBracket, CloseQuote, AfterBrace}
+use Rattle.tt_script.specs.declared.command.ParseFault.TheVariants.{AfterQuote, CloseParen, VariableBrace, TooDeep}
 use Rattle.tt_script.specs.declared.command.Place.{Place}
 use Rattle.tt_script.specs.declared.command.Place.TheVariants as places
 use Rattle.tt_script.specs.declared.command.Ending.{Ending}

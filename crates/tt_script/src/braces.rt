@@ -1,5 +1,6 @@
 //! Words in braces (Tcl(n), rule 6).
-ghost use Rattle.std.specs.Prelude.{◌≡◌, ◌≢◌, ◌+◌, ◌-◌, ◌≤◌, ◌<◌, Some, None, IfOk, IfSome, false, length, drop, take, slice_range};
+ghost use Rattle.std.specs.Prelude.{◌≡◌, ◌≢◌, ◌+◌, ◌-◌, ◌≤◌, ◌<◌, Some, None, IfOk, IfSome, false, length, drop, take};
+ghost use Rattle.std.specs.Prelude.{slice_range};
 ghost use Rattle.std.specs.Option.{option_map};
 ghost use Rattle.tt_text.specs.Braces.{further, matching_brace};
 ghost use Rattle.tt_script.specs.Reading.{joined_lines, letters_of};

@@ -19,7 +19,7 @@ pub(crate) struct Builder {
 }
 
 impl Builder {
-    ghost use Rattle.tt_script.specs.Building.{so_far, apart, before};
+    ghost use Rattle.tt_script.specs.inside.Building.{so_far, apart, before};
 
     pub(crate) fn new(alloc: Global, mode: Mode) -> Self
         ensures parts { (rest : PlainParts) → so_far result rest ≡ rest }

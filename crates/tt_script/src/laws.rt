@@ -1,10 +1,10 @@
 //! What the definitions that other crates cite say together. Nothing runs here.
 ghost use Rattle.tt_script.specs.ByteClasses.{ByteClassLaw};
 ghost use Rattle.tt_script.specs.Names.{ElementNameLaw};
-ghost use Rattle.tt_script.specs.Law.{CommandLaw, NothingLaw, FaultLaw, FirstFaultLaw};
+ghost use Rattle.tt_script.specs.GrammarLaw.{CommandLaw, NothingLaw, FaultLaw, FirstFaultLaw};
 
 /// The function that `first_command` answers by is the command grammar of Tcl(n): it has a command
-/// exactly where the grammar cuts one off, and that one, and a fault exactly where no cut is possible:
+/// exactly if the grammar cuts one off, and that one, and a fault exactly if no cut is possible:
 /// the one that is met first from the left, with the place of the command's first byte.
 pub fn grammar_law()
     ensures command { CommandLaw }
@@ -19,7 +19,7 @@ pub fn byte_class_law()
     ensures { ByteClassLaw }
 {}
 
-/// A name is split by `split_name` exactly where it is an element's.
+/// A name is split by `split_name` exactly if it is an element's.
 pub fn element_name_law()
     ensures { ElementNameLaw }
 {}

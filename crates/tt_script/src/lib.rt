@@ -19,6 +19,3 @@ pub use command::{Command, First, ParseFault, Part, Word};
 pub use elements::{global_name, plain_name, split_name};
 pub use operands::{braced_text, quoted_parts, script_part, variable_part};
 pub use script::{DEPTH, first_command};
-
-#[cfg(test)]
-mod tests;

@@ -1,8 +1,9 @@
 //! What nests: brackets, indices and the words around them (Tcl(n), rules 3 to 8).
-ghost use Rattle.std.specs.Prelude.{◌≡◌, ◌+◌, ◌-◌, ◌≤◌, ◌<◌, false, true, length, drop, take, slice_index, IfOk, IfSome, OnOk, IfErr};
+ghost use Rattle.std.specs.Prelude.{◌≡◌, ◌+◌, ◌-◌, ◌≤◌, ◌<◌, false, true, length, drop, take, slice_index, IfOk};
+ghost use Rattle.std.specs.Prelude.{IfSome, OnOk, IfErr};
 ghost use Rattle.tt_script.specs.Words.{more, none, variable};
-ghost use Rattle.tt_script.specs.Answers.{Answers, Continues, Refuses, ends_within};
-ghost use Rattle.tt_script.specs.Building.{Adds, Ends};
+ghost use Rattle.tt_script.specs.inside.Parsing.{Answers, Continues, Refuses, ends_within};
+ghost use Rattle.tt_script.specs.inside.Building.{Adds, Ends};
 ghost use Rattle.tt_script.specs.Plain.{plain_part, plain_parts, plain_word, plain_words};
 ghost use Rattle.tt_script.specs.Reading as reading;
 

@@ -1,7 +1,8 @@
 //! What needs no nesting: gaps, comments, names and braces.
-ghost use Rattle.std.specs.Prelude.{◌≡◌, ◌+◌, ◌≤◌, ◌<◌, length, drop, take, slice_index, min, ◌≢◌, ◌||◌, ◌==◌, false, true, OnOk, IfErr};
+ghost use Rattle.std.specs.Prelude.{◌≡◌, ◌+◌, ◌≤◌, ◌<◌, length, drop, take, slice_index, min, ◌≢◌, ◌||◌, ◌==◌, false};
+ghost use Rattle.std.specs.Prelude.{true, OnOk, IfErr};
 ghost use Rattle.std.specs.List.{prefix_len, position_or_len};
-ghost use Rattle.tt_script.specs.Scanning.{ends_run};
+ghost use Rattle.tt_script.specs.inside.Scanning.{ends_run};
 ghost use Rattle.tt_text.specs.Characters as characters;
 ghost use Rattle.tt_script.specs.Reading as reading;
 

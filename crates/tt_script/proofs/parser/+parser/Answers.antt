@@ -3,10 +3,10 @@ use Rattle.tt_text.specs.Backslash.{backslash}
 use Rattle.std.proofs.lemmas.Option.{slice_get-get_or}
 use Rattle.std.proofs.Common.{Some}
 use Rattle.tt_script.specs.Words.{none, more, letters, variable, element, script, with_letters, with_part}
-use Rattle.tt_script.specs.Building.{so_far}
+use Rattle.tt_script.specs.inside.Building.{so_far}
 use Rattle.tt_script.specs.Plain.{plain_part, plain_parts, plain_words}
 use Rattle.tt_script.specs.declared.command.Part.TheVariants.{Script}
-use Rattle.tt_script.specs.Scanning.{ends_run}
+use Rattle.tt_script.specs.inside.Scanning.{ends_run}
 use Rattle.tt_script.specs.Reading.{takes, after, mapped, level, letters_of}
 use Rattle.tt_script.proofs.Builds.{plain_letters, plain_variable, plain_element, plain_script}
 use Rattle.tt_script.proofs.Keeping.{mapped-itself, gathered-word}

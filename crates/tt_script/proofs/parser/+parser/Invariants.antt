@@ -1,6 +1,6 @@
 use Rattle.std.proofs.Common.{◌≡◌, ◌+◌, ◌-◌, ◌*◌, ◌<◌, ◌≤◌, false, length, drop, Ok}
 use Rattle.tt_script.specs.Reading as reading
-use Rattle.tt_script.specs.Building.{Adds}
+use Rattle.tt_script.specs.inside.Building.{Adds}
 use Rattle.tt_script.proofs.Keeping.{Gathered}
 use Rattle.tt_script.proofs.parser.+parser.Given as goal
 

@@ -1,5 +1,5 @@
 use Rattle.std.proofs.Common.{arith, sym, ◌∙◌}
-use Rattle.tt_script.specs.Scanning.{ends_run}
+use Rattle.tt_script.specs.inside.Scanning.{ends_run}
 use Rattle.tt_script.proofs.PartSteps.{ended_within, plain_parts_at}
 use Rattle.tt_script.proofs.Scanning.{run-within}
 use Rattle.tt_script.proofs.parser.plain_end.Goals as goal

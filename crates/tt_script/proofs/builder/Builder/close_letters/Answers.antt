@@ -1,6 +1,6 @@
 use Rattle.std.proofs.Common.{ap, ◌∙◌, sym, length, ◌==◌, ◌≡◌, false}
 use Rattle.tt_script.specs.Words.{more, letters}
-use Rattle.tt_script.specs.Building.{before}
+use Rattle.tt_script.specs.inside.Building.{before}
 use Rattle.tt_script.proofs.Builds.{before-push, plain_letters, apart-letters}
 use Rattle.tt_script.proofs.builder.Builder.close_letters.Goals as goal
 

@@ -1,6 +1,6 @@
 use Rattle.std.proofs.Common.{ap, ◌∙◌, sym}
 use Rattle.tt_script.specs.Words.{none}
-use Rattle.tt_script.specs.Building.{before}
+use Rattle.tt_script.specs.inside.Building.{before}
 use Rattle.tt_script.proofs.Builds.{before-none, apart-none}
 use Rattle.tt_script.proofs.builder.Builder.finish.Goals as goal
 

@@ -1,7 +1,7 @@
 use Rattle.std.proofs.Common.{ap, ◌∙◌, sym, ◌++◌, ◌∷◌, []}
 use Rattle.tt_script.specs.Words.{with_letters, with_part, more}
 use Rattle.tt_script.specs.Plain.{plain_part}
-use Rattle.tt_script.specs.Building.{before}
+use Rattle.tt_script.specs.inside.Building.{before}
 use Rattle.tt_script.proofs.Builds.{before-push, other_part}
 use Rattle.tt_script.proofs.builder.Builder.push_kept.Goals as goal
 

@@ -1,6 +1,6 @@
 use Rattle.std.proofs.Common.{ap, ◌∙◌}
 use Rattle.tt_script.specs.Words.{with_letters}
-use Rattle.tt_script.specs.Building.{before}
+use Rattle.tt_script.specs.inside.Building.{before}
 use Rattle.tt_script.proofs.Builds.{with_letters-++}
 use Rattle.tt_script.proofs.builder.Builder.push_letters.Goals as goal
 

@@ -1,7 +1,7 @@
 -- Parts in the making.
 use Rattle.std.specs.Prelude.{◌≡◌, ℕ, List, [], ◌∷◌, drop, Result, Ok, Err}
 use Rattle.tt_script.specs.Words.{letters, PlainParts, more, with_letters}
-use Rattle.tt_script.specs.Answers.{Refuses}
+use Rattle.tt_script.specs.inside.Parsing.{Refuses}
 use Rattle.tt_script.specs.Reading.{after, mapped, takes, Level, parts}
 use Rattle.tt_script.specs.Plain.{plain_part, plain_parts}
 use Rattle.tt_script.specs.declared.command.Part.{Part}
