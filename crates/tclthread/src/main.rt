@@ -18,7 +18,7 @@ use ended::Ended;
 use line::tell;
 use session::session;
 use std::process::ExitCode;
-use tt_devices::{OpenGate, RealFiles, StdSink, StdSource};
+use tt_devices::{OpenGate, RealFiles, StdSink, StdSource, SystemDisk};
 use words::words;
 
 fn main(rt: HostRuntime) -> ExitCode {
@@ -29,7 +29,7 @@ fn main(rt: HostRuntime) -> ExitCode {
             return ExitCode::from(status.exit());
         }
     };
-    let mut files = RealFiles::new(&rt);
+    let mut files = RealFiles::new(SystemDisk::new(&rt));
     let Ended { status, .. } = session(
         &rt,
         rt.alloc(),

@@ -2,7 +2,8 @@ use Rattle.std.proofs.Common.{◌≡◌, ◌≢◌, ◌<◌, ◌+◌, ℕ, zero,
 use Rattle.std.specs.Str.{bytes_eq}
 use Rattle.std.proofs.Math.ListN.{set}
 use Rattle.std.proofs.lemmas.Slice.Eq.{bytes_eq-Decides}
-use Rattle.tt_devices.specs.Memory.{NamedBytes, bytes_under, IsFirstNamed}
+use Rattle.tt_devices.specs.Memory.{NamedBytes, bytes_under}
+use Rattle.tt_devices.specs.inside.MemoryNames.{IsFirstNamed}
 
 -- the first file of a name has the bytes under it
 pub first_found : (files : List NamedBytes) (name : List ℕ) (place : ℕ) (d : NamedBytes) → IsFirstNamed files name place → bytes_under files name ≡ Some (get_or files place d).bytes

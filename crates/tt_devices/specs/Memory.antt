@@ -1,4 +1,5 @@
-use Rattle.std.specs.Prelude.{◌≡◌, Bool, true, false, ℕ, zero, suc, ◌+◌, nat_lt, List, [], ◌∷◌, Contains, Option, Some, None, if◌then◌else◌}
+-- Devices in memory, as contracts see them.
+use Rattle.std.specs.Prelude.{Bool, ℕ, ◌+◌, nat_lt, List, [], ◌∷◌, Contains, Option, Some, None, if◌then◌else◌}
 use Rattle.tt_devices.specs.Faults.{greatest_count}
 use Rattle.std.specs.Str.{bytes_eq}
 
@@ -25,7 +26,7 @@ abbrev pub after_call : Plan → Bool → Plan
 after_call plan failed =
     record plan { calls = one_more plan.calls; faults = if failed then one_more plan.faults else plan.faults }
 
--- a source in memory: what is left of its bytes
+-- a source in memory: its remaining bytes
 pub record Supply : Type 0 where
   pub left : List ℕ
   pub plan : Plan
@@ -50,9 +51,3 @@ pub record Shelf : Type 0 where
 abbrev pub bytes_under : List NamedBytes → List ℕ → Option (List ℕ)
 bytes_under [] name = None
 bytes_under (file ∷ files) name = if bytes_eq file.name name then Some file.bytes else bytes_under files name
-
--- the first file of this name is at this place
-abbrev pub IsFirstNamed : List NamedBytes → List ℕ → ℕ → Type 0
-IsFirstNamed [] name place = ⊥
-IsFirstNamed (file ∷ files) name zero = bytes_eq file.name name ≡ true
-IsFirstNamed (file ∷ files) name (suc place) = (bytes_eq file.name name ≡ false) × IsFirstNamed files name place

@@ -1,4 +1,4 @@
--- What reads take from a source and writes add to a sink, where these tell their bytes. Nothing is said of one that
+-- What reads take from a source and writes add to a sink, if these tell their bytes. Nothing is said of one that
 -- didn't tell them before.
 use Rattle.std.specs.Prelude.{ℕ, ◌≡◌, ◌<◌, List, ◌++◌, length, take, Option}
 use Rattle.std.specs.Io.KnownBytes.{Appends, Consumes, IsAtEnd, Keeps}
@@ -11,15 +11,6 @@ Fills old new room count = Consumes old new (take count room) × (count ≡ 0 �
 -- a source holds what it held, or a sink got what it had
 abbrev pub Stays : Option (List ℕ) → Option (List ℕ) → Type 0
 Stays old new = Keeps old new
-
--- a source held these bytes and no more
-abbrev pub Empties : Option (List ℕ) → Option (List ℕ) → List ℕ → Type 0
-Empties old new bytes = Consumes old new bytes × IsAtEnd new
-
--- some first bytes were taken from a source
-pub record LosesPart (old new : Option (List ℕ)) : Type 0 where
-  pub part : List ℕ
-  pub lost : Consumes old new part
 
 -- what a sink got grew by this piece
 abbrev pub Grows : Option (List ℕ) → Option (List ℕ) → List ℕ → Type 0

@@ -18,7 +18,7 @@ pub enum ReadAnswer {
 
 /// Bytes under names.
 pub trait Files {
-    /// The bytes under each name, where they are told.
+    /// The bytes under each name, if they are told.
     ghost map: { Self → Option Names };
 
     /// How many reads failed. A count at the greatest `u64` stays there.
@@ -37,8 +37,7 @@ pub trait Files {
 
     /// The bytes under the name.
     ///
-    /// `Missing` exactly where the name has none, where the map is told. `Failed` only where the count of failed
-    /// reads rose.
+    /// `Missing` exactly if the name has none, if the map is told. `Failed` only if the count of failed reads rose.
     fn read(&mut self, alloc: Global, name: &str) -> Result<Vec<u8>, ReadAnswer>
         ensures found { IfOk result (λ bytes. Tells (map self.old) name.now (Some bytes.items)) }
         ensures missing { IsErrOf result ReadAnswer.Missing → Tells (map self.old) name.now None }
@@ -50,7 +49,7 @@ pub trait Files {
 
     /// Replaces the bytes under the name.
     ///
-    /// `Failed` only where the count of failed writes rose; then the bytes under that name alone are unknown.
+    /// `Failed` only if the count of failed writes rose; then the bytes under that name alone are unknown.
     fn write(&mut self, name: &str, bytes: &[u8]) -> Result<(), Failed>
         ensures written { OnOk result (Tells (map self.new) name.now (Some bytes.now)) }
         ensures others { KeepsOthers (map self.old) (map self.new) name.now }

@@ -1,7 +1,9 @@
-ghost use Rattle.std.specs.Prelude.{◌≡◌, ◌≢◌, ◌⊎◌, ℕ, List, [], ◌<◌, length, true, false, Option, IfOk, IfSome, IfNone, OnOk, OnErr, IsErrOf, IsErr, is_err, Some, None, Err};
+ghost use Rattle.std.specs.Prelude.{◌≡◌, ◌≢◌, ◌⊎◌, ℕ, List, [], ◌<◌, length, true, false, Option, IfOk, IfSome};
+ghost use Rattle.std.specs.Prelude.{IfNone, OnOk, OnErr, IsErrOf, IsErr, is_err, Some, None, Err};
 ghost use Rattle.tt_devices.specs.Faults.{Rises};
-ghost use Rattle.tt_devices.specs.Memory.{FailsNext, IsFirstNamed, after_call, bytes_under, fresh_plan};
+ghost use Rattle.tt_devices.specs.Memory.{FailsNext, after_call, bytes_under, fresh_plan};
 ghost use Rattle.tt_devices.specs.Names.{Tells, HasName, KeepsOthers};
+ghost use Rattle.tt_devices.specs.inside.MemoryNames.{IsFirstNamed};
 
 use crate::fault_plan::FaultPlan;
 use crate::{Failed, Files, ReadAnswer};
@@ -24,7 +26,7 @@ impl Model for NamedFile {
     ghost view = { λ file. record { name = file.name.items; bytes = file.bytes.items } };
 }
 
-/// Files in memory, which tell their map. Its calls fail where its plans say so.
+/// Files in memory, which tell their map. Its calls fail if its plans say so.
 #[derive(Debug, Drop)]
 pub struct MemoryFiles {
     files: Vec<NamedFile>,
@@ -45,7 +47,11 @@ impl MemoryFiles {
     /// No files. The reads and the writes whose numbers, each counted from 1, are in the lists fail, but for a read
     /// of a name that has no bytes.
     pub fn new(alloc: Global, fail_reads: Vec<u64>, fail_writes: Vec<u64>) -> Self
-        ensures { result ≡ record { files = []; reads = fresh_plan fail_reads.items; writes = fresh_plan fail_writes.items } }
+        ensures { result ≡ record {
+          files = [];
+          reads = fresh_plan fail_reads.items;
+          writes = fresh_plan fail_writes.items;
+        } }
     {
         MemoryFiles {
             files: Vec::new(alloc),
@@ -57,17 +63,18 @@ impl MemoryFiles {
 
     /// Puts the bytes under the name, in place of those that were there. It counts as no call.
     ///
-    /// `NoMemory` where memory for them is refused; then the map is as it was.
+    /// `NoMemory` if memory for them is refused; then the map is as it was.
     pub fn add(&mut self, name: &str, bytes: &[u8]) -> Result<(), NoMemory>
         ensures added { OnOk result (bytes_under self.new.files name.now ≡ Some bytes.now) }
-        ensures others { (other : List ℕ) → other ≢ name.now → bytes_under self.new.files other ≡ bytes_under self.old.files other }
+        ensures others { (other : List ℕ) →
+            other ≢ name.now → bytes_under self.new.files other ≡ bytes_under self.old.files other }
         ensures unchanged { OnErr result (self.new.files ≡ self.old.files) }
         ensures plans { (self.new.reads ≡ self.old.reads) × (self.new.writes ≡ self.old.writes) }
     {
         put(self.alloc, &mut self.files, name.as_bytes(), bytes)
     }
 
-    /// The bytes under the name, or `None` exactly where it has none.
+    /// The bytes under the name, or `None` exactly if it has none.
     pub fn bytes(&self, name: &str) -> Option<&[u8]>
         ensures found { IfSome result (λ bytes. bytes_under self.now.files name.now ≡ Some bytes.now) }
         ensures none { IfNone result (bytes_under self.now.files name.now ≡ None) }
@@ -94,7 +101,8 @@ fn place_of(files: &[NamedFile], name: &[u8]) -> Option<usize>
 /// Puts the bytes under the name.
 fn put(alloc: Global, files: &mut Vec<NamedFile>, name: &[u8], bytes: &[u8]) -> Result<(), NoMemory>
     ensures added { OnOk result (bytes_under files.new.items name.now ≡ Some bytes.now) }
-    ensures others { (other : List ℕ) → other ≢ name.now → bytes_under files.new.items other ≡ bytes_under files.old.items other }
+    ensures others { (other : List ℕ) →
+        other ≢ name.now → bytes_under files.new.items other ≡ bytes_under files.old.items other }
     ensures unchanged { OnErr result (files.new.items ≡ files.old.items) }
 {
     let bytes = Vec::from_slice(alloc, bytes)?;
@@ -136,7 +144,8 @@ impl Files for MemoryFiles {
         ensures no_write { self.new.writes.faults ≡ self.old.writes.faults }
 
         // Which calls fail, and what that leaves.
-        ensures planned { FailsNext self.old.reads → IsErrOf result ReadAnswer.Failed ⊎ IsErrOf result ReadAnswer.Missing }
+        ensures planned { FailsNext self.old.reads →
+            IsErrOf result ReadAnswer.Failed ⊎ IsErrOf result ReadAnswer.Missing }
         ensures not_planned { IsErrOf result ReadAnswer.Failed → FailsNext self.old.reads }
         ensures failed { IsErrOf result ReadAnswer.Failed → self.new.reads ≡ after_call self.old.reads true }
         ensures counted { (result ≢ Err ReadAnswer.Failed) → self.new.reads ≡ after_call self.old.reads false }

@@ -8,7 +8,7 @@ use crate::{Failed, Sink};
 use std::alloc::Global;
 use std::marker::Model;
 
-/// A sink in memory, which tells what it got. Its calls fail where its plan says so, and then it gets the first
+/// A sink in memory, which tells what it got. Its calls fail if its plan says so, and then it gets the first
 /// half of the piece.
 #[derive(Debug, Drop)]
 pub struct MemorySink {

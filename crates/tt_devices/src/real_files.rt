@@ -1,14 +1,14 @@
-ghost use Rattle.std.specs.Prelude.{◌≡◌, ◌≢◌, ◌≤◌, ◌++◌, None, Err, IfOk, OnOk, OnErr, IsErrOf, vec_len};
+ghost use Rattle.std.specs.Prelude.{◌≡◌, ◌≢◌, ◌≤◌, ◌^◌, ℕ, Err, None, Some, IfErr, IfOk, OnOk, OnErr, IsErrOf, vec_len};
+ghost use Rattle.std.specs.IoError.{error_kind};
 ghost use Rattle.tt_devices.specs.Faults.{Rises};
-ghost use Rattle.tt_devices.specs.Streams.{Empties, LosesPart};
+ghost use Rattle.tt_devices.specs.Names.{HasName, IsLonger, KeepsOthers, Tells};
+ghost use Rattle.tt_devices.specs.inside.Reading.{Empties, LosesMore, LosesPart};
 
-use crate::std_streams::{read_some, write_whole};
-use crate::{Failed, Files, ReadAnswer};
+use crate::{Disk, Failed, Files, ReadAnswer, Sink, Source};
 use std::alloc::Global;
-use std::io::{ErrorKind, Read};
+use std::io;
+use std::io::ErrorKind;
 use std::marker::Model;
-use std::rt::Files as FileSystem;
-use std::{fs, io};
 
 /// The most bytes of a file that is read.
 const MOST_BYTES: usize = 268_435_456;
@@ -16,41 +16,55 @@ const MOST_BYTES: usize = 268_435_456;
 /// How many bytes are asked for at once.
 const CHUNK: usize = 16_384;
 
-/// The files of the system, which don't tell their map. Contracts see the counts of failed reads and writes.
+/// The files of a disk, such as that of the system. They tell their map if the disk does. Contracts see the disk, and
+/// the counts of failed reads and writes.
 #[derive(Drop)]
-pub struct RealFiles<R: FileSystem + Drop> {
-    system: R,
+pub struct RealFiles<D: Disk + Drop> {
+    disk: D,
     read_faults: u64,
     write_faults: u64,
 }
 
-impl<R: FileSystem + Drop> Model for RealFiles<R> {
+impl<D: Disk + Drop> Model for RealFiles<D> {
     ghost use Rattle.std.specs.Prelude.{ℕ};
 
-    ghost Value = { ℕ × ℕ };
+    ghost Value = { D × ℕ × ℕ };
 
-    ghost view = { λ all. (all.read_faults, all.write_faults) };
+    ghost view = { λ all. (all.disk, all.read_faults, all.write_faults) };
 }
 
-impl<R: FileSystem + Drop> RealFiles<R> {
-    /// The files of this system, with no fault yet.
-    pub fn new(system: R) -> Self
-        ensures { result ≡ (0, 0) }
+/// Why the bytes of a file were not read.
+#[derive(Clone, Copy, Debug, PartialEq, Eq)]
+enum Unread {
+    /// There is no file of that name.
+    Missing,
+    /// The file could not be opened, or a read of it failed.
+    Failed,
+    /// It has more than 268,435,456 bytes.
+    TooLong,
+    /// Memory for the bytes was refused.
+    NoMemory,
+}
+
+impl<D: Disk + Drop> RealFiles<D> {
+    /// The files of this disk, with no fault yet.
+    pub fn new(disk: D) -> Self
+        ensures { result ≡ (disk, 0, 0) }
     {
         RealFiles {
-            system,
+            disk,
             read_faults: 0,
             write_faults: 0,
         }
     }
 }
 
-impl<R: FileSystem + Drop> Files for RealFiles<R> {
-    ghost map = { λ _. None };
+impl<D: Disk + Drop> Files for RealFiles<D> {
+    ghost map = { λ all. D.map all.0 };
 
-    ghost read_fault_count = { λ all. all.0 };
+    ghost read_fault_count = { λ all. all.1 };
 
-    ghost write_fault_count = { λ all. all.1 };
+    ghost write_fault_count = { λ all. all.2 };
 
     fn read_faults(&self) -> u64 {
         self.read_faults
@@ -60,84 +74,102 @@ impl<R: FileSystem + Drop> Files for RealFiles<R> {
         self.write_faults
     }
 
+    /// The bytes under the name, of a file of at most 268,435,456 bytes. A longer one fails.
     fn read(&mut self, alloc: Global, name: &str) -> Result<Vec<u8>, ReadAnswer>
-        ensures few { IfOk result (λ bytes. vec_len bytes ≤ MOST_BYTES) }
-        ensures cause { IsErrOf result ReadAnswer.Failed → Rises self.old.0 self.new.0 }
-        ensures steady { (result ≢ Err ReadAnswer.Failed) → self.new.0 ≡ self.old.0 }
-        ensures no_write { self.new.1 ≡ self.old.1 }
+        ensures found { IfOk result (λ bytes. Tells (D.map self.old.0) name.now (Some bytes.items)) }
+        ensures missing { IsErrOf result ReadAnswer.Missing → Tells (D.map self.old.0) name.now None }
+        ensures not_missing { IsErrOf result ReadAnswer.Failed → HasName (D.map self.old.0) name.now }
+        ensures same { D.map self.new.0 ≡ D.map self.old.0 }
+        ensures cause { IsErrOf result ReadAnswer.Failed → Rises self.old.1 self.new.1 }
+        ensures steady { (result ≢ Err ReadAnswer.Failed) → self.new.1 ≡ self.old.1 }
+        ensures no_write { self.new.2 ≡ self.old.2 }
+        ensures few { IfOk result (λ bytes. vec_len bytes ≤ 2 ^ 28) }
     {
-        let answer = read_file(alloc, &self.system, name);
-        if let Err(ReadAnswer::Failed) = answer {
-            self.read_faults = self.read_faults.saturating_add(1);
+        let answer = read_file(alloc, &mut self.disk, name);
+        match answer {
+            Ok(bytes) => Ok(bytes),
+            Err(Unread::Missing) => Err(ReadAnswer::Missing),
+            Err(Unread::NoMemory) => Err(ReadAnswer::NoMemory),
+            Err(Unread::Failed | Unread::TooLong) => {
+                self.read_faults = self.read_faults.saturating_add(1);
+                Err(ReadAnswer::Failed)
+            }
         }
-        answer
     }
 
     fn write(&mut self, name: &str, bytes: &[u8]) -> Result<(), Failed> {
-        if write_file(&self.system, name, bytes).is_ok() {
-            return Ok(());
+        let written = write_file(&mut self.disk, name, bytes);
+        if written.is_err() {
+            self.write_faults = self.write_faults.saturating_add(1);
         }
-        self.write_faults = self.write_faults.saturating_add(1);
-        Err(Failed)
+        written
     }
 }
 
-/// The bytes of a file. One of more than `MOST_BYTES` bytes fails.
-fn read_file(alloc: Global, system: &impl FileSystem, name: &str) -> Result<Vec<u8>, ReadAnswer>
-    ensures few { IfOk result (λ bytes. vec_len bytes ≤ MOST_BYTES) }
+/// The bytes of a file. `TooLong` only if it has more than 268,435,456.
+#[tactic(auto, using(crate::proofs::NameLemmas::read_named, crate::proofs::NameLemmas::held_named, crate::proofs::NameLemmas::read_longer))]
+fn read_file<D: Disk>(alloc: Global, disk: &mut D, name: &str) -> Result<Vec<u8>, Unread>
+    ensures found { IfOk result (λ bytes. Tells (D.map disk.old) name.now (Some bytes.items)) }
+    ensures missing { IsErrOf result Unread.Missing → Tells (D.map disk.old) name.now None }
+    ensures failed { IsErrOf result Unread.Failed → HasName (D.map disk.old) name.now }
+    ensures too_long { IsErrOf result Unread.TooLong → IsLonger (D.map disk.old) name.now (2 ^ 28) }
+    ensures same { D.map disk.new ≡ D.map disk.old }
+    ensures few { IfOk result (λ bytes. vec_len bytes ≤ 2 ^ 28) }
 {
-    let mut file = fs::open(system, name).map_err(|error| open_answer(&error))?;
-    let bytes = read_whole(alloc, &mut file)?;
-    Ok(bytes)
+    match disk.open(name) {
+        Ok(mut reader) => read_whole(alloc, &mut reader),
+        Err(error) => Err(open_answer(&error)),
+    }
 }
 
-/// All that the reader has left, each byte once and in order. More than `MOST_BYTES` bytes fail.
-fn read_whole<R: Read>(alloc: Global, reader: &mut R) -> Result<Vec<u8>, ReadAnswer>
-    ensures whole { IfOk result (λ bytes. Empties (R.remaining reader.old) (R.remaining reader.new) bytes.items) }
-    ensures few { IfOk result (λ bytes. vec_len bytes ≤ MOST_BYTES) }
-    ensures part { OnErr result (LosesPart (R.remaining reader.old) (R.remaining reader.new)) }
-    ensures not_missing { result ≢ Err ReadAnswer.Missing }
+/// All the bytes of the source, each once and in order.
+///
+/// `Failed` only if the source reported a fault, `TooLong` only if it gave more than 268,435,456 bytes, and never
+/// `Missing`.
+fn read_whole<S: Source>(alloc: Global, source: &mut S) -> Result<Vec<u8>, Unread>
+    ensures whole { IfOk result (λ bytes. Empties (S.held source.old) (S.held source.new) bytes.items) }
+    ensures few { IfOk result (λ bytes. vec_len bytes ≤ 2 ^ 28) }
+    ensures part { OnErr result (LosesPart (S.held source.old) (S.held source.new)) }
+    ensures failed { IsErrOf result Unread.Failed → Rises (S.fault_count source.old) (S.fault_count source.new) }
+    ensures steady { (result ≢ Err Unread.Failed) → S.fault_count source.new ≡ S.fault_count source.old }
+    ensures too_long { IsErrOf result Unread.TooLong → LosesMore (S.held source.old) (S.held source.new) (2 ^ 28) }
+    ensures not_missing { result ≢ Err Unread.Missing }
 {
     let mut bytes = Vec::new(alloc);
     let mut chunk = [0u8; CHUNK];
-    for _ in 0..=MOST_BYTES {
-        let Ok(count) = read_some(reader, &mut chunk) else {
-            return Err(ReadAnswer::Failed);
+    while bytes.len() <= MOST_BYTES {
+        let Ok(count) = source.take(&mut chunk) else {
+            return Err(Unread::Failed);
         };
         if count == 0 {
             return Ok(bytes);
         }
-        keep(&mut bytes, &chunk[..count])?;
+        if bytes.extend_from_slice(&chunk[..count]).is_err() {
+            return Err(Unread::NoMemory);
+        }
     }
-    Err(ReadAnswer::Failed)
+    Err(Unread::TooLong)
 }
 
 /// Why a file could not be opened.
-fn open_answer(error: &io::Error) -> ReadAnswer {
-    match error.kind() {
-        ErrorKind::NotFound => ReadAnswer::Missing,
-        ErrorKind::OutOfMemory => ReadAnswer::NoMemory,
-        _ => ReadAnswer::Failed,
-    }
-}
-
-/// Adds what was read, up to the most bytes of a file.
-fn keep(bytes: &mut Vec<u8>, piece: &[u8]) -> Result<(), ReadAnswer>
-    requires { vec_len bytes.old ≤ MOST_BYTES }
-    ensures kept { OnOk result (bytes.new.items ≡ bytes.old.items ++ piece.now) }
-    ensures few { OnOk result (vec_len bytes.new ≤ MOST_BYTES) }
-    ensures not_missing { result ≢ Err ReadAnswer.Missing }
+fn open_answer(error: &io::Error) -> Unread
+    ensures missing { result ≡ Unread.Missing → error_kind error.now ≡ ErrorKind.NotFound }
+    ensures failed { result ≡ Unread.Failed → error_kind error.now ≢ ErrorKind.NotFound }
+    ensures not_too_long { result ≢ Unread.TooLong }
 {
-    if piece.len() > MOST_BYTES.saturating_sub(bytes.len()) {
-        return Err(ReadAnswer::Failed);
+    match error.kind() {
+        ErrorKind::NotFound => Unread::Missing,
+        ErrorKind::OutOfMemory => Unread::NoMemory,
+        _ => Unread::Failed,
     }
-    bytes
-        .extend_from_slice(piece)
-        .map_err(|_| ReadAnswer::NoMemory)
 }
 
 /// Makes the file anew, of these bytes.
-fn write_file(system: &impl FileSystem, name: &str, bytes: &[u8]) -> Result<(), Failed> {
-    let mut file = fs::create(system, name).map_err(|_| Failed)?;
-    write_whole(&mut file, bytes)
+fn write_file<D: Disk>(disk: &mut D, name: &str, bytes: &[u8]) -> Result<(), Failed>
+    ensures written { OnOk result (Tells (D.map disk.new) name.now (Some bytes.now)) }
+    ensures others { KeepsOthers (D.map disk.old) (D.map disk.new) name.now }
+{
+    let mut writer = disk.create(name).map_err(|_| Failed)?;
+    writer.put(bytes)?;
+    disk.close(name, writer)
 }

@@ -6,7 +6,7 @@ use crate::Failed;
 
 /// Bytes that go out.
 pub trait Sink {
-    /// The bytes that were received, where the sink tells them.
+    /// The bytes that were received, if the sink tells them.
     ghost got: { Self → Option (List ℕ) };
 
     /// How many faults there were. A count at the greatest `u64` stays there.
@@ -18,7 +18,7 @@ pub trait Sink {
 
     /// Takes the whole piece.
     ///
-    /// `Failed` only where the count of faults rose; then a first part of the piece was received, all of it or
+    /// `Failed` only if the count of faults rose; then a first part of the piece was received, all of it or
     /// nothing among them.
     fn put(&mut self, piece: &[u8]) -> Result<(), Failed>
         ensures put { OnOk result (Grows (got self.old) (got self.new) piece.now) }

@@ -6,7 +6,7 @@ use crate::Failed;
 
 /// Bytes that come in.
 pub trait Source {
-    /// The bytes that are not yet taken, where the source tells them.
+    /// The bytes that are not yet taken, if the source tells them.
     ghost held: { Self → Option (List ℕ) };
 
     /// How many faults there were. A count at the greatest `u64` stays there.
@@ -19,7 +19,7 @@ pub trait Source {
     /// Moves the first bytes that are held into the room, and answers how many. It is 0 only at the end of input,
     /// or for a room of no bytes.
     ///
-    /// `Failed` only where the count of faults rose; then nothing is taken.
+    /// `Failed` only if the count of faults rose; then nothing is taken.
     fn take(&mut self, room: &mut [u8]) -> Result<usize, Failed>
         ensures within { IfOk result (λ count. count ≤ length room.new) }
         ensures taken { IfOk result (Fills (held self.old) (held self.new) room.new) }

@@ -1,58 +1,14 @@
 use crate::{
-    Failed, Files, Gate, MemoryFiles, MemorySink, MemorySource, OpenGate, ReadAnswer, RealFiles,
-    Sink, Slice, Source, StdSink, StdSource,
+    Failed, Files, MemoryDisk, MemoryFiles, ReadAnswer, RealFiles, Sink, Source, StdSink,
+    StdSource, SystemDisk,
 };
-use std::alloc::Global;
 use std::io::{ErrorKind, Read, Write};
 use std::test::Fail;
 use std::{fs, io};
 
-fn numbers(alloc: Global, calls: &[u64]) -> Result<Vec<u64>, Fail> {
-    Ok(Vec::from_slice(alloc, calls)?)
-}
-
-#[test]
-fn a_source_in_memory_gives_its_bytes_and_fails_as_planned(rt: HostRuntime) -> Result<(), Fail> {
-    let bytes = Vec::from_slice(rt.alloc(), b"abc")?;
-    let mut source = MemorySource::new(bytes, numbers(rt.alloc(), &[2])?);
-    let mut room = [0u8; 2];
-    assert_eq!(rt; source.take(&mut room), Ok(2));
-    assert_eq!(rt; room, *b"ab");
-    assert_eq!(rt; source.take(&mut room), Err(Failed));
-    assert_eq!(rt; source.faults(), 1);
-    assert_eq!(rt; source.take(&mut room), Ok(1));
-    assert_eq!(rt; source.take(&mut room), Ok(0));
-    Ok(())
-}
-
-#[test]
-fn a_sink_in_memory_keeps_pieces_and_half_of_one_that_fails(rt: HostRuntime) -> Result<(), Fail> {
-    let mut sink = MemorySink::new(rt.alloc(), numbers(rt.alloc(), &[2])?);
-    assert_eq!(rt; sink.put(b"ab"), Ok(()));
-    assert_eq!(rt; sink.put(b"cdef"), Err(Failed));
-    assert_eq!(rt; sink.faults(), 1);
-    assert_eq!(rt; sink.bytes(), b"abcd".as_slice());
-    Ok(())
-}
-
-#[test]
-fn files_in_memory_are_read_replaced_and_missed(rt: HostRuntime) -> Result<(), Fail> {
-    let alloc = rt.alloc();
-    let mut files = MemoryFiles::new(alloc, numbers(alloc, &[1])?, numbers(alloc, &[2])?);
-    files.add("f", b"hi")?;
-    assert_eq!(rt; files.read(alloc, "f").err(), Some(ReadAnswer::Failed));
-    assert_eq!(rt; files.read(alloc, "g").err(), Some(ReadAnswer::Missing));
-    assert_eq!(rt; files.write("f", b"ho"), Ok(()));
-    assert_eq!(rt; files.write("f", b"hu"), Err(Failed));
-    assert_eq!(rt; files.bytes("f"), Some(b"ho".as_slice()));
-    assert_eq!(rt; files.read_faults(), 1);
-    assert_eq!(rt; files.write_faults(), 1);
-    Ok(())
-}
-
 #[test]
 fn real_files_are_written_read_and_missed(rt: HostRuntime) -> Result<(), Fail> {
-    let mut files = RealFiles::new(&rt);
+    let mut files = RealFiles::new(SystemDisk::new(&rt));
     let name = "tt_devices_test.txt";
     assert_eq!(rt; files.write(name, b"one"), Ok(()));
     let bytes = files.read(rt.alloc(), name);
@@ -68,33 +24,17 @@ fn real_files_are_written_read_and_missed(rt: HostRuntime) -> Result<(), Fail> {
 }
 
 #[test]
-fn standard_input_ends(rt: HostRuntime) {
-    let mut source = StdSource::new(rt.stdin());
-    let mut room = [0u8; 0];
-    assert_eq!(rt; source.take(&mut room), Ok(0));
-    assert_eq!(rt; source.faults(), 0);
-}
-
-#[test]
-fn standard_output_takes_a_piece(rt: HostRuntime) {
-    let mut sink = StdSink::new(rt.stdout());
-    assert_eq!(rt; sink.put(b"a piece\n"), Ok(()));
-    assert_eq!(rt; sink.faults(), 0);
-}
-
-#[test]
-fn a_file_of_some_megabytes_is_read_whole(rt: HostRuntime) -> Result<(), Fail> {
-    let mut files = RealFiles::new(&rt);
-    let name = "tt_devices_large_test.txt";
-    let bytes = vec![in rt.alloc(); 7u8; 5_000_001]?;
-    assert_eq!(rt; files.write(name, bytes.as_slice()), Ok(()));
-    let found = files.read(rt.alloc(), name);
+fn files_of_a_disk_in_memory_are_written_read_and_missed(rt: HostRuntime) -> Result<(), Fail> {
+    let alloc = rt.alloc();
+    let shelf = MemoryFiles::new(alloc, Vec::new(alloc), Vec::new(alloc));
+    let mut files = RealFiles::new(MemoryDisk::new(alloc, shelf));
+    assert_eq!(rt; files.read(alloc, "f").err(), Some(ReadAnswer::Missing));
+    assert_eq!(rt; files.write("f", b"one"), Ok(()));
+    let found = files.read(alloc, "f");
     assert_eq!(rt;
-        found.as_ref().map(|found| found.len()).ok(),
-        Some(5_000_001)
+        found.as_ref().map(|found| found.as_slice()).ok(),
+        Some(b"one".as_slice())
     );
-    assert_eq!(rt; files.read_faults(), 0);
-    fs::remove_file(&rt, name)?;
     Ok(())
 }
 
@@ -176,7 +116,7 @@ fn a_writer_is_asked_again_until_it_takes_nothing_or_fails(rt: HostRuntime) -> R
 }
 
 #[test]
-fn a_reader_is_asked_again_where_it_was_interrupted(rt: HostRuntime) {
+fn a_reader_is_asked_again_if_it_was_interrupted(rt: HostRuntime) {
     use Call::{Fails, Interrupted, Moves};
     let rows: [(&[Call], Result<usize, Failed>); 3] = [
         (&[Interrupted, Interrupted, Moves(1)], Ok(1)),
@@ -192,28 +132,4 @@ fn a_reader_is_asked_again_where_it_was_interrupted(rt: HostRuntime) {
         assert_eq!(rt; source.take(&mut [0u8; 2]), answer);
         assert_eq!(rt; source.faults(), u64::from(answer.is_err()));
     }
-}
-
-#[derive(Drop)]
-struct Once {
-    done: bool,
-}
-
-impl Slice for Once {
-    type About = ();
-
-    ghost gone = { λ once. once.done };
-
-    ghost about = { λ _. tt };
-
-    fn go(&mut self) {
-        self.done = true;
-    }
-}
-
-#[test]
-fn the_open_gate_lets_a_slice_go(rt: HostRuntime) {
-    let mut slice = Once { done: false };
-    OpenGate.pass(1, 1, &mut slice);
-    assert!(rt; slice.done);
 }

@@ -1,8 +1,11 @@
-use Rattle.std.proofs.Common.{◌≤◌, length}
+use Rattle.std.proofs.Common.{◌≡◌, ◌-◌, length}
 use Rattle.std.specs.Io.KnownBytes.{Consumes}
-use Rattle.tt_devices.specs.declared.real_files.TheConstants.{MOST_BYTES}
 use Rattle.tt_devices.proofs.real_files.read_whole.Given as goal
 
-abbrev pub invariant-loop : goal.invariant-loop
-invariant-loop g l =
-    Consumes (g.R.Read.remaining l.fn.reader) (g.R.Read.remaining l.reader) l.bytes.items × (length l.bytes.items ≤ MOST_BYTES)
+abbrev pub invariant-loop-chunk : goal.invariant-loop-chunk
+invariant-loop-chunk g l =
+    Consumes (g.S.Source.held l.fn.source) (g.S.Source.held l.source) l.bytes.items
+    × (g.S.Source.fault_count l.source ≡ g.S.Source.fault_count l.fn.source)
+
+abbrev pub decreases-loop-chunk : goal.decreases-loop-chunk
+decreases-loop-chunk g l = 268435457 - length l.bytes.items

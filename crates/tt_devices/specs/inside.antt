@@ -1,0 +1,2 @@
+pub mod MemoryNames
+pub mod Reading
