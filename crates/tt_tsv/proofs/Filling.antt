@@ -1,7 +1,8 @@
 -- What is put in of a list, by its first pair.
 use Rattle.std.proofs.Common.{◌≡◌, ℕ, List, [], ◌∷◌, Some, None, refl, bytes_eq, rules, arith}
 use Rattle.indexmap.specs.IndexMap.{insert_entry}
-use Rattle.tt_tsv.specs.Arrays.{Pairs, filled, first_pair}
+use Rattle.tt_tsv.specs.Arrays.{Pairs, filled}
+use Rattle.tt_tsv.specs.inside.Pairs.{first_pair}
 
 pub filled_more : (elements : Pairs) (items : List (List ℕ)) (key value : List ℕ) (later : List (List ℕ)) →
     first_pair items ≡ Some (key, value, later) → filled elements items ≡ filled (insert_entry bytes_eq elements key value) later

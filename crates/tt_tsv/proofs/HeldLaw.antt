@@ -10,8 +10,9 @@ use Rattle.tt_calls.specs.declared.tsv_call.TsvCall.TheVariants.{Hold, Unhold, R
 use Rattle.tt_lists.specs.Reading.{split_of}
 use Rattle.tt_lists.specs.declared.items.Split.{Split}
 use Rattle.tt_lists.specs.declared.items.Split.TheVariants as split
-use Rattle.tt_tsv.specs.Answers.{act, answers, array_act, array_asked, changes, done, exists_message, fills, holds, is_held_by_other, is_own, moves_of, refills, refuses, run, run_asked, step_after, table_after, unholds, unsets, waits_for}
-use Rattle.tt_tsv.specs.Arrays.{Table, added, array_of, changed, changes_in, element_of, emptied, held, is_held, let_go, made, makes_in, with_element, without_array, without_element}
+use Rattle.tt_calls.specs.Replies.{answers, refuses}
+use Rattle.tt_tsv.specs.Calls.{act, array_act, array_asked, changes, empty_answer, exists_message, fills, holds, is_held_by_other, is_own, moves_of, refills, run, run_asked, step_after, table_after, unholds, unsets, waits_for}
+use Rattle.tt_tsv.specs.Arrays.{Table, added, array_of, changed, changes_in, element_of, emptied, held, is_held, let_go, with_array, makes_in, with_element, without_array, without_element}
 use Rattle.tt_tsv.specs.Elements.{change_if}
 use Rattle.tt_tsv.specs.Words.{Asked, array_among, array_in, asked_of}
 use Rattle.tt_tsv.specs.declared.array.Array.{Array}
@@ -74,7 +75,7 @@ module _ (name other : List ℕ) (apart : bytes_eq name other ≡ false) where
       without : Table
       without = changed (without_element key) table other
 
-      go : (b : Bool) → array_of (if b then refuses table (exists_message new) else done (made (with_element new value) without other)).table name ≡ array_of table name
+      go : (b : Bool) → array_of (if b then refuses table (exists_message new) else empty_answer (with_array (with_element new value) without other)).table name ≡ array_of table name
       go true = refl
       go false = by_made (with_element new value) without (array_of without other) ∙ by_changed (without_element key) table (array_of table other)
 
@@ -90,7 +91,7 @@ module _ (name other : List ℕ) (apart : bytes_eq name other ≡ false) where
   by_fill table (split.Bad fault) = refl
   by_fill table (split.Items items) = go (length items % 2 == 0)
     where
-      go : (b : Bool) → array_of (if b then done (made (added items) table other) else refuses table (codes "list must have an even number of elements")).table name ≡ array_of table name
+      go : (b : Bool) → array_of (if b then empty_answer (with_array (added items) table other) else refuses table (codes "list must have an even number of elements")).table name ≡ array_of table name
       go true = by_made (added items) table (array_of table other)
       go false = refl
 
@@ -101,7 +102,7 @@ module _ (name other : List ℕ) (apart : bytes_eq name other ≡ false) where
       without : Table
       without = changed emptied table other
 
-      go : (b : Bool) → array_of (if b then done (made (added items) without other) else refuses table (codes "list must have an even number of elements")).table name ≡ array_of table name
+      go : (b : Bool) → array_of (if b then empty_answer (with_array (added items) without other) else refuses table (codes "list must have an even number of elements")).table name ≡ array_of table name
       go true = by_made (added items) without (array_of without other) ∙ by_changed emptied table (array_of table other)
       go false = refl
 

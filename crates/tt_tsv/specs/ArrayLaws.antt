@@ -2,7 +2,7 @@
 use Rattle.std.specs.Prelude.{◌≡◌, ℕ, true, List, Some}
 use Rattle.tt_calls.specs.declared.reply.Step.TheVariants.{Wait}
 use Rattle.tt_calls.specs.declared.tsv_call.TsvCall.{TsvCall}
-use Rattle.tt_tsv.specs.Answers.{array_asked, is_held_by_other, step_after, table_after}
+use Rattle.tt_tsv.specs.Calls.{array_asked, is_held_by_other, step_after, table_after}
 use Rattle.tt_tsv.specs.Arrays.{Table, array_of}
 
 -- a held array answers nobody else: who asks it waits

@@ -34,8 +34,8 @@ abbrev pub makes_in : (Array → Array) → Table → (name : List ℕ) → Opti
 makes_in change table name None = insert_entry bytes_eq table name (change new_array)
 makes_in change table name (Some array) = set_value (bytes_eq name) table (change array)
 
-abbrev pub made : (Array → Array) → Table → (name : List ℕ) → Table
-made change table name = makes_in change table name (array_of table name)
+abbrev pub with_array : (Array → Array) → Table → (name : List ℕ) → Table
+with_array change table name = makes_in change table name (array_of table name)
 
 -- ---- elements ----
 
@@ -59,12 +59,6 @@ with_element key value array = with_elements array (insert_entry bytes_eq array.
 
 abbrev pub without_element : (key : List ℕ) → Array → Array
 without_element key array = with_elements array (remove_entry (bytes_eq key) array.elements)
-
--- a key and a value at the front of a list, and what follows them
-abbrev pub first_pair : (items : List (List ℕ)) → Option (List ℕ × List ℕ × List (List ℕ))
-first_pair [] = None
-first_pair (key ∷ []) = None
-first_pair (key ∷ value ∷ items) = Some (key, value, items)
 
 -- elements and those of a list of keys and values, put in one after the other
 abbrev pub filled : Pairs → (items : List (List ℕ)) → Pairs

@@ -4,10 +4,11 @@ use Rattle.std.specs.List.{filter, flat_map}
 use Rattle.std.specs.Map.{keys_of}
 use Rattle.tt_text.specs.Characters.{characters}
 use Rattle.tt_text.specs.GlobFunction.{is_match}
+use Rattle.tt_calls.specs.Replies as replies
+use Rattle.tt_calls.specs.Replies.{Answered, answers, refuses}
 use Rattle.tt_calls.specs.declared.reply.Reply.{Reply}
 use Rattle.tt_calls.specs.declared.reply.Reply.TheVariants.{Go, Value, Refused, Found}
 use Rattle.tt_calls.specs.declared.reply.Step.{Step}
-use Rattle.tt_calls.specs.declared.reply.Step.TheVariants as step
 use Rattle.tt_calls.specs.declared.tsv_call.TsvCall.{TsvCall}
 use Rattle.tt_calls.specs.declared.tsv_call.TsvCall.TheVariants.{Hold, Unhold, Run}
 use Rattle.tt_lists.specs.Messages.{list_message}
@@ -17,7 +18,7 @@ use Rattle.tt_lists.specs.declared.answer.ListAnswer.{ListAnswer}
 use Rattle.tt_lists.specs.declared.answer.ListAnswer.TheVariants.{Made, Bad}
 use Rattle.tt_lists.specs.declared.items.Split.{Split}
 use Rattle.tt_lists.specs.declared.items.Split.TheVariants as split
-use Rattle.tt_tsv.specs.Arrays.{Pairs, Table, added, array_of, changed, element_of, emptied, elements_of, held, is_held, is_held_by, let_go, made, with_element, without_array, without_element}
+use Rattle.tt_tsv.specs.Arrays.{Pairs, Table, added, array_of, changed, element_of, emptied, elements_of, held, is_held, is_held_by, let_go, with_array, with_element, without_array, without_element}
 use Rattle.tt_tsv.specs.Elements.{change_if, missing_message}
 use Rattle.tt_tsv.specs.Words.{Asked, array_in, asked_of}
 use Rattle.tt_tsv.specs.declared.array.Array.{Array}
@@ -25,6 +26,7 @@ use Rattle.tt_tsv.specs.declared.change.Change.{Change}
 use Rattle.tt_tsv.specs.declared.change.Change.TheVariants.{Kept, Put, Removed}
 use Rattle.tt_tsv.specs.declared.usage.ArrayUsage.{ArrayUsage}
 use Rattle.tt_tsv.specs.declared.usage.ArrayUsage.TheVariants as array
+use Rattle.tt_tsv.specs.declared.usage.ElementUsage.{ElementUsage}
 use Rattle.tt_tsv.specs.declared.usage.Usage.{Usage}
 use Rattle.tt_tsv.specs.declared.usage.Usage.TheVariants as usage
 
@@ -50,38 +52,28 @@ waits table t call = waits_for table t (array_asked call)
 
 -- ---- what a call does ----
 
--- the arrays after a call, and its reply
-pub record Answered : Type 0 where
-  pub table : Table
-  pub reply : Reply
-
-abbrev pub answers : Table → Reply → Answered
-answers table reply = record { table = table; reply = reply }
-
-abbrev pub refuses : Table → (message : List ℕ) → Answered
-refuses table message = answers table (Refused message)
-
 -- the empty answer
-abbrev pub done : Table → Answered
-done table = answers table (Value [])
+abbrev pub empty_answer : Table → Answered Table
+empty_answer table = answers table (Value [])
 
-abbrev pub told : ListAnswer → Reply
-told (Made text) = Value text
-told (Bad message) = Refused message
+-- what a command on a list answers, as a reply
+abbrev pub list_reply : ListAnswer → Reply
+list_reply (Made text) = Value text
+list_reply (Bad message) = Refused message
 
 abbrev pub truth : Bool → List ℕ
 truth is = if is then codes "1" else codes "0"
 
 -- tsv::lock: a hold, which makes a missing array, and its end; an end of what the thread doesn't hold is none that a
 -- command asks
-abbrev pub holds : Table → ℕ → (name : List ℕ) → Answered
-holds table t name = answers (made (held t) table name) Go
+abbrev pub holds : Table → ℕ → (name : List ℕ) → Answered Table
+holds table t name = answers (with_array (held t) table name) Go
 
 abbrev pub is_own : ℕ → Option Array → Bool
 is_own t None = false
 is_own t (Some array) = is_held_by t array
 
-abbrev pub unholds : Table → ℕ → (name : List ℕ) → Answered
+abbrev pub unholds : Table → ℕ → (name : List ℕ) → Answered Table
 unholds table t name =
     if is_own t (array_of table name)
     then answers (changed let_go table name) Go
@@ -89,10 +81,14 @@ unholds table t name =
 
 -- ---- commands on an element ----
 
-abbrev pub changes : Table → (name key : List ℕ) → Change → Answered
-changes table name key (Kept answer) = answers table (told answer)
-changes table name key (Put value answer) = answers (made (with_element key value) table name) (Value answer)
+abbrev pub changes : Table → (name key : List ℕ) → Change → Answered Table
+changes table name key (Kept answer) = answers table (list_reply answer)
+changes table name key (Put value answer) = answers (with_array (with_element key value) table name) (Value answer)
 changes table name key (Removed answer) = answers (changed (without_element key) table name) (Value answer)
+
+abbrev pub changes_by : Table → ElementUsage → (name key : List ℕ) → (words : List (List ℕ)) → Answered Table
+changes_by table asked name key words =
+    changes table name key (change_if name key asked words (element_of table name key))
 
 -- tsv::get a k var
 abbrev pub found : Option (List ℕ) → Reply
@@ -103,13 +99,13 @@ found (Some value) = Found true value
 abbrev pub exists_message : (key : List ℕ) → List ℕ
 exists_message key = codes "key \"" ++ (key ++ codes "\" exists")
 
-abbrev pub moves_of : Table → (name key new : List ℕ) → Option (List ℕ) → Answered
+abbrev pub moves_of : Table → (name key new : List ℕ) → Option (List ℕ) → Answered Table
 moves_of table name key new None = refuses table (missing_message name key)
 moves_of table name key new (Some value) =
     if is_some (element_of table name new) then refuses table (exists_message new) else
-    done (made (with_element new value) (changed (without_element key) table name) name)
+    empty_answer (with_array (with_element new value) (changed (without_element key) table name) name)
 
-abbrev pub moves : Table → (name key new : List ℕ) → Answered
+abbrev pub moves : Table → (name key new : List ℕ) → Answered Table
 moves table name key new = moves_of table name key new (element_of table name key)
 
 -- ---- commands on an array ----
@@ -122,7 +118,7 @@ is_like (pattern ∷ words) text = is_match (characters pattern) (characters tex
 abbrev pub names_like : (pattern : List (List ℕ)) → List (List ℕ) → List (List ℕ)
 names_like pattern names = filter (is_like pattern) names
 
--- of an element its key and its value, where the key is like the pattern
+-- of an element its key and its value, if the key is like the pattern
 abbrev pub listed : (pattern : List (List ℕ)) → (List ℕ × List ℕ) → List (List ℕ)
 listed pattern pair = if is_like pattern pair.0 then pair.0 ∷ pair.1 ∷ [] else []
 
@@ -135,74 +131,78 @@ unsets table name None = table
 unsets table name (Some array) = if is_held array then changed emptied table name else without_array table name
 
 -- tsv::array set: the elements of a list are put in; a missing array is made
-abbrev pub fills_from : Table → (name : List ℕ) → (items : List (List ℕ)) → Answered
+abbrev pub fills_from : Table → (name : List ℕ) → (items : List (List ℕ)) → Answered Table
 fills_from table name items =
     if length items % 2 == 0
-    then done (made (added items) table name)
+    then empty_answer (with_array (added items) table name)
     else refuses table (codes "list must have an even number of elements")
 
-abbrev pub fills : Table → (name : List ℕ) → Split → Answered
+abbrev pub fills : Table → (name : List ℕ) → Split → Answered Table
 fills table name (split.Items items) = fills_from table name items
 fills table name (split.Bad fault) = refuses table (list_message fault)
 
-abbrev pub sets : Table → (name : List ℕ) → (words : List (List ℕ)) → Answered
+abbrev pub sets : Table → (name : List ℕ) → (words : List (List ℕ)) → Answered Table
 sets table name (list ∷ []) = fills table name (split_of list)
 sets table name words = refuses table []
 
 -- tsv::array reset: in place of those that are there
-abbrev pub refills_from : Table → (name : List ℕ) → (items : List (List ℕ)) → Answered
+abbrev pub refills_from : Table → (name : List ℕ) → (items : List (List ℕ)) → Answered Table
 refills_from table name items =
     if length items % 2 == 0
-    then done (made (added items) (changed emptied table name) name)
+    then empty_answer (with_array (added items) (changed emptied table name) name)
     else refuses table (codes "list must have an even number of elements")
 
-abbrev pub refills : Table → (name : List ℕ) → Split → Answered
+abbrev pub refills : Table → (name : List ℕ) → Split → Answered Table
 refills table name (split.Items items) = refills_from table name items
 refills table name (split.Bad fault) = refuses table (list_message fault)
 
-abbrev pub resets : Table → (name : List ℕ) → (words : List (List ℕ)) → Answered
+abbrev pub resets : Table → (name : List ℕ) → (words : List (List ℕ)) → Answered Table
 resets table name (list ∷ []) = refills table name (split_of list)
 resets table name words = refuses table []
 
+-- tsv::array get, tsv::array names
+abbrev pub pairs_text : Table → (name : List ℕ) → (pattern : List (List ℕ)) → List ℕ
+pairs_text table name pattern = list_of (pairs_like pattern (elements_of table name))
+
+abbrev pub keys_text : Table → (name : List ℕ) → (pattern : List (List ℕ)) → List ℕ
+keys_text table name pattern = list_of (names_like pattern (keys_of (elements_of table name)))
+
 -- the table; a missing array counts as empty
-abbrev pub array_act : Table → ArrayUsage → (name : List ℕ) → (words : List (List ℕ)) → Answered
-array_act table array.Unset name words = done (unsets table name (array_of table name))
+abbrev pub array_act : Table → ArrayUsage → (name : List ℕ) → (words : List (List ℕ)) → Answered Table
+array_act table array.Unset name words = empty_answer (unsets table name (array_of table name))
 array_act table array.Exists name words = answers table (Value (truth (is_some (array_of table name))))
 array_act table array.Set name words = sets table name words
-array_act table array.Get name words = answers table (Value (list_of (pairs_like words (elements_of table name))))
-array_act table array.Names name words =
-    answers table (Value (list_of (names_like words (keys_of (elements_of table name)))))
+array_act table array.Get name words = answers table (Value (pairs_text table name words))
+array_act table array.Names name words = answers table (Value (keys_text table name words))
 array_act table array.Size name words = answers table (Value (decimal (length (elements_of table name))))
 array_act table array.Reset name words = resets table name words
 
 -- ---- all commands ----
 
 -- by a usage and the words after the command's name
-abbrev pub run : Table → Usage → (words : List (List ℕ)) → Answered
+abbrev pub run : Table → Usage → (words : List (List ℕ)) → Answered Table
 run table usage.Names words = answers table (Value (list_of (names_like words (keys_of table))))
 run table usage.Find (name ∷ key ∷ words) = answers table (found (element_of table name key))
 run table usage.Exists (name ∷ key ∷ words) = answers table (Value (truth (is_some (element_of table name key))))
 run table usage.Move (name ∷ key ∷ new ∷ words) = moves table name key new
 run table (usage.Array asked) (name ∷ words) = array_act table asked name words
-run table (usage.Element asked) (name ∷ key ∷ words) =
-    changes table name key (change_if name key asked words (element_of table name key))
+run table (usage.Element asked) (name ∷ key ∷ words) = changes_by table asked name key words
 run table usage words = refuses table []
 
 -- words that no command asks are refused
-abbrev pub run_asked : Table → Option Asked → Answered
+abbrev pub run_asked : Table → Option Asked → Answered Table
 run_asked table None = refuses table []
 run_asked table (Some asked) = run table asked.0 asked.1
 
-abbrev pub act : Table → ℕ → TsvCall → Answered
+abbrev pub act : Table → ℕ → TsvCall → Answered Table
 act table t (Hold name) = holds table t name
 act table t (Unhold name) = unholds table t name
 act table t (Run words) = run_asked table (asked_of words)
 
 -- ---- a call whole ----
 
--- a thread that waits changes nothing
 abbrev pub table_after : Table → ℕ → TsvCall → Table
-table_after table t call = if waits table t call then table else (act table t call).table
+table_after table t call = replies.table_after (waits table t call) table (act table t call)
 
 abbrev pub step_after : Table → ℕ → TsvCall → Step
-step_after table t call = if waits table t call then step.Wait else step.Reply (act table t call).reply
+step_after table t call = replies.step_after (waits table t call) (act table t call)

@@ -154,11 +154,13 @@ missing_as usage = None
 abbrev pub missing_message : (array key : List ℕ) → List ℕ
 missing_message array key = codes "no such key \"" ++ (key ++ (codes "\" in array \"" ++ (array ++ codes "\"")))
 
-abbrev pub change_of_missing : (array key : List ℕ) → ElementUsage → (words : List (List ℕ)) → Option (List ℕ) → Change
+abbrev pub change_of_missing :
+    (array key : List ℕ) → ElementUsage → (words : List (List ℕ)) → Option (List ℕ) → Change
 change_of_missing array key usage words None = Kept (Bad (missing_message array key))
 change_of_missing array key usage words (Some value) = change_of usage value words
 
 -- of an element that may be missing
-abbrev pub change_if : (array key : List ℕ) → ElementUsage → (words : List (List ℕ)) → Option (List ℕ) → Change
+abbrev pub change_if :
+    (array key : List ℕ) → ElementUsage → (words : List (List ℕ)) → Option (List ℕ) → Change
 change_if array key usage words None = change_of_missing array key usage words (missing_as usage)
 change_if array key usage words (Some value) = change_of usage value words

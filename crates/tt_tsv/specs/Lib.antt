@@ -1,5 +1,6 @@
-pub mod Answers
 pub mod Arrays
+pub mod ArrayLaws
+pub mod Calls
 pub mod Elements
-pub mod Laws
 pub mod Words
+pub mod inside

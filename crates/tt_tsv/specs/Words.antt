@@ -104,7 +104,7 @@ abbrev pub asked_after_array : (words : List (List ℕ)) → Option Asked
 asked_after_array [] = None
 asked_after_array (name ∷ words) = asked_among array_usages name words
 
--- the usage that words are of; none where no command asks them
+-- the usage that words are of; none if no command asks them
 abbrev pub asked_of : (words : List (List ℕ)) → Option Asked
 asked_of [] = None
 asked_of (name ∷ words) =

@@ -1,23 +1,21 @@
 ghost use Rattle.std.specs.Prelude.{◌≡◌, IfOk, OnOk};
-ghost use Rattle.tt_tsv.specs.Answers.{act, changes, holds, moves, run, run_asked, step_after, table_after, unholds};
-ghost use Rattle.tt_tsv.specs.Arrays.{element_of};
-ghost use Rattle.tt_tsv.specs.Elements.{change_if};
+ghost use Rattle.tt_tsv.specs.Calls.{act, changes, changes_by, holds, moves, run, run_asked, step_after, table_after, unholds};
 ghost use Rattle.tt_tsv.specs.Words.{asked_of};
 
 use crate::Arrays;
 use crate::change::{Change, change_if};
-use crate::telling::{empty, exists, found, missing, names_reply, not_asked, told, truth};
+use crate::telling::{empty, exists, found, list_reply, missing, names_reply, not_asked, truth};
 use crate::usage::{ElementUsage, Usage};
 use crate::words::asked;
 use tt_calls::{Reply, Step, TsvCall};
 use tt_text::{NoMemory, Text};
 
 impl Arrays {
-    /// What a call of a thread on shared variables does, and its reply; `Wait` exactly where it has to wait, and then
+    /// What a call of a thread on shared variables does, and its reply; `Wait` exactly if it has to wait, and then
     /// nothing is done (tsv(n)). Words that no command has are refused with the empty text. A call that is refused
     /// changes nothing.
     ///
-    /// `NoMemory` where memory for an element or the reply is refused; then the arrays are only fit to be dropped.
+    /// `NoMemory` if memory for an element or the reply is refused; then the arrays are only fit to be dropped.
     pub fn apply(&mut self, thread: u32, call: &TsvCall) -> Result<Step, NoMemory>
         ensures table { OnOk result (self.new ≡ table_after self.old thread call.now) }
         ensures step { IfOk result (λ step. step ≡ step_after self.old thread call.now) }
@@ -94,8 +92,8 @@ impl Arrays {
         key: &Text,
         words: &[Text],
     ) -> Result<Reply, NoMemory>
-        ensures table { OnOk result (self.new ≡ (changes self.old name.now key.now (change_if name.now key.now usage words.now (element_of self.old name.now key.now))).table) }
-        ensures reply { IfOk result (λ reply. reply ≡ (changes self.old name.now key.now (change_if name.now key.now usage words.now (element_of self.old name.now key.now))).reply) }
+        ensures table { OnOk result (self.new ≡ (changes_by self.old usage name.now key.now words.now).table) }
+        ensures reply { IfOk result (λ reply. reply ≡ (changes_by self.old usage name.now key.now words.now).reply) }
     {
         let change = change_if(self.alloc, name, key, usage, words, self.element(name, key))?;
         self.change(name, key, change)
@@ -106,7 +104,7 @@ impl Arrays {
         ensures reply { IfOk result (λ reply. reply ≡ (changes self.old name.now key.now change).reply) }
     {
         match change {
-            Change::Kept(answer) => Ok(told(answer)),
+            Change::Kept(answer) => Ok(list_reply(answer)),
             Change::Put(value, answer) => {
                 self.put(name, key, value)?;
                 Ok(Reply::Value(answer))

@@ -1,10 +1,8 @@
 //! Commands on a whole array.
 ghost use Rattle.std.specs.Prelude.{◌≡◌, ◌==◌, ◌%◌, length, decimal, IfOk, OnOk};
-ghost use Rattle.std.specs.Map.{keys_of};
 ghost use Rattle.tt_calls.specs.declared.reply.Reply.TheVariants.{Refused, Value};
 ghost use Rattle.tt_lists.specs.Messages.{list_message};
-ghost use Rattle.tt_lists.specs.Spelling.{list_of};
-ghost use Rattle.tt_tsv.specs.Answers.{array_act, fills_from, names_like, pairs_like, refills_from, resets, sets};
+ghost use Rattle.tt_tsv.specs.Calls.{array_act, fills_from, keys_text, pairs_text, refills_from, resets, sets};
 ghost use Rattle.tt_tsv.specs.Arrays.{elements_of};
 
 use crate::Arrays;
@@ -41,7 +39,7 @@ impl Arrays {
     }
 
     fn tell_elements(&self, name: &Text, pattern: &[Text]) -> Result<Reply, NoMemory>
-        ensures { IfOk result (λ reply. reply ≡ Value (list_of (pairs_like pattern.now (elements_of self.now name.now)))) }
+        ensures { IfOk result (λ reply. reply ≡ Value (pairs_text self.now name.now pattern.now)) }
     {
         match self.find(name) {
             Some(array) => {
@@ -54,7 +52,7 @@ impl Arrays {
     }
 
     fn tell_keys(&self, name: &Text, pattern: &[Text]) -> Result<Reply, NoMemory>
-        ensures { IfOk result (λ reply. reply ≡ Value (list_of (names_like pattern.now (keys_of (elements_of self.now name.now))))) }
+        ensures { IfOk result (λ reply. reply ≡ Value (keys_text self.now name.now pattern.now)) }
     {
         match self.find(name) {
             Some(array) => {

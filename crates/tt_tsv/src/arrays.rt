@@ -2,8 +2,8 @@ ghost use Rattle.std.specs.Prelude.{◌≡◌, [], bytes_eq, IfOk, OnOk};
 ghost use Rattle.std.specs.Map.{keys_of};
 ghost use Rattle.std.specs.Option.{option_copied, option_map};
 ghost use Rattle.indexmap.specs.IndexMap.{insert_entry};
-ghost use Rattle.tt_tsv.specs.Answers.{is_held_by_other, is_own, unsets, waits};
-ghost use Rattle.tt_tsv.specs.Arrays.{added, array_of, changed, element_of, emptied, held, is_held, let_go, made, with_element, without_array, without_element};
+ghost use Rattle.tt_tsv.specs.Calls.{is_held_by_other, is_own, unsets, waits};
+ghost use Rattle.tt_tsv.specs.Arrays.{added, array_of, changed, element_of, emptied, held, is_held, let_go, with_array, with_element, without_array, without_element};
 
 use crate::Array;
 use crate::words::array_in;
@@ -40,8 +40,8 @@ impl Arrays {
         }
     }
 
-    /// Whether the thread has to wait before its call is done: while another thread holds the array that the call is on.
-    /// It takes no memory.
+    /// Whether the thread has to wait before its call is done: while another thread holds the array that the call is
+    /// on. It takes no memory.
     pub fn waits(&self, thread: u32, call: &TsvCall) -> bool
         ensures waits { result ≡ waits self.now thread call.now }
     {
@@ -100,7 +100,7 @@ impl Arrays {
 
     // Gives an element this value; a missing array is made.
     pub(crate) fn put(&mut self, name: &Text, key: &Text, value: Text) -> Result<(), NoMemory>
-        ensures { OnOk result (self.new ≡ made (with_element key.now value) self.old name.now) }
+        ensures { OnOk result (self.new ≡ with_array (with_element key.now value) self.old name.now) }
     {
         match self.arrays.get_mut(name) {
             Some(array) => array.put(key, value),
@@ -122,7 +122,7 @@ impl Arrays {
 
     // Puts in elements; a missing array is made.
     pub(crate) fn fill(&mut self, name: &Text, items: &[Text]) -> Result<(), NoMemory>
-        ensures { OnOk result (self.new ≡ made (added items.now) self.old name.now) }
+        ensures { OnOk result (self.new ≡ with_array (added items.now) self.old name.now) }
     {
         match self.arrays.get_mut(name) {
             Some(array) => array.fill(items),
@@ -145,7 +145,7 @@ impl Arrays {
         }
     }
 
-    // Whether a thread holds it; `None` where there is no such array.
+    // Whether a thread holds it; `None` if there is no such array.
     fn is_held(&self, name: &Text) -> Option<bool>
         ensures { result ≡ option_map is_held (array_of self.now name.now) }
     {
@@ -173,7 +173,7 @@ impl Arrays {
 
     // One hold more, which makes a missing array.
     pub(crate) fn hold(&mut self, thread: u32, name: &Text) -> Result<(), NoMemory>
-        ensures { OnOk result (self.new ≡ made (held thread) self.old name.now) }
+        ensures { OnOk result (self.new ≡ with_array (held thread) self.old name.now) }
     {
         match self.arrays.get_mut(name) {
             Some(array) => { array.hold(thread) }

@@ -3,6 +3,7 @@ ghost use Rattle.std.specs.Prelude.{◌≡◌, [], ◌++◌, IfOk, Ok};
 ghost use Rattle.std.specs.List.{flat_map};
 ghost use Rattle.std.specs.Option.{option_copied, option_map};
 ghost use Rattle.tt_tsv.specs.Elements as table;
+ghost use Rattle.tt_tsv.specs.Elements.{change_if, change_of_missing, missing_as};
 
 use crate::lists;
 use crate::numbers::increment;
@@ -50,7 +51,7 @@ pub(crate) fn change_if(
     words: &[Text],
     value: Option<&Text>,
 ) -> Result<Change, NoMemory>
-    ensures { IfOk result (λ change. change ≡ table.change_if array.now key.now usage words.now (option_copied value.entry)) }
+    ensures { IfOk result (λ change. change ≡ change_if array.now key.now usage words.now (option_copied value.entry)) }
 {
     match value {
         Some(value) => change_of(alloc, usage, value.as_bytes(), words),
@@ -65,7 +66,7 @@ fn change_of_missing(
     usage: ElementUsage,
     words: &[Text],
 ) -> Result<Change, NoMemory>
-    ensures { IfOk result (λ change. change ≡ table.change_of_missing array.now key.now usage words.now (table.missing_as usage)) }
+    ensures { IfOk result (λ change. change ≡ change_of_missing array.now key.now usage words.now (missing_as usage)) }
 {
     match missing_as(usage) {
         Some(value) => change_of(alloc, usage, value, words),

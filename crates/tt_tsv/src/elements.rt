@@ -2,8 +2,9 @@ ghost use Rattle.std.specs.Prelude.{◌≡◌, ◌<◌, [], length, bytes_eq, If
 ghost use Rattle.std.specs.Map.{keys_of, lookup, remove_entry};
 ghost use Rattle.std.specs.Option.{option_copied, option_map};
 ghost use Rattle.indexmap.specs.IndexMap.{insert_entry};
-ghost use Rattle.tt_tsv.specs.Answers.{pairs_like};
-ghost use Rattle.tt_tsv.specs.Arrays.{filled, first_pair};
+ghost use Rattle.tt_tsv.specs.Calls.{pairs_like};
+ghost use Rattle.tt_tsv.specs.Arrays.{filled};
+ghost use Rattle.tt_tsv.specs.inside.Pairs.{first_pair};
 
 use crate::telling::is_like;
 use indexmap::IndexMap;

@@ -1,5 +1,5 @@
 //! Laws about the definitions, each proved as the contract of a function that does nothing.
-ghost use Rattle.tt_tsv.specs.Laws.{HeldArrayLaw, HeldWaitsLaw};
+ghost use Rattle.tt_tsv.specs.ArrayLaws.{HeldArrayLaw, HeldWaitsLaw};
 
 /// A held array answers nobody else.
 pub fn held_arrays_answer_nobody_else()

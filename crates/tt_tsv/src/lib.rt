@@ -19,6 +19,3 @@ mod words;
 pub use array::Array;
 pub use arrays::Arrays;
 pub use elements::Elements;
-
-#[cfg(test)]
-mod tests;

@@ -44,7 +44,7 @@ fn pop_among(alloc: Global, items: Texts, word: &[u8]) -> Result<Change, NoMemor
     pop_at(alloc, items, place)
 }
 
-// A place, where it is one of so many.
+// A place, if it is one of so many.
 fn place_within(place: i128, count: usize) -> Option<usize>
     ensures is { result ≡ place_within place count }
     ensures within { IfSome result (λ place. place < count) }

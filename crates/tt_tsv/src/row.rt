@@ -11,7 +11,7 @@ pub(crate) struct Row {
     pub(crate) name: &'static [u8],
     /// How many words follow it at least.
     pub(crate) least: usize,
-    /// How many do at most; any number where there is no bound.
+    /// How many do at most; any number if there is no bound.
     pub(crate) most: Option<usize>,
 }
 

@@ -1,9 +1,9 @@
-//! What is told, and which names are like a pattern.
+//! What is answered, and which names are like a pattern.
 ghost use Rattle.std.specs.Prelude.{◌≡◌, [], IfOk};
 ghost use Rattle.std.specs.Option.{option_copied};
 ghost use Rattle.tt_calls.specs.declared.reply.Reply.TheVariants.{Refused, Value};
 ghost use Rattle.tt_lists.specs.Spelling.{list_of};
-ghost use Rattle.tt_tsv.specs.Answers as answers;
+ghost use Rattle.tt_tsv.specs.Calls as answers;
 ghost use Rattle.tt_tsv.specs.Elements as elements;
 
 use std::alloc::Global;
@@ -54,8 +54,8 @@ pub(crate) fn empty(alloc: Global) -> Reply
     Reply::Value(Text::new(alloc))
 }
 
-pub(crate) fn told(answer: ListAnswer) -> Reply
-    ensures { result ≡ answers.told answer }
+pub(crate) fn list_reply(answer: ListAnswer) -> Reply
+    ensures { result ≡ answers.list_reply answer }
 {
     match answer {
         ListAnswer::Made(text) => Reply::Value(text),

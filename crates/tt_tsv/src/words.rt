@@ -98,7 +98,7 @@ fn first_fitting(usages: &[Usage], name: &[u8], words: &[Text]) -> Option<Usage>
         .find(|usage| fits(*usage, name, words))
 }
 
-/// A command's usage and the words after its name; `None` where no command asks these words.
+/// A command's usage and the words after its name; `None` if no command asks these words.
 pub(crate) fn asked(words: &[Text]) -> Option<(Usage, &[Text])>
     ensures { option_map (λ asked. (asked.0, asked.1.now)) result ≡ table.asked_of words.now }
 {

@@ -1,5 +1,5 @@
 use Rattle.std.proofs.Common.{◌≡◌, ◌++◌, drop}
-use Rattle.tt_tsv.specs.Answers.{names_like}
+use Rattle.tt_tsv.specs.Calls.{names_like}
 use Rattle.tt_tsv.proofs.telling.names_like.Given as goal
 
 abbrev pub invariant-loop-name : goal.invariant-loop-name

@@ -1,7 +1,7 @@
 use Rattle.std.proofs.Common.{◌≡◌, map}
 use Rattle.std.specs.List.{flat_map}
 use Rattle.std.specs.Map.Iter.{deref_pair}
-use Rattle.tt_tsv.specs.Answers.{listed}
+use Rattle.tt_tsv.specs.Calls.{listed}
 use Rattle.tt_tsv.proofs.elements.Elements.pairs_like.Given as goal
 
 abbrev pub invariant-loop-key : goal.invariant-loop-key
