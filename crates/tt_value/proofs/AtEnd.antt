@@ -1,14 +1,14 @@
 -- Items go to the end of a list.
 use Rattle.std.proofs.Common.{◌≡◌, ◌+◌, ℕ, List, [], ◌∷◌, ◌++◌, length, codes, refl, rules, arith, ap, append-nil, take, drop, pos}
 use Rattle.tt_lists.proofs.Joining.{splits_back}
-use Rattle.tt_lists.specs.Answers.{insert_among, insert_answer}
+use Rattle.tt_lists.specs.Commands.{insert_among, insert_answer}
 use Rattle.tt_lists.specs.Indices.{index_of}
 use Rattle.tt_lists.specs.Places.{place_in}
 use Rattle.tt_lists.specs.Parts.{with_items}
 use Rattle.tt_lists.specs.Spelling.{list_of}
 use Rattle.tt_lists.specs.declared.answer.ListAnswer.TheVariants.{Made}
 use Rattle.tt_lists.specs.declared.place.Index.TheVariants.{FromEnd}
-use Rattle.tt_value.specs.Forms.{IsFormed}
+use Rattle.tt_value.specs.inside.Forms.{IsFormed}
 use Rattle.tt_value.specs.declared.value.Form.{Form}
 use Rattle.tt_value.specs.declared.value.Form.TheVariants.{Any, Listed}
 

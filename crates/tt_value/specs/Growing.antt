@@ -1,7 +1,7 @@
 -- What a value is after it grew at its end, and what is answered then (append(n), lappend(n)).
 use Rattle.std.specs.Prelude.{ℕ, List, ◌++◌, codes, Option, Some, None}
 use Rattle.std.specs.List.{flat_map}
-use Rattle.tt_lists.specs.Answers.{insert_answer}
+use Rattle.tt_lists.specs.Commands.{insert_answer}
 use Rattle.tt_lists.specs.declared.answer.ListAnswer.{ListAnswer}
 use Rattle.tt_lists.specs.declared.answer.ListAnswer.TheVariants.{Made, Bad}
 use Rattle.tt_value.specs.declared.value.Growth.{Growth}
@@ -20,9 +20,9 @@ grown growth.Text texts value = appended texts value
 grown growth.List texts value = listed texts value
 
 -- the value after that answer
-abbrev pub left_by : ListAnswer → (value : List ℕ) → List ℕ
-left_by (Made text) value = text
-left_by (Bad message) value = value
+abbrev pub value_after : ListAnswer → (value : List ℕ) → List ℕ
+value_after (Made text) value = text
+value_after (Bad message) value = value
 
 -- the answer, where this is the value and the message
 abbrev pub answer_of : (value : List ℕ) → (message : Option (List ℕ)) → ListAnswer

@@ -4,6 +4,3 @@
 mod value;
 
 pub use value::{Growth, Value};
-
-#[cfg(test)]
-mod tests;

@@ -1,11 +1,11 @@
 ghost use Rattle.std.specs.Prelude.{◌≡◌, IfOk, IsSome, OnOk, ◌++◌, ℕ, List, codes};
 ghost use Rattle.std.specs.Fmt.{signed_decimal};
 ghost use Rattle.std.specs.List.{flat_map};
-ghost use Rattle.tt_lists.specs.Answers.{insert_answer};
+ghost use Rattle.tt_lists.specs.Commands.{insert_answer};
 ghost use Rattle.tt_lists.specs.Reading.{split_of};
 ghost use Rattle.tt_lists.specs.Spelling.{list_of};
 ghost use Rattle.tt_number.specs.Numerals.{whole_of};
-ghost use Rattle.tt_value.specs.Growing.{answer_of, grown, left_by};
+ghost use Rattle.tt_value.specs.Growing.{answer_of, grown, value_after};
 
 use std::alloc::Global;
 use std::marker::Model;
@@ -47,7 +47,7 @@ impl Model for Value {
 
     ghost view = { λ value. value.text };
 
-    ghost use Rattle.tt_value.specs.Forms.{IsFormed};
+    ghost use Rattle.tt_value.specs.inside.Forms.{IsFormed};
 
     ghost invariant = { λ value. IsFormed value.form value.text };
 }
@@ -122,11 +122,11 @@ impl Value {
         split(alloc, self.text.as_bytes())
     }
 
-    /// Puts texts at the end of the value, as bytes (append(n)) or as items (lappend(n)), and answers the text that it is
-    /// then. As a list it is then the canonical text of the longer list. Where no copy shares the text it grows in place;
-    /// a list that was not made so is split and joined anew.
+    /// Puts texts at the end of the value, as bytes (append(n)) or as items (lappend(n)), and answers the text that it
+    /// is then. As a list it is then the canonical text of the longer list. If no copy shares the text, it grows in
+    /// place; a list that was not made so is split and joined anew.
     ///
-    /// `Bad` with the message of the fault where it is to grow as a list and is none, and then it stays. `NoMemory` where
+    /// `Bad` with the message of the fault if it is to grow as a list and is none, and then it stays. `NoMemory` if
     /// memory is refused; then some of the texts may be there.
     pub fn grow(
         &mut self,
@@ -135,7 +135,7 @@ impl Value {
         texts: &[Text],
     ) -> Result<ListAnswer, NoMemory>
         ensures answer { IfOk result (λ answer. answer ≡ grown growth texts.now self.old) }
-        ensures left { IfOk result (λ answer. self.new ≡ left_by answer self.old) }
+        ensures left { IfOk result (λ answer. self.new ≡ value_after answer self.old) }
     {
         match growth {
             Growth::Text => self.push_texts(texts)?,
@@ -157,7 +157,8 @@ impl Value {
 
     // The message, where the text is no list.
     fn push_items(&mut self, alloc: Global, items: &[Text]) -> Result<Option<Text>, NoMemory>
-        ensures answer { IfOk result (λ message. insert_answer self.old (codes "end") items.now ≡ answer_of self.new message) }
+        ensures answer { IfOk result (λ message.
+            insert_answer self.old (codes "end") items.now ≡ answer_of self.new message) }
         ensures stays { IfOk result (λ message. IsSome message → self.new ≡ self.old) }
     {
         match self.form {
@@ -171,7 +172,8 @@ impl Value {
 
     // The text is split, and that of the longer list is made anew.
     fn join_items(&mut self, alloc: Global, items: &[Text]) -> Result<Option<Text>, NoMemory>
-        ensures answer { IfOk result (λ message. insert_answer self.old (codes "end") items.now ≡ answer_of self.new message) }
+        ensures answer { IfOk result (λ message.
+            insert_answer self.old (codes "end") items.now ≡ answer_of self.new message) }
         ensures stays { IfOk result (λ message. IsSome message → self.new ≡ self.old) }
     {
         match insert(alloc, self.text.as_bytes(), b"end", items)? {
@@ -197,8 +199,10 @@ fn push_bytes(text: &mut Text, texts: &[Text]) -> Result<(), NoMemory>
 
 // Items go to the end of the canonical text of a list.
 fn push_all(alloc: Global, text: &mut Text, items: &[Text]) -> Result<(), NoMemory>
-    ensures pushed { OnOk result ((before : List (List ℕ)) → text.old ≡ list_of before → text.new ≡ list_of (before ++ items.now)) }
-    ensures listed { ((before : List (List ℕ)) × (text.old ≡ list_of before)) → (after : List (List ℕ)) × (text.new ≡ list_of after) }
+    ensures pushed { OnOk result ((before : List (List ℕ)) →
+        text.old ≡ list_of before → text.new ≡ list_of (before ++ items.now)) }
+    ensures listed { ((before : List (List ℕ)) × (text.old ≡ list_of before)) → (after : List (List ℕ)) ×
+        (text.new ≡ list_of after) }
 {
     for item in items {
         push_item(alloc, text, item.as_bytes())?;
