@@ -15,7 +15,7 @@ use Rattle.tt_number.specs.declared.operators.OneOp.{OneOp}
 use Rattle.tt_number.specs.declared.operators.OneOp.TheVariants as one
 use Rattle.tt_number.proofs.Reading.Decimal.{decimal_law}
 use Rattle.tt_exprs.specs.Operators.{takes}
-use Rattle.tt_exprs.specs.Apply.{needed, whole_operand, arithmetic, with_one, with_two, on_one_of, on_two_of, with_whole, wholes, extreme_of, told, compared, comparand, order_with, order_of, test_order, boolean_by, boolean_of, negated, negation_of, answer_of, takes_numbers, numbers_answer, AllFit, NumbersLaw}
+use Rattle.tt_exprs.specs.Apply.{needed, whole_operand, arithmetic, with_one, with_two, on_one_of, on_two_of, with_whole, wholes, extreme_of, truth_number, compared, comparand, order_with, order_of, test_order, boolean_by, boolean_of, negated, negation_of, answer_of, takes_numbers, numbers_answer, AllFit, NumbersLaw}
 use Rattle.tt_exprs.specs.declared.op.Op.{Op}
 use Rattle.tt_exprs.specs.declared.op.Op.TheVariants.{Neg, Plus, BitNot, Not, Pow, Mul, Div, Mod, Add, Sub, Shl, Shr, Less, Greater, LessEqual, GreaterEqual, Equal, NotEqual, BitAnd, BitXor, BitOr, And, Or, Choose, Abs, Int, Max, Min}
 
@@ -39,14 +39,14 @@ twice_not : (b : Bool) → not (not b) ≡ b
 twice_not true = refl
 twice_not false = refl
 
-on_not : (a : ℤ) → FitsSigned w64 a → negation_of (signed_decimal a ∷ []) ≡ Ok (told (unsigned_abs a == 0))
-on_not a f = ap (negated (signed_decimal a)) (number_truth a f) ∙ ap (λ b. Ok (told b)) (twice_not (unsigned_abs a == 0))
+on_not : (a : ℤ) → FitsSigned w64 a → negation_of (signed_decimal a ∷ []) ≡ Ok (truth_number (unsigned_abs a == 0))
+on_not a f = ap (negated (signed_decimal a)) (number_truth a f) ∙ ap (λ b. Ok (truth_number b)) (twice_not (unsigned_abs a == 0))
 
 module _ (a b : ℤ) (f : FitsSigned w64 a) (g : FitsSigned w64 b) where
   on_two : (op : Op) (o : NumOp) → on_two_of op o (signed_decimal a ∷ signed_decimal b ∷ []) ≡ arithmetic (binary_of o a b)
   on_two op o = ap (λ x. with_two o x (whole_operand op (signed_decimal b))) (operand op a f) ∙ ap (with_two o (Ok a)) (operand op b g)
 
-  on_order : (test : Ordering → Bool) → test_order test (order_of (signed_decimal a ∷ signed_decimal b ∷ [])) ≡ Ok (told (test (int_cmp a b)))
+  on_order : (test : Ordering → Bool) → test_order test (order_of (signed_decimal a ∷ signed_decimal b ∷ [])) ≡ Ok (truth_number (test (int_cmp a b)))
   on_order test =
       let texts = slice_cmp nat_cmp (signed_decimal a) (signed_decimal b) in
       ap (λ x. test_order test (order_with x (comparand (signed_decimal b)) texts)) (compared_number a f)

@@ -1,7 +1,7 @@
 -- What the tokens of a text come to.
 use Rattle.std.proofs.Common.{◌≡◌, ℕ, List, [], refl, ap}
 use Rattle.tt_exprs.specs.Trees.{bad}
-use Rattle.tt_exprs.specs.Cutting.{told, comes_to}
+use Rattle.tt_exprs.specs.inside.Cutting.{reading_answer, comes_to}
 use Rattle.tt_exprs.specs.Tokens.{PlainToken, Tokens, read, refused_word, stopped, tokens}
 use Rattle.tt_exprs.specs.Parsing.{wants, parse, parsed, answered, tree_of, bareword_error, syntax_error}
 
@@ -19,11 +19,11 @@ module _ (text : List ℕ) where
   parse-stopped e = ap (parsed text) e
 
   -- the tokens one by one
-  pub parse-told : told text (comes_to (wants []) (tokens 0 text)) ≡ parse text
+  pub parse-answer : reading_answer text (comes_to (wants []) (tokens 0 text)) ≡ parse text
   unfolding parse
-  parse-told = go (tokens 0 text)
+  parse-answer = go (tokens 0 text)
     where
-      go : (found : Tokens) → told text (comes_to (wants []) found) ≡ parsed text found
+      go : (found : Tokens) → reading_answer text (comes_to (wants []) found) ≡ parsed text found
       go (read ts) = refl
       go (refused_word word) = refl
       go stopped = refl

@@ -3,7 +3,7 @@ use Rattle.std.proofs.Common.{◌≡◌, ℕ, true, false, List, [], ◌∷◌, 
 use Rattle.std.specs.Option.{option_to_list}
 use Rattle.std.proofs.lemmas.List.{map-append, reverse-append}
 use Rattle.tt_exprs.specs.Parsing.{PlainValue, PlainPending, binds, closed, gathered}
-use Rattle.tt_exprs.specs.Stacks.{plain_pending, plain_stack}
+use Rattle.tt_exprs.specs.inside.Stacks.{plain_pending, plain_stack}
 use Rattle.tt_exprs.specs.declared.pending.Pending.{Pending}
 
 pub length-zero : {A : Type 0} (xs : List A) → length xs ≡ 0 → xs ≡ []

@@ -1,15 +1,13 @@
 -- One token after another.
-use Rattle.std.proofs.Common.{◌≡◌, ℕ, zero, suc, ◌+◌, ◌-◌, ◌<◌, ◌≤◌, true, false, nat_lt, get_or, List, [], ◌∷◌, ◌++◌, length, take, drop, map, refl, ap, sym, ◌∙◌, arith}
+use Rattle.std.proofs.Common.{◌≡◌, ℕ, zero, suc, ◌+◌, ◌-◌, ◌<◌, ◌≤◌, true, false, nat_lt, get_or, List, [], ◌∷◌, length, take, drop, refl, ap, sym, ◌∙◌, arith}
 use Rattle.std.specs.List.{prefix_len}
-use Rattle.std.proofs.lemmas.List.{length-take-le, drop_more, drop-drop, drop_all, length-drop, take_all, map-append}
+use Rattle.std.proofs.lemmas.List.{length-take-le, drop_more, drop-drop, drop_all, length-drop, take_all}
 use Rattle.tt_text.specs.Characters.{is_white_space}
 use Rattle.tt_exprs.specs.Tokens.{PlainToken, operand, Cut, one, refused, none_here, Tokens, begins_word, number, number_length, other, read, refused_word, stopped, with_token, token, tokens, word, bare_word, is_word_byte}
 use Rattle.std.proofs.lemmas.Bool.{lt-ltb}
 use Rattle.tt_exprs.specs.Trees.{leaf}
-use Rattle.tt_exprs.specs.Plain.{plain_token}
-use Rattle.tt_exprs.specs.Cutting.{comes_to}
+use Rattle.tt_exprs.specs.inside.Cutting.{comes_to}
 use Rattle.tt_exprs.specs.Parsing.{PlainState, step}
-use Rattle.tt_exprs.specs.declared.tokens.Token.{Token}
 
 pub word-read : (text : List ℕ) (n : ℕ) (cut : Cut) → n ≡ prefix_len is_word_byte text → n ≤ length text → cut ≡ bare_word (take n text) (length (take n text)) → cut ≡ word text
 unfolding word

@@ -1,5 +1,6 @@
 -- What operators and functions give on the texts of their operands (expr(n), Operators; mathfunc(n)).
-use Rattle.std.specs.Prelude.{◌≡◌, ℕ, Bool, true, false, not, ◌==◌, ℤ, pos, List, [], ◌∷◌, fold, length, map, FitsSigned, bytes_eq, Option, Some, None, Result, Ok, Err}
+use Rattle.std.specs.Prelude.{◌≡◌, ℕ, Bool, true, false, not, ◌==◌, ℤ, pos, List, [], ◌∷◌, fold, length, map}
+use Rattle.std.specs.Prelude.{FitsSigned, bytes_eq, Option, Some, None, Result, Ok, Err}
 use Rattle.std.specs.Cmp.Lexicographic.{slice_cmp}
 use Rattle.std.specs.Fmt.{signed_decimal}
 use Rattle.std.specs.Int.{w64}
@@ -25,9 +26,13 @@ use Rattle.tt_number.specs.declared.operators.OneOp.TheVariants as one
 use Rattle.tt_exprs.specs.ApplyMessages.{boolean_message, message_of}
 use Rattle.tt_exprs.specs.Operators.{boolean_word, takes}
 use Rattle.tt_exprs.specs.declared.op.Op.{Op}
-use Rattle.tt_exprs.specs.declared.op.Op.TheVariants.{Neg, Plus, BitNot, Not, Pow, Mul, Div, Mod, Add, Sub, Shl, Shr, Less, Greater, LessEqual, GreaterEqual, Equal, NotEqual, TextEqual, TextNotEqual, Member, NotMember, BitAnd, BitXor, BitOr, And, Or, Choose, Abs, Int, Max, Min}
+use Rattle.tt_exprs.specs.declared.op.Op.TheVariants.{Neg, Plus, BitNot, Not, Pow, Mul, Div, Mod, Add, Sub, Shl, Shr}
+use Rattle.tt_exprs.specs.declared.op.Op.TheVariants.{Less, Greater, LessEqual, GreaterEqual, Equal, NotEqual}
+use Rattle.tt_exprs.specs.declared.op.Op.TheVariants.{TextEqual, TextNotEqual, Member, NotMember, BitAnd, BitXor, BitOr}
+use Rattle.tt_exprs.specs.declared.op.Op.TheVariants.{And, Or, Choose, Abs, Int, Max, Min}
 use Rattle.tt_exprs.specs.declared.applying.refusal.Refusal.{Refusal}
-use Rattle.tt_exprs.specs.declared.applying.refusal.Refusal.TheVariants.{NotNumeric, TooLarge, Float, Arith, NotBoolean, NotList}
+use Rattle.tt_exprs.specs.declared.applying.refusal.Refusal.TheVariants.{NotNumeric, TooLarge, Float, Arith, NotBoolean}
+use Rattle.tt_exprs.specs.declared.applying.refusal.Refusal.TheVariants.{NotList}
 
 -- ---- operands
 
@@ -113,20 +118,20 @@ extreme_of op (Ok (n ∷ numbers)) = Ok (fold (picked op) n numbers)
 
 -- ---- tests
 
--- what a test gives
-abbrev pub told : Bool → ℤ
-told true = pos 1
-told false = pos 0
+-- the number of a truth: 1 or 0
+abbrev pub truth_number : Bool → ℤ
+truth_number true = pos 1
+truth_number false = pos 0
 
--- the operator `in`, by whether the operand is an item
-abbrev pub told_if : Result Bool Refusal → Result ℤ Refusal
-told_if (Ok truth) = Ok (told truth)
-told_if (Err refusal) = Err refusal
+-- the answer of `in`, by whether the operand is an item
+abbrev pub truth_answer : Result Bool Refusal → Result ℤ Refusal
+truth_answer (Ok truth) = Ok (truth_number truth)
+truth_answer (Err refusal) = Err refusal
 
--- the operator `ni`, likewise
-abbrev pub told_unless : Result Bool Refusal → Result ℤ Refusal
-told_unless (Ok truth) = Ok (told (not truth))
-told_unless (Err refusal) = Err refusal
+-- the answer of `ni`, likewise
+abbrev pub opposite_answer : Result Bool Refusal → Result ℤ Refusal
+opposite_answer (Ok truth) = Ok (truth_number (not truth))
+opposite_answer (Err refusal) = Err refusal
 
 -- what an operand of a comparison is: a whole number, or a text alone
 abbrev pub compared : Result ℤ NumberFault → Result (Option ℤ) Refusal
@@ -161,7 +166,7 @@ order_of operands =
 
 -- one of `< > <= >= == !=`, by the orders at which it holds
 abbrev pub test_order : (Ordering → Bool) → Result Ordering Refusal → Result ℤ Refusal
-test_order test (Ok order) = Ok (told (test order))
+test_order test (Ok order) = Ok (truth_number (test order))
 test_order test (Err refusal) = Err refusal
 
 -- whether two operands are the same text, by their bytes
@@ -194,7 +199,7 @@ boolean_of text = boolean_by text (whole_of text)
 
 -- the operator `!`, by the boolean value of its operand
 abbrev pub negated : List ℕ → Option Bool → Result ℤ Refusal
-negated text (Some truth) = Ok (told (not truth))
+negated text (Some truth) = Ok (truth_number (not truth))
 negated text None = Err (NotBoolean text)
 
 -- the operator `!` (expr(n), Operators)
@@ -223,10 +228,10 @@ answer_of LessEqual t = test_order is_le (order_of t)
 answer_of GreaterEqual t = test_order is_ge (order_of t)
 answer_of Equal t = test_order is_eq (order_of t)
 answer_of NotEqual t = test_order is_ne (order_of t)
-answer_of TextEqual t = Ok (told (is_same_text t))
-answer_of TextNotEqual t = Ok (told (not (is_same_text t)))
-answer_of Member t = told_if (is_member_of t)
-answer_of NotMember t = told_unless (is_member_of t)
+answer_of TextEqual t = Ok (truth_number (is_same_text t))
+answer_of TextNotEqual t = Ok (truth_number (not (is_same_text t)))
+answer_of Member t = truth_answer (is_member_of t)
+answer_of NotMember t = opposite_answer (is_member_of t)
 answer_of BitAnd t = on_two_of BitAnd two.BitAnd t
 answer_of BitXor t = on_two_of BitXor two.BitXor t
 answer_of BitOr t = on_two_of BitOr two.BitOr t
@@ -288,7 +293,7 @@ abbrev pub on_numbers : Op → ℤ → ℤ → Result ℤ ArithFault
 on_numbers Neg a b = unary_of one.Neg a
 on_numbers Plus a b = unary_of one.Plus a
 on_numbers BitNot a b = unary_of one.BitNot a
-on_numbers Not a b = Ok (told (unsigned_abs a == 0))
+on_numbers Not a b = Ok (truth_number (unsigned_abs a == 0))
 on_numbers Pow a b = binary_of two.Pow a b
 on_numbers Mul a b = binary_of two.Mul a b
 on_numbers Div a b = binary_of two.Div a b
@@ -297,12 +302,12 @@ on_numbers Add a b = binary_of two.Add a b
 on_numbers Sub a b = binary_of two.Sub a b
 on_numbers Shl a b = binary_of two.Shl a b
 on_numbers Shr a b = binary_of two.Shr a b
-on_numbers Less a b = Ok (told (is_lt (int_cmp a b)))
-on_numbers Greater a b = Ok (told (is_gt (int_cmp a b)))
-on_numbers LessEqual a b = Ok (told (is_le (int_cmp a b)))
-on_numbers GreaterEqual a b = Ok (told (is_ge (int_cmp a b)))
-on_numbers Equal a b = Ok (told (is_eq (int_cmp a b)))
-on_numbers NotEqual a b = Ok (told (is_ne (int_cmp a b)))
+on_numbers Less a b = Ok (truth_number (is_lt (int_cmp a b)))
+on_numbers Greater a b = Ok (truth_number (is_gt (int_cmp a b)))
+on_numbers LessEqual a b = Ok (truth_number (is_le (int_cmp a b)))
+on_numbers GreaterEqual a b = Ok (truth_number (is_ge (int_cmp a b)))
+on_numbers Equal a b = Ok (truth_number (is_eq (int_cmp a b)))
+on_numbers NotEqual a b = Ok (truth_number (is_ne (int_cmp a b)))
 on_numbers BitAnd a b = binary_of two.BitAnd a b
 on_numbers BitXor a b = binary_of two.BitXor a b
 on_numbers BitOr a b = binary_of two.BitOr a b

@@ -1,11 +1,12 @@
--- How the errors of operators are told (expr(n), Operators).
+-- The messages of the errors of operators (expr(n), Operators).
 use Rattle.std.specs.Prelude.{ℕ, List, [], ◌++◌, codes}
 use Rattle.tt_lists.specs.Messages.{list_message}
 use Rattle.tt_number.specs.Messages.{arith_message, number_message}
 use Rattle.tt_number.specs.declared.numeral.NumberFault.TheVariants as number
 use Rattle.tt_exprs.specs.Operators.{spelling}
 use Rattle.tt_exprs.specs.declared.applying.refusal.Refusal.{Refusal}
-use Rattle.tt_exprs.specs.declared.applying.refusal.Refusal.TheVariants.{NotNumeric, TooLarge, Float, Arith, NotBoolean, NotList}
+use Rattle.tt_exprs.specs.declared.applying.refusal.Refusal.TheVariants.{NotNumeric, TooLarge, Float, Arith, NotBoolean}
+use Rattle.tt_exprs.specs.declared.applying.refusal.Refusal.TheVariants.{NotList}
 
 -- that a text is no boolean value
 abbrev pub boolean_message : List ℕ → List ℕ

@@ -1,12 +1,11 @@
 pub mod Apply
 pub mod ApplyMessages
-pub mod Cutting
 pub mod ExprGrammar
 pub mod Operators
 pub mod Parsing
 pub mod Plain
-pub mod Stacks
 pub mod TextLaw
 pub mod TokenGrammar
 pub mod Tokens
 pub mod Trees
+pub mod inside

@@ -1,9 +1,13 @@
 -- The one table of operators (expr(n), OPERATORS; mathfunc(n)), and the words for truths (expr(n), OPERANDS).
-use Rattle.std.specs.Prelude.{ℕ, ◌+◌, nat_eq, nat_lt, Bool, true, false, ◌==◌, List, [], ◌∷◌, Option, Some, None, codes, find, if◌then◌else◌}
+use Rattle.std.specs.Prelude.{ℕ, ◌+◌, nat_eq, nat_lt, Bool, true, false, ◌==◌, List, [], ◌∷◌, Option, Some, None, codes}
+use Rattle.std.specs.Prelude.{find, if◌then◌else◌}
 use Rattle.std.specs.List.{list_any, starts_with}
 use Rattle.std.specs.Str.{bytes_eq, str_eq_ignore_ascii_case}
 use Rattle.tt_exprs.specs.declared.op.Op.{Op}
-use Rattle.tt_exprs.specs.declared.op.Op.TheVariants.{Neg, Plus, BitNot, Not, Pow, Mul, Div, Mod, Add, Sub, Shl, Shr, Less, Greater, LessEqual, GreaterEqual, Equal, NotEqual, TextEqual, TextNotEqual, Member, NotMember, BitAnd, BitXor, BitOr, And, Or, Choose, Abs, Int, Max, Min}
+use Rattle.tt_exprs.specs.declared.op.Op.TheVariants.{Neg, Plus, BitNot, Not, Pow, Mul, Div, Mod, Add, Sub, Shl, Shr}
+use Rattle.tt_exprs.specs.declared.op.Op.TheVariants.{Less, Greater, LessEqual, GreaterEqual, Equal, NotEqual}
+use Rattle.tt_exprs.specs.declared.op.Op.TheVariants.{TextEqual, TextNotEqual, Member, NotMember, BitAnd, BitXor, BitOr}
+use Rattle.tt_exprs.specs.declared.op.Op.TheVariants.{And, Or, Choose, Abs, Int, Max, Min}
 use Rattle.tt_exprs.specs.declared.operators.Binding.{Binding}
 use Rattle.tt_exprs.specs.declared.operators.Binding.TheVariants.{Before, Leftwards, Rightwards, Called}
 use Rattle.tt_exprs.specs.declared.operators.Operands.{Operands}
@@ -94,7 +98,7 @@ takes_more op = allows (row_of op).operands 2
 
 -- ---- spellings ----
 
--- the operators that are spelled with signs, the longer spellings first; `-` and `+` are told from where they stand
+-- the operators that are spelled with signs, the longer first; `-` and `+` each stand for two, by their place
 abbrev pub sign_operators : List Op
 sign_operators =
     Pow ∷ Shl ∷ Shr ∷ LessEqual ∷ GreaterEqual ∷ Equal ∷ NotEqual ∷ And ∷ Or

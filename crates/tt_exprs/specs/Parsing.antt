@@ -1,9 +1,11 @@
 -- How the tokens of an expression make a tree (expr(n), OPERATORS): an operator waits for its right
 -- operand until something comes that binds less tightly.
-use Rattle.std.specs.Prelude.{ℕ, ◌+◌, Bool, true, false, not, nat_lt, max, List, [], ◌∷◌, ◌++◌, fold, Option, Some, None, codes}
+use Rattle.std.specs.Prelude.{ℕ, ◌+◌, Bool, true, false, not, nat_lt, max, List, [], ◌∷◌, ◌++◌, fold, Option, Some}
+use Rattle.std.specs.Prelude.{None, codes}
 use Rattle.tt_exprs.specs.Trees.{PlainExpr, node, PlainExprs, none, more, PlainParsed, tree, bad}
 use Rattle.tt_exprs.specs.Operators.{binding, level, left_level, takes_more}
-use Rattle.tt_exprs.specs.Tokens.{PlainToken, operand, operator, function, opening, closing, comma, colon, Tokens, read, refused_word, stopped, tokens}
+use Rattle.tt_exprs.specs.Tokens.{PlainToken, operand, operator, function, opening, closing, comma, colon, Tokens, read}
+use Rattle.tt_exprs.specs.Tokens.{refused_word, stopped, tokens}
 use Rattle.tt_exprs.specs.declared.op.Op.{Op}
 use Rattle.tt_exprs.specs.declared.op.Op.TheVariants.{Neg, Plus, BitNot, Not, Add, Sub, Choose}
 

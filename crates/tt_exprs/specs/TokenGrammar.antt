@@ -1,6 +1,7 @@
 -- The tokens of an expression as a relation (expr(n), OPERANDS and OPERATORS). Each says that `text` begins with
 -- something and that `rest` follows it; what is read as a script reads it is cut by the command grammar.
-use Rattle.std.specs.Prelude.{◌≡◌, ◌≢◌, ℕ, ◌≤◌, Bool, true, false, not, ◌⊎◌, ℤ, List, [], ◌∷◌, ◌++◌, length, Contains, IsTrue}
+use Rattle.std.specs.Prelude.{◌≡◌, ◌≢◌, ℕ, ◌≤◌, Bool, true, false, not, ◌⊎◌, ℤ, List, [], ◌∷◌, ◌++◌, length, Contains}
+use Rattle.std.specs.Prelude.{IsTrue}
 use Rattle.std.specs.List.{list_all}
 use Rattle.std.specs.Prelude.{Some}
 use Rattle.tt_text.specs.Characters.{is_white_space}
@@ -11,7 +12,8 @@ use Rattle.tt_script.specs.Reading.{begins, joined_lines}
 use Rattle.tt_script.specs.Operands.{IsQuotedText, IsOuterPart}
 use Rattle.tt_exprs.specs.Trees.{leaf, words}
 use Rattle.tt_exprs.specs.Operators.{spelling, sign_operators, word_operators, functions, boolean_word}
-use Rattle.tt_exprs.specs.Tokens.{PlainToken, operand, operator, function, opening, closing, comma, colon, begins_word, is_word_byte, Tokens, read, refused_word, stopped, with_token}
+use Rattle.tt_exprs.specs.Tokens.{PlainToken, operand, operator, function, opening, closing, comma, colon, begins_word}
+use Rattle.tt_exprs.specs.Tokens.{is_word_byte, Tokens, read, refused_word, stopped, with_token}
 use Rattle.tt_exprs.specs.declared.op.Op.{Op}
 
 -- whether the first byte of a text is such a byte

@@ -1,6 +1,7 @@
 -- The tokens of an expression, cut from the left (expr(n), OPERANDS and OPERATORS).
 -- `k` is a number of bytes that are passed over.
-use Rattle.std.specs.Prelude.{ℕ, zero, suc, pred, ◌+◌, Bool, true, false, ◌&&◌, ◌||◌, if◌then◌else◌, ◌==◌, nat_lt, List, [], ◌∷◌, length, take, drop, Some, None}
+use Rattle.std.specs.Prelude.{ℕ, zero, suc, pred, ◌+◌, Bool, true, false, ◌&&◌, ◌||◌, if◌then◌else◌, ◌==◌, nat_lt, List}
+use Rattle.std.specs.Prelude.{[], ◌∷◌, length, take, drop, Some, None}
 use Rattle.std.specs.List.{prefix_len}
 use Rattle.std.specs.Char.{is_digit, is_ascii_alphabetic, is_ascii_alphanumeric}
 use Rattle.tt_text.specs.Characters.{is_white_space}
@@ -10,7 +11,8 @@ use Rattle.tt_script.specs.Words.{PlainPart, letters, variable, element, script,
 use Rattle.tt_script.specs.Reading.{Read, takes, fails, begins, joined_lines}
 use Rattle.tt_script.specs.Operands.{quoted_text, outer_part}
 use Rattle.tt_exprs.specs.Trees.{PlainExpr, leaf, words}
-use Rattle.tt_exprs.specs.Operators.{spelling, sign_operators, word_operators, functions, first_spelled, spelled_so, boolean_word}
+use Rattle.tt_exprs.specs.Operators.{spelling, sign_operators, word_operators, functions, first_spelled, spelled_so}
+use Rattle.tt_exprs.specs.Operators.{boolean_word}
 use Rattle.tt_exprs.specs.declared.op.Op.{Op}
 
 -- a token; `-` and `+` are the operators that stand between operands, wherever they stand

@@ -84,6 +84,3 @@ fn answer(alloc: Global, op: Op, operands: &[Text]) -> Result<Result<i64, Refusa
         Op::And | Op::Or | Op::Choose => unreachable!(),
     }
 }
-
-#[cfg(test)]
-mod tests;

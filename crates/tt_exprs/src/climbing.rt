@@ -1,8 +1,9 @@
 //! How the tokens of an expression make a tree (expr(n), OPERATORS).
 ghost use Rattle.std.specs.Prelude.{◌≡◌, IfOk, OnOk};
 ghost use Rattle.tt_exprs.specs.Parsing as parsing;
-ghost use Rattle.tt_exprs.specs.Plain.{plain_token};
-ghost use Rattle.tt_exprs.specs.Stacks.{plain_outcome, plain_stack, plain_state, plain_pending, plain_value, plain_waiting};
+ghost use Rattle.tt_exprs.specs.inside.CutTokens.{plain_token};
+ghost use Rattle.tt_exprs.specs.inside.Stacks.{plain_outcome, plain_stack, plain_state, plain_pending, plain_value};
+ghost use Rattle.tt_exprs.specs.inside.Stacks.{plain_waiting};
 
 use crate::expression::Expr;
 use crate::op::Op;

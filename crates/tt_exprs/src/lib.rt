@@ -20,6 +20,3 @@ pub use applying::{apply, apply_to_numbers, boolean, result, truth};
 pub use expression::{Expr, Parsed};
 pub use op::Op;
 pub use parsing::parse;
-
-#[cfg(test)]
-mod tests;

@@ -1,9 +1,9 @@
 //! How a text is read as an expression.
 ghost use Rattle.std.specs.Prelude.{◌≡◌, IfOk};
-ghost use Rattle.tt_exprs.specs.Cutting.{told};
+ghost use Rattle.tt_exprs.specs.inside.Cutting.{reading_answer};
 ghost use Rattle.tt_exprs.specs.Parsing as parsing;
 ghost use Rattle.tt_exprs.specs.Plain.{plain_parsed};
-ghost use Rattle.tt_exprs.specs.Stacks.{plain_outcome, plain_reading};
+ghost use Rattle.tt_exprs.specs.inside.Stacks.{plain_outcome, plain_reading};
 
 use crate::climbing::Outcome;
 use crate::expression::Parsed;
@@ -49,8 +49,8 @@ fn answered(alloc: Global, text: &[u8], outcome: Outcome) -> Result<Parsed, NoMe
 }
 
 /// What the text is read as whose tokens come to this.
-fn told(alloc: Global, text: &[u8], reading: Reading) -> Result<Parsed, NoMemory>
-    ensures { IfOk result (λ parsed. plain_parsed parsed ≡ told text.now (plain_reading reading)) }
+fn reading_answer(alloc: Global, text: &[u8], reading: Reading) -> Result<Parsed, NoMemory>
+    ensures { IfOk result (λ parsed. plain_parsed parsed ≡ reading_answer text.now (plain_reading reading)) }
 {
     match reading {
         Reading::Whole(outcome) => answered(alloc, text, outcome),
@@ -77,6 +77,6 @@ pub fn parse(alloc: Global, text: &[u8]) -> Result<Parsed, NoMemory>
     ensures exact { IfOk result (λ parsed. plain_parsed parsed ≡ parsing.parse text.now) }
 {
     let reading = read_tokens(alloc, text)?;
-    let parsed = told(alloc, text, reading)?;
+    let parsed = reading_answer(alloc, text, reading)?;
     Ok(parsed)
 }

@@ -1,7 +1,7 @@
 //! What waits for an operand.
 ghost use Rattle.std.specs.Prelude.{◌≡◌, ◌≤◌, IfOk};
 ghost use Rattle.tt_exprs.specs.Parsing as parsing;
-ghost use Rattle.tt_exprs.specs.Stacks.{plain_pending, plain_stack, plain_value, plain_waiting};
+ghost use Rattle.tt_exprs.specs.inside.Stacks.{plain_pending, plain_stack, plain_value, plain_waiting};
 
 use crate::op::Op;
 use crate::operators::level;

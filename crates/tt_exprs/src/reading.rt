@@ -1,8 +1,8 @@
 //! A text read as an expression, token by token.
 ghost use Rattle.std.specs.Prelude.{◌≡◌, ◌≤◌, [], IfOk, length};
-ghost use Rattle.tt_exprs.specs.Cutting.{comes_to};
+ghost use Rattle.tt_exprs.specs.inside.Cutting.{comes_to};
 ghost use Rattle.tt_exprs.specs.Parsing.{wants};
-ghost use Rattle.tt_exprs.specs.Stacks.{plain_reading};
+ghost use Rattle.tt_exprs.specs.inside.Stacks.{plain_reading};
 ghost use Rattle.tt_exprs.specs.Tokens as tokens;
 
 use crate::climbing::{Outcome, Phase, State, finished, step};

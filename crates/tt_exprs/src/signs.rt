@@ -2,7 +2,7 @@
 ghost use Rattle.std.specs.Prelude.{◌≡◌, ◌∷◌, ℕ, List, length, IfSome, IsTrue, nat_eq};
 ghost use Rattle.std.specs.List.{starts_with};
 ghost use Rattle.tt_exprs.specs.Operators as operators;
-ghost use Rattle.tt_exprs.specs.Plain.{plain_cut, TakesWithin};
+ghost use Rattle.tt_exprs.specs.inside.CutTokens.{plain_cut, TakesWithin};
 ghost use Rattle.tt_exprs.specs.Tokens as tokens;
 
 use crate::op::Op;

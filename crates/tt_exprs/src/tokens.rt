@@ -1,6 +1,7 @@
 //! The tokens of an expression, cut from the left (expr(n), OPERANDS and OPERATORS).
-ghost use Rattle.std.specs.Prelude.{◌≡◌, ◌≢◌, ◌∷◌, ◌+◌, ◌-◌, ◌<◌, ◌≤◌, ◌||◌, ◌==◌, true, false, IfOk, IfSome, length, take, drop, slice_index};
-ghost use Rattle.tt_exprs.specs.Plain.{plain_cut, TakesWithin};
+ghost use Rattle.std.specs.Prelude.{◌≡◌, ◌≢◌, ◌∷◌, ◌+◌, ◌-◌, ◌<◌, ◌≤◌, ◌||◌, ◌==◌, true, false, IfOk, IfSome, length};
+ghost use Rattle.std.specs.Prelude.{take, drop, slice_index};
+ghost use Rattle.tt_exprs.specs.inside.CutTokens.{plain_cut, TakesWithin};
 ghost use Rattle.tt_exprs.specs.Tokens as tokens;
 ghost use Rattle.tt_script.specs.Plain.{plain_part};
 ghost use Rattle.tt_text.specs.Characters as characters;

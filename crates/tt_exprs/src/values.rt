@@ -1,7 +1,7 @@
 //! Operands, and how deeply they are nested.
 ghost use Rattle.std.specs.Prelude.{◌≡◌, ◌≤◌, IfOk};
 ghost use Rattle.tt_exprs.specs.Parsing as parsing;
-ghost use Rattle.tt_exprs.specs.Stacks.{plain_row, plain_value};
+ghost use Rattle.tt_exprs.specs.inside.Stacks.{plain_row, plain_value};
 ghost use Rattle.tt_exprs.specs.Plain.{plain_expr};
 
 use crate::expression::Expr;

@@ -3,7 +3,7 @@ ghost use Rattle.std.specs.Prelude.{◌≡◌, ◌≤◌, ◌<◌, IfOk, length}
 ghost use Rattle.std.specs.List.{prefix_len};
 ghost use Rattle.std.specs.Str.{str_eq_ignore_ascii_case};
 ghost use Rattle.tt_exprs.specs.Operators as operators;
-ghost use Rattle.tt_exprs.specs.Plain.{plain_cut, TakesWithin};
+ghost use Rattle.tt_exprs.specs.inside.CutTokens.{plain_cut, TakesWithin};
 ghost use Rattle.tt_exprs.specs.Tokens as tokens;
 
 use crate::expression::Expr;

@@ -1,4 +1,4 @@
-//! Why an operator gives nothing, and how that is told.
+//! Why an operator gives nothing, and the message of that.
 ghost use Rattle.std.specs.Prelude.{◌≡◌, IfOk};
 ghost use Rattle.tt_exprs.specs.ApplyMessages.{boolean_message, message_of};
 

@@ -1,6 +1,6 @@
 use Rattle.std.proofs.Common.{◌≡◌, [], ap, sym, ◌∙◌}
 use Rattle.tt_exprs.specs.Parsing.{gathered}
-use Rattle.tt_exprs.specs.Stacks.{plain_pending, plain_stack, plain_value, plain_waiting}
+use Rattle.tt_exprs.specs.inside.Stacks.{plain_pending, plain_stack, plain_value, plain_waiting}
 use Rattle.tt_exprs.proofs.StackSteps.{length-zero, stack-pushed, stack-popped, gathered-empty, gathered-takes, gathered-stops}
 use Rattle.tt_exprs.proofs.pending.gathered.Goals as goal
 use Rattle.tt_exprs.proofs.pending.gathered.Goals.{in-Some+then-not-binds+in_ok-push, in_default}

@@ -1,6 +1,6 @@
 use Rattle.std.proofs.Common.{◌≡◌, length}
 use Rattle.tt_exprs.specs.Parsing.{gathered}
-use Rattle.tt_exprs.specs.Stacks.{plain_stack, plain_value}
+use Rattle.tt_exprs.specs.inside.Stacks.{plain_stack, plain_value}
 use Rattle.tt_exprs.proofs.pending.gathered.Given as goal
 
 abbrev pub invariant-loop-last : goal.invariant-loop-last

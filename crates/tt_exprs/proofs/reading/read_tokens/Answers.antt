@@ -1,7 +1,7 @@
-use Rattle.std.proofs.Common.{◌≡◌, ◌+◌, ◌-◌, length, drop, ap, sym, subst, ◌∙◌, arith}
-use Rattle.tt_exprs.specs.Cutting.{whole, comes_to}
-use Rattle.tt_exprs.specs.Plain.{plain_cut, plain_token, TakesWithin}
-use Rattle.tt_exprs.specs.Stacks.{plain_state}
+use Rattle.std.proofs.Common.{◌+◌, ◌-◌, length, drop, ap, sym, subst, ◌∙◌, arith}
+use Rattle.tt_exprs.specs.inside.Cutting.{whole, comes_to}
+use Rattle.tt_exprs.specs.inside.CutTokens.{plain_cut, plain_token, TakesWithin}
+use Rattle.tt_exprs.specs.inside.Stacks.{plain_state}
 use Rattle.tt_exprs.specs.Tokens.{tokens}
 use Rattle.tt_exprs.proofs.TokenSteps.{white-at, one-at, refused-at, stopped-at, end-at, comes_to-one}
 use Rattle.tt_exprs.proofs.reading.read_tokens.Goals as goal

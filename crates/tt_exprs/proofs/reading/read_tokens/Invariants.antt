@@ -1,7 +1,7 @@
 use Rattle.std.proofs.Common.{◌≡◌, ◌≤◌, ◌-◌, [], length, drop}
-use Rattle.tt_exprs.specs.Cutting.{comes_to}
+use Rattle.tt_exprs.specs.inside.Cutting.{comes_to}
 use Rattle.tt_exprs.specs.Parsing.{wants}
-use Rattle.tt_exprs.specs.Stacks.{plain_state}
+use Rattle.tt_exprs.specs.inside.Stacks.{plain_state}
 use Rattle.tt_exprs.specs.Tokens.{tokens}
 use Rattle.tt_exprs.proofs.reading.read_tokens.Given as goal
 

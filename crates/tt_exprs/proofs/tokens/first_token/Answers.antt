@@ -1,5 +1,5 @@
 use Rattle.std.proofs.Common.{◌≡◌, IfOk, drop, ap, sym, subst, ◌∙◌, arith}
-use Rattle.tt_exprs.specs.Plain.{plain_cut}
+use Rattle.tt_exprs.specs.inside.CutTokens.{plain_cut}
 use Rattle.tt_exprs.specs.Tokens.{one, operand, word}
 use Rattle.tt_exprs.proofs.Builds.{plain_leaf}
 use Rattle.tt_exprs.proofs.TokenSteps.{begun, token-word, number-read, other-read}

@@ -16,8 +16,8 @@ comes_to state (read ts) = whole (finished (fold step state ts))
 comes_to state (refused_word word) = refused_at word
 comes_to state stopped = stopped_here
 
--- how that is told
-abbrev pub told : List ℕ → PlainReading → PlainParsed
-told text (whole outcome) = answered text outcome
-told text (refused_at word) = bad (bareword_error word)
-told text stopped_here = bad (syntax_error text)
+-- the answer to a text whose tokens come to that
+abbrev pub reading_answer : List ℕ → PlainReading → PlainParsed
+reading_answer text (whole outcome) = answered text outcome
+reading_answer text (refused_at word) = bad (bareword_error word)
+reading_answer text stopped_here = bad (syntax_error text)

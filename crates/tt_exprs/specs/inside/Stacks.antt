@@ -1,8 +1,10 @@
 -- The plain form of what waits while tokens are read.
 use Rattle.std.specs.Prelude.{List, map, reverse}
 use Rattle.tt_exprs.specs.Plain.{plain_expr}
-use Rattle.tt_exprs.specs.Parsing.{PlainValue, nested, too_deep, PlainRow, row, too_deep_row, PlainPending, unary, binary, test, branch, parenthesis, arguments, PlainWaiting, PlainState, wants, calls, has, wrong, PlainOutcome, good, malformed, nested_too_deeply}
-use Rattle.tt_exprs.specs.Cutting.{PlainReading, whole, refused_at, stopped_here}
+use Rattle.tt_exprs.specs.Parsing.{PlainValue, nested, too_deep, PlainRow, row, too_deep_row, PlainPending, unary}
+use Rattle.tt_exprs.specs.Parsing.{binary, test, branch, parenthesis, arguments, PlainWaiting, PlainState, wants, calls}
+use Rattle.tt_exprs.specs.Parsing.{has, wrong, PlainOutcome, good, malformed, nested_too_deeply}
+use Rattle.tt_exprs.specs.inside.Cutting.{PlainReading, whole, refused_at, stopped_here}
 use Rattle.tt_exprs.specs.declared.reading.Reading.{Reading}
 use Rattle.tt_exprs.specs.declared.reading.Reading.TheVariants as readings
 use Rattle.tt_exprs.specs.declared.values.Value.{Value}

@@ -1,0 +1,3 @@
+pub mod CutTokens
+pub mod Cutting
+pub mod Stacks
