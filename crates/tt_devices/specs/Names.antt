@@ -1,5 +1,5 @@
 -- The bytes under each name of a set of files, if they are told. Nothing is said of a map that isn't told.
-use Rattle.std.specs.Prelude.{◌≡◌, ◌≢◌, ◌<◌, ℕ, List, [], length, Option, Some, None, IsSome}
+use Rattle.std.specs.Prelude.{◌≡◌, ◌≢◌, ℕ, List, [], Option, Some, None, IsSome}
 
 -- the bytes under each name, or none
 abbrev pub Names : Type 0
@@ -32,8 +32,3 @@ HoldsNamed (Some map) name (Some bytes) = map name ≡ Some bytes
 abbrev pub StartsEmpty : Option Names → (bytes : Option (List ℕ)) → Type 0
 StartsEmpty None bytes = Unit {0}
 StartsEmpty (Some map) bytes = bytes ≡ Some []
-
--- the map has more than so many bytes under this name
-abbrev pub IsLonger : Option Names → List ℕ → ℕ → Type 0
-IsLonger None name count = Unit {0}
-IsLonger (Some map) name count = (bytes : List ℕ) × (map name ≡ Some bytes) × (count < length bytes)

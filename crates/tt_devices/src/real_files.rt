@@ -1,8 +1,8 @@
 ghost use Rattle.std.specs.Prelude.{◌≡◌, ◌≢◌, ◌≤◌, ◌^◌, ℕ, Err, None, Some, IfErr, IfOk, OnOk, OnErr, IsErrOf, vec_len};
 ghost use Rattle.std.specs.IoError.{error_kind};
 ghost use Rattle.tt_devices.specs.Faults.{Rises};
-ghost use Rattle.tt_devices.specs.Names.{HasName, IsLonger, KeepsOthers, Tells};
-ghost use Rattle.tt_devices.specs.inside.Reading.{Empties, LosesMore, LosesPart};
+ghost use Rattle.tt_devices.specs.Names.{HasName, KeepsOthers, Tells};
+ghost use Rattle.tt_devices.specs.inside.Reading.{Empties, IsLonger, LosesMore, LosesPart};
 
 use crate::{Disk, Failed, Files, ReadAnswer, Sink, Source};
 use std::alloc::Global;

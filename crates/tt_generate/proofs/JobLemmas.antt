@@ -5,7 +5,8 @@ use Rattle.std.proofs.lemmas.Grind.{flat_map-append}
 use Rattle.rand_core.specs.Steps.{first_words}
 use Rattle.rand_pcg.specs.Lcg.{Lcg}
 use Rattle.rand_pcg.specs.Pcg.{pcg32}
-use Rattle.tt_generate.specs.Workload.{IsJob, ended, job_line, job_lines, job_of, jobs_of, last_line, lines_of}
+use Rattle.tt_generate.specs.Workload.{IsJob, line_and_newline, job_line, job_of, jobs_of, last_line, lines_of}
+use Rattle.tt_generate.specs.inside.JobLines.{job_lines}
 use Rattle.tt_generate.specs.declared.script.Job.{Job}
 
 -- the jobs of two words more
@@ -24,7 +25,7 @@ jobs_none s = refl
 
 -- the lines of a job and of those after it
 pub lines_more : (n m : ℕ) (s : Lcg) → n ≡ suc m →
-    job_lines (first_words pcg32 (2 * n) s) ≡ ended (job_line (job_of (pcg32 s).0 (pcg32 (pcg32 s).1).0))
+    job_lines (first_words pcg32 (2 * n) s) ≡ line_and_newline (job_line (job_of (pcg32 s).0 (pcg32 (pcg32 s).1).0))
     ++ job_lines (first_words pcg32 (2 * m) (pcg32 (pcg32 s).1).1)
 lines_more n m s e = rw (e, jobs_more m s) refl
 
@@ -61,13 +62,13 @@ lines_after size =
 
 -- the script, piece by piece
 pub pieces : (jobs : List Job) (size : ℕ) →
-    ((before_jobs ++ flat_map ended (map job_line jobs)) ++ after_jobs) ++ ended (last_line size)
-    ≡ flat_map ended (lines_of jobs size)
+    ((before_jobs ++ flat_map line_and_newline (map job_line jobs)) ++ after_jobs) ++ line_and_newline (last_line size)
+    ≡ flat_map line_and_newline (lines_of jobs size)
 pieces jobs size =
-    let middle : List ℕ = flat_map ended (map job_line jobs) in
-    let last : List ℕ = ended (last_line size) in
+    let middle : List ℕ = flat_map line_and_newline (map job_line jobs) in
+    let last : List ℕ = line_and_newline (last_line size) in
     append_assoc (before_jobs ++ middle) after_jobs last
     ∙ (append_assoc before_jobs middle (after_jobs ++ last)
     ∙ ap (λ (t : List ℕ). before_jobs ++ t)
     (ap (λ (t : List ℕ). middle ++ (after_jobs ++ t)) (sym (append-nil last))
-    ∙ sym (flat_map-append ended (map job_line jobs) (lines_after size))))
+    ∙ sym (flat_map-append line_and_newline (map job_line jobs) (lines_after size))))

@@ -44,8 +44,8 @@ lines_of jobs size =
     ∷ []))
 
 -- a line with its newline
-abbrev pub ended : (line : List ℕ) → List ℕ
-ended line = line ++ (10 ∷ [])
+abbrev pub line_and_newline : (line : List ℕ) → List ℕ
+line_and_newline line = line ++ (10 ∷ [])
 
 -- the jobs of a script of this size
 abbrev pub jobs : (number size : ℕ) → List Job
@@ -53,11 +53,7 @@ jobs number size = jobs_of (first_words pcg32 (2 * size) (generator_of number))
 
 -- the script that a number gives at a size
 abbrev pub workload_text : (number size : ℕ) → List ℕ
-workload_text number size = flat_map ended (lines_of (jobs number size) size)
-
--- the lines of jobs alone
-abbrev pub job_lines : (words : List ℕ) → List ℕ
-job_lines words = flat_map ended (map job_line (jobs_of words))
+workload_text number size = flat_map line_and_newline (lines_of (jobs number size) size)
 
 -- a key and a value that a job may have
 pub record IsJob (job : Job) : Type 0 where

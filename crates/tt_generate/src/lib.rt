@@ -5,6 +5,3 @@ pub mod laws;
 mod script;
 
 pub use script::workload;
-
-#[cfg(test)]
-mod tests;

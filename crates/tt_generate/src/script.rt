@@ -1,7 +1,8 @@
 ghost use Rattle.std.specs.Prelude.{◌≡◌, ◌++◌, ◌*◌, IfOk, OnOk};
 ghost use Rattle.rand_core.specs.Steps.{first_words};
 ghost use Rattle.rand_pcg.specs.Pcg.{pcg32};
-ghost use Rattle.tt_generate.specs.Workload.{ended, job_line, job_lines, job_of, last_line, workload_text};
+ghost use Rattle.tt_generate.specs.Workload.{line_and_newline, job_line, job_of, last_line, workload_text};
+ghost use Rattle.tt_generate.specs.inside.JobLines.{job_lines};
 
 use rand_core::SeedableRng;
 use rand_core::utils::NextWord;
@@ -13,8 +14,8 @@ use tt_text::{NoMemory, Text};
 const BEFORE_JOBS: &[u8] = b"set p [tpool::create -maxworkers 4]\nset jobs {}\n";
 
 /// What stands after them: the jobs are waited for, and the sum of each key is written, in the order of the keys.
-const AFTER_JOBS: &[u8] =
-    b"while {[llength $jobs]} {tpool::wait $p $jobs jobs}\nforeach k [lsort [tsv::array names sum]] {puts \"$k [tsv::get sum $k]\"}\n";
+const AFTER_JOBS: &[u8] = b"while {[llength $jobs]} {tpool::wait $p $jobs jobs}\n\
+      foreach k [lsort [tsv::array names sum]] {puts \"$k [tsv::get sum $k]\"}\n";
 
 /// A job of a pool: it adds a value to the sum of a key.
 #[derive(Clone, Copy)]
@@ -28,7 +29,7 @@ pub(crate) struct Job {
 /// A script that posts `size` jobs to a pool of at most 4 workers, waits for them all, and writes the sum of each key
 /// and how many jobs there were. Keys and values are drawn from the generator that is seeded with `number`.
 ///
-/// `NoMemory` where memory for the text is refused.
+/// `NoMemory` if memory for the text is refused.
 pub fn workload(alloc: Global, number: u64, size: u32) -> Result<Text, NoMemory>
     ensures made { IfOk result (λ text. text ≡ workload_text number size) }
 {
@@ -70,7 +71,7 @@ fn next_job(generator: &mut Lcg64Xsh32) -> Job
 
 /// Adds the line of a job.
 fn push_job(alloc: Global, text: &mut Text, job: Job) -> Result<(), NoMemory>
-    ensures { OnOk result (text.new ≡ text.old ++ ended (job_line job)) }
+    ensures { OnOk result (text.new ≡ text.old ++ line_and_newline (job_line job)) }
 {
     let key = job.key;
     let value = job.value;
@@ -80,9 +81,9 @@ fn push_job(alloc: Global, text: &mut Text, job: Job) -> Result<(), NoMemory>
     text.push_bytes(line.as_bytes())
 }
 
-/// Adds the last line, which tells how many jobs there were.
+/// Adds the last line, which says how many jobs there were.
 fn push_count(alloc: Global, text: &mut Text, size: u32) -> Result<(), NoMemory>
-    ensures { OnOk result (text.new ≡ text.old ++ ended (last_line size)) }
+    ensures { OnOk result (text.new ≡ text.old ++ line_and_newline (last_line size)) }
 {
     let line = format!(in alloc; "puts \"jobs {size}\"\n")?;
     text.push_bytes(line.as_bytes())
