@@ -10,13 +10,13 @@ use Rattle.tt_calls.specs.declared.tsv_call.TsvCall.{TsvCall}
 use Rattle.laws_shared.proofs.Families.{arrays_kept}
 use Rattle.laws_shared.specs.Actions.{Action, CanHappen, acted, after, more, none}
 use Rattle.laws_shared.specs.ArrayCalls.{ArrayCall, array_call, array_calls, array_replies, array_steps, arrays_after, reply_where}
-use Rattle.laws_shared.specs.Laws.{ArraysAloneLaw, ArraysStandAlone}
+use Rattle.laws_shared.specs.SharedLaws.{ArraysAloneLaw, ArraysStandAlone}
 use Rattle.tt_shared.specs.Acts.{act}
 use Rattle.tt_shared.specs.Enabled.{enabled}
 use Rattle.tt_shared.specs.State.{State, reply_of}
 use Rattle.tt_shared.specs.declared.applied.Line.{Line}
-use Rattle.tt_tsv.specs.Answers.{step_after, table_after, waits}
-use Rattle.tt_tsv.specs.Answers as arrays
+use Rattle.tt_tsv.specs.Calls.{step_after, table_after, waits}
+use Rattle.tt_tsv.specs.Calls as arrays
 use Rattle.tt_tsv.specs.Arrays.{Table}
 
 -- a call that need not wait is answered

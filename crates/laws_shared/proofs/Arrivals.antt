@@ -7,7 +7,7 @@ use Rattle.tt_calls.specs.declared.event.Event.TheVariants as event
 use Rattle.laws_shared.proofs.Deciding as deciding
 use Rattle.laws_shared.proofs.Numbered.{by_more, by_number, length-put, put_here}
 use Rattle.laws_shared.specs.KeptChannels.{arrivals, brings, events_in}
-use Rattle.tt_shared.specs.Mail.{Queues, emptied, emptied_in, placed, queue_of, queued, queued_in, with_queue}
+use Rattle.tt_shared.specs.Mail.{Queues, emptied, emptied_in, with_event, queue_of, queued, queued_in, with_queue}
 
 abbrev pub weight : (text : List ℕ) → Event → ℕ
 weight text event = cond (brings text event) 1 0
@@ -18,7 +18,7 @@ count text events = count_by (brings text) events
 pub count-cons : (text : List ℕ) (event : Event) (events : List Event) → count text (event ∷ events) ≡ weight text event + count text events
 count-cons text event events = sum_by-cons (weight text) event events
 
-count-placed : (text : List ℕ) (head : Bool) (event : Event) (events : List Event) → count text (placed head event events) ≡ count text events + weight text event
+count-placed : (text : List ℕ) (head : Bool) (event : Event) (events : List Event) → count text (with_event head event events) ≡ count text events + weight text event
 count-placed text true event events = count-cons text event events ∙ omega arith
 count-placed text false event events = sum_by_push (weight text) events event
 
@@ -48,7 +48,7 @@ by_mail queues t head event quiet = go (queue_of queues t) refl
     go : (found : Option (List Event)) → queue_of queues t ≡ found → SameArrivals queues (queued_in queues t head event found)
     go None there u text = refl
     go (Some events) there u text =
-        by_queue queues t u text events (placed head event events) (arrivals queues u text) there
+        by_queue queues t u text events (with_event head event events) (arrivals queues u text) there
         (λ same.
         let none : weight text event ≡ 0 = ap (λ b. cond b 1 0) (quiet text) in
         let had : arrivals queues u text ≡ count text events = ap (λ one. arrivals queues one text) same ∙ ap (λ found. count text (events_in found)) there in
@@ -60,7 +60,7 @@ many_mail queues t head event = go (queue_of queues t)
   where
     go : (found : Option (List Event)) → length (queued_in queues t head event found) ≡ length queues
     go None = refl
-    go (Some events) = length-put queues (t - 1) (placed head event events)
+    go (Some events) = length-put queues (t - 1) (with_event head event events)
 
 -- a queue more
 pub by_new : (queues : Queues) → SameArrivals queues (queues ++ [] ∷ [])
@@ -74,7 +74,7 @@ pub by_sending : (queues : Queues) (t u : ℕ) (events : List Event) (channel te
     → arrivals (queued queues t false (event.Moved channel)) u text ≡ arrivals queues u text + (if u == t then weight text (event.Moved channel) else 0)
 by_sending queues t u events channel text there =
     ap (λ found. arrivals (queued_in queues t false (event.Moved channel) found) u text) there
-    ∙ by_queue queues t u text events (placed false (event.Moved channel) events) _ there
+    ∙ by_queue queues t u text events (with_event false (event.Moved channel) events) _ there
     (λ same.
     let had : arrivals queues u text ≡ count text events = ap (λ one. arrivals queues one text) same ∙ ap (λ found. count text (events_in found)) there in
     let at : (u == t) ≡ true = grind (arith, nat_tests, same) in

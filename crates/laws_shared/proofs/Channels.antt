@@ -7,14 +7,14 @@ use Rattle.tt_calls.specs.declared.reply.Step.{Step}
 use Rattle.tt_calls.specs.declared.reply.Step.TheVariants as step
 use Rattle.tt_calls.specs.declared.request.Request.{Request}
 use Rattle.tt_calls.specs.declared.request.Request.TheVariants as ask
-use Rattle.tt_chans.specs.Answers.{table_after}
+use Rattle.tt_chans.specs.Calls.{table_after}
 use Rattle.tt_chans.specs.Channels.{ChannelTable, channel_of, given, table_after_end}
 use Rattle.tt_chans.specs.Ends.{is_owned, owned}
 use Rattle.tt_chans.specs.declared.channel.Channel.{Channel}
 use Rattle.tt_chans.specs.declared.channel.Owner.{Owner}
 use Rattle.tt_chans.specs.declared.channel.Owner.TheVariants.{Thread, Detached, Moving}
 use Rattle.laws_shared.proofs.Families.{Families, by_moves, by_starts, quiet}
-use Rattle.tt_pools.specs.Answers as pools
+use Rattle.tt_pools.specs.Calls as pools
 use Rattle.tt_pools.specs.declared.step.PoolStep.{PoolStep}
 use Rattle.tt_shared.specs.Acts.{act, gives_of, pools_after, target_of}
 use Rattle.tt_shared.specs.Mail.{first_of}

@@ -18,7 +18,7 @@ use Rattle.tt_calls.specs.declared.start.Start.{Start}
 use Rattle.tt_chans.specs.Channels.{ChannelTable}
 use Rattle.tt_locks.specs.Table.{LockTable}
 use Rattle.tt_calls.specs.declared.pool_call.PoolCall.{PoolCall}
-use Rattle.tt_pools.specs.Answers as pools
+use Rattle.tt_pools.specs.Calls as pools
 use Rattle.tt_pools.specs.declared.step.PoolStep.{PoolStep}
 use Rattle.tt_shared.specs.Acts.{act, creates, gives_of, has_newline, moves, on_pools, pools_after, reads, starts, stops_unheld, with_workers}
 use Rattle.tt_shared.specs.Sends.{awaits_at, broadcasts_to, come, delivers_at, delivers_value, is_asked, names_procedure, procedure_in_use, reports_to, sends, sends_linked, sends_named, sets, takes, takes_first}
@@ -30,7 +30,7 @@ use Rattle.tt_shared.specs.declared.posts.VariablePost.{VariablePost}
 use Rattle.tt_shared.specs.declared.reports.ErrorProcedure.{ErrorProcedure}
 use Rattle.tt_slots.specs.Waiting.{slot_of}
 use Rattle.tt_slots.specs.declared.slot.Slot.{Slot}
-use Rattle.tt_threads.specs.Answers as threads
+use Rattle.tt_threads.specs.Requests as threads
 use Rattle.tt_threads.specs.Rows.{linked, new_row}
 use Rattle.tt_threads.specs.declared.row.Row.{Row}
 use Rattle.tt_tsv.specs.Arrays.{Table}

@@ -99,7 +99,7 @@ module _ (state : State) (id : List ℕ) (drawn : IsDrawn state.channels) where
   abbrev QuietIn : ChannelTable → Type 0
   QuietIn other = other.next < 2 ^ 64 → Quiet (channel_of other id)
 
-  quiet_call : (t : ℕ) (target : Option ℕ) (call : ChanCall) → moves_bytes call ≡ false → QuietIn (Rattle.tt_chans.specs.Answers.table_after table t target call)
+  quiet_call : (t : ℕ) (target : Option ℕ) (call : ChanCall) → moves_bytes call ≡ false → QuietIn (Rattle.tt_chans.specs.Calls.table_after table t target call)
   quiet_call t target call quiet =
       by_call QuietIn table t target (λ small. same) call
       (λ text old new there changes small. by_change call t target text old new quiet there changes)

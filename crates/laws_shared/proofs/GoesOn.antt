@@ -1,7 +1,7 @@
 -- A run goes on by an action that can happen.
 use Rattle.std.proofs.Common.{List, [], ◌∷◌, ◌++◌}
 use Rattle.laws_shared.specs.Actions.{Action, Acts, CanHappen, after, more, none}
-use Rattle.laws_shared.specs.Laws.{GoesOnLaw}
+use Rattle.laws_shared.specs.SharedLaws.{GoesOnLaw}
 use Rattle.tt_shared.specs.State.{State, start_state}
 
 one_more : (old next : State) (actions : List Action) (action : Action) → Acts old actions next → CanHappen next action → Acts old (actions ++ action ∷ []) (after next action)

@@ -14,7 +14,7 @@ use Rattle.tt_calls.specs.declared.request.Request.TheVariants as ask
 use Rattle.tt_chans.specs.Channels.{ChannelTable}
 use Rattle.tt_chans.specs.declared.channel.Channel.{Channel}
 use Rattle.laws_shared.specs.Actions.{Moment, acted}
-use Rattle.laws_shared.specs.Happenings.{Asks, Happening, Happening as happening, asks_of, began, deaths, delivered, got, happened, happens, hold_changed, holders_in, holds_changed, holds_of, is_owner, lock_named, others, owner_changed, owners_changed, post_died, post_set, posted_from, reported, sent, set_of, set_where, slot_died}
+use Rattle.laws_shared.specs.Happenings.{Recipient, Happening, Happening as happening, recipient_of, began, deaths, delivered, got, happened, happens, hold_changed, holders_in, holds_changed, holds_of, is_owner, lock_named, others, owner_changed, owners_changed, post_died, post_set, posted_from, reported, sent, set_of, set_where, slot_died}
 use Rattle.laws_shared.specs.Owners.{owner_at}
 use Rattle.tt_locks.specs.Lock.{is_among}
 use Rattle.tt_locks.specs.Table.{LockTable, lock_of}
@@ -54,7 +54,7 @@ among_more old holders t more = go (is_among holders t) refl
 
 -- a hold that was got is there
 abbrev pub IsHeld : LockTable → Happening → Type 0
-IsHeld table (happening.Holds text t) = is_among (holders_in (lock_of table text)) t ≡ true
+IsHeld table (happening.GetsHold text t) = is_among (holders_in (lock_of table text)) t ≡ true
 IsHeld table other = ⊤
 
 module _ (new : LockTable) where
@@ -72,7 +72,7 @@ module _ (new : LockTable) where
   each f holds [] = nothing
   each f holds (x ∷ xs) = All-append (IsHeld new) (f x) (flat_map f xs) (holds x) (each f holds xs)
 
-  by_sent : (t : ℕ) (target : Option ℕ) (asks : Asks) (head : Bool) (told : Reply) → All (IsHeld new) (sent t target asks head told)
+  by_sent : (t : ℕ) (target : Option ℕ) (asks : Recipient) (head : Bool) (told : Reply) → All (IsHeld new) (sent t target asks head told)
   by_sent t (Some target) asks head (reply.Posted n) = one _ tt
   by_sent t target asks head told = nothing
 
@@ -128,7 +128,7 @@ module _ (new : LockTable) where
       later = holds_of new text t
 
       go : (b : Bool) → nat_lt (holds_of old text t) (holds_of new text t) ≡ b
-          → All (IsHeld new) (if b then happening.Holds text t ∷ [] else (if nat_lt (holds_of new text t) (holds_of old text t) then happening.Frees text t ∷ [] else []))
+          → All (IsHeld new) (if b then happening.GetsHold text t ∷ [] else (if nat_lt (holds_of new text t) (holds_of old text t) then happening.Frees text t ∷ [] else []))
       go true is = one _ (among_more (holds_of old text t) (holders_in (lock_of new text)) t is)
       go false is = if_one (nat_lt (holds_of new text t) (holds_of old text t)) _ tt
 
@@ -137,7 +137,7 @@ module _ (new : LockTable) where
   by_locks old t (Some text) = by_hold old text t
 
 by_table : (old new : State) (t : ℕ) (request : Request) (told : Reply) → All (IsHeld new.locks) (happens old new t request told)
-by_table old new t (ask.Send text script mode variable head) told = by_sent new.locks t (linked old.rows text) (asks_of mode variable) head told
+by_table old new t (ask.Send text script mode variable head) told = by_sent new.locks t (linked old.rows text) (recipient_of mode variable) head told
 by_table old new t (ask.Report trace plain) told = by_reported new.locks old t (procedure_in_use old plain old.error_procedure)
 by_table old new t (ask.Broadcast script) told = by_posted new.locks old.posts.next t (others old t)
 by_table old new t ask.Take told = by_began new.locks told

@@ -10,13 +10,13 @@ use Rattle.laws_shared.proofs.Families.{arrays_kept}
 use Rattle.laws_shared.proofs.HeldStays.{IsDeep, own_call}
 use Rattle.laws_shared.specs.Actions.{Action, CanHappen, Moment, after, moments, more, none}
 use Rattle.laws_shared.specs.HeldArrays.{EndsHold, HoldsArray, IsOn}
-use Rattle.laws_shared.specs.Laws.{HeldAloneLaw, OthersWaitLaw}
+use Rattle.laws_shared.specs.SharedLaws.{HeldAloneLaw, OthersWaitLaw}
 use Rattle.tt_shared.specs.Acts.{act}
 use Rattle.tt_shared.specs.Enabled.{enabled}
 use Rattle.tt_shared.specs.State.{State}
 use Rattle.tt_shared.specs.declared.applied.Line.{Line}
 use Rattle.tt_tsv.proofs.HeldLaw.{closed_to_others}
-use Rattle.tt_tsv.specs.Answers.{is_held_by_other, is_own, table_after, waits_for}
+use Rattle.tt_tsv.specs.Calls.{is_held_by_other, is_own, table_after, waits_for}
 use Rattle.tt_tsv.specs.Arrays.{array_of}
 use Rattle.tt_tsv.specs.declared.array.Array.{Array}
 

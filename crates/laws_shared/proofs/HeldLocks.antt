@@ -10,10 +10,10 @@ use Rattle.laws_shared.proofs.LockCalls.{one_of, still_after}
 use Rattle.laws_shared.proofs.LockHolds.{Still, among, one-alone}
 use Rattle.laws_shared.specs.Actions.{Action, Acts, Moment, Reached, after, moments, more, none}
 use Rattle.laws_shared.specs.Happenings.{Happening, Happening as happening, happened, happenings, holders_in}
-use Rattle.laws_shared.specs.HeldLocks.{Holds, hold_in, hold_of, is_alone}
-use Rattle.laws_shared.specs.Laws.{HoldStaysLaw, LocksHaveOneHolder, OneHolderLaw as OneHoldLaw}
+use Rattle.laws_shared.specs.HeldLocks.{HoldsLock, hold_in, hold_of, is_alone}
+use Rattle.laws_shared.specs.SharedLaws.{HoldStaysLaw, LocksHaveOneHolder, OneHolderLaw as OneHoldLaw}
 use Rattle.tt_locks.proofs.HolderLaw.{one_holder}
-use Rattle.tt_locks.specs.Laws.{HaveOneHolder}
+use Rattle.tt_locks.specs.LockLaws.{HaveOneHolder}
 use Rattle.tt_locks.specs.Lock.{is_among}
 use Rattle.tt_locks.specs.Table.{LockTable, lock_of}
 use Rattle.tt_locks.specs.declared.lock.Lock.{Lock}
@@ -76,13 +76,13 @@ there None alone some is = absurd (cc some)
 there (Some now) alone some is = ap Some (is now refl)
 
 pub stays_one : (state : State) (action : Action) (t : ℕ) (text : List ℕ) (alone : Bool) → HaveOneHolder state.locks → hold_of state t text ≡ Some alone
-    → Holds (after state action) t text → hold_of (after state action) t text ≡ Some alone
+    → HoldsLock (after state action) t text → hold_of (after state action) t text ≡ Some alone
 stays_one state action t text alone have was holds =
     there (hold_of (after state action) t text) alone holds (still state t action.thread text alone action.request action.line have was)
 
 -- what is got of a lock that is held alone
 Mine : Bool → ℕ → List ℕ → Happening → Type 0
-Mine alone t text what = alone ≡ true → (other : ℕ) → what ≡ happening.Holds text other → other ≡ t
+Mine alone t text what = alone ≡ true → (other : ℕ) → what ≡ happening.GetsHold text other → other ≡ t
 
 got_mine : (state : State) (action : Action) (t : ℕ) (text : List ℕ) (alone : Bool) → HaveOneHolder (after state action).locks → hold_of (after state action) t text ≡ Some alone
     → All (Mine alone t text) (happened (record { before = state; action = action }))
@@ -95,23 +95,23 @@ got_mine state action t text alone have holds =
     (happened (record { before = state; action = action })) (got_held (record { before = state; action = action }))
 
 pub got_one : (state : State) (action : Action) (t other : ℕ) (text : List ℕ) → HaveOneHolder (after state action).locks → hold_of (after state action) t text ≡ Some true
-    → Contains (happened (record { before = state; action = action })) (happening.Holds text other) → other ≡ t
+    → Contains (happened (record { before = state; action = action })) (happening.GetsHold text other) → other ≡ t
 unfolding Mine
 got_one state action t other text have holds got =
-    All-contains (Mine true t text) (happened (record { before = state; action = action })) (happening.Holds text other) (got_mine state action t text true have holds) got refl other refl
+    All-contains (Mine true t text) (happened (record { before = state; action = action })) (happening.GetsHold text other) (got_mine state action t text true have holds) got refl other refl
 
 record Kept (old : State) (actions : List Action) (new : State) (t : ℕ) (text : List ℕ) (alone : Bool) : Type 0 where
   stays : hold_of new t text ≡ Some alone
   mine : All (Mine alone t text) (happenings old actions)
 
 along : (old new : State) (actions : List Action) (t : ℕ) (text : List ℕ) (alone : Bool) → HaveOneHolder old.locks → Acts old actions new → hold_of old t text ≡ Some alone
-    → All (λ moment. Holds (after moment.before moment.action) t text) (moments old actions) → Kept old actions new t text alone
+    → All (λ moment. HoldsLock (after moment.before moment.action) t text) (moments old actions) → Kept old actions new t text alone
 along old new [] t text alone have none was holds = record { stays = was; mine = All-nil (Mine alone t text) }
 along old new (action ∷ actions) t text alone have (more can rest) was holds =
     let first : Moment = record { before = old; action = action } in
     let next = after old action in
     let others = moments next actions in
-    let holding = λ (moment : Moment). Holds (after moment.before moment.action) t text in
+    let holding = λ (moment : Moment). HoldsLock (after moment.before moment.action) t text in
     let now = stays_one old action t text alone have was (All-head holding first others holds) in
     let have_next = have_after old action.thread action.request action.line have in
     let later = along next new actions t text alone have_next rest now (All-tail holding first others holds) in
@@ -126,5 +126,5 @@ hold_stays old new actions t text alone reached acts was holds =
     let kept = along old new actions t text alone (reached_have old reached) acts was holds in
     record {
       stays = kept.stays;
-      none = λ is other got. All-contains (Mine alone t text) (happenings old actions) (happening.Holds text other) kept.mine got is other refl;
+      none = λ is other got. All-contains (Mine alone t text) (happenings old actions) (happening.GetsHold text other) kept.mine got is other refl;
     }

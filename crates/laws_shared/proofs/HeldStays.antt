@@ -9,8 +9,9 @@ use Rattle.tt_calls.specs.declared.tsv_call.TsvCall.TheVariants.{Hold, Unhold, R
 use Rattle.tt_lists.specs.declared.items.Split.{Split}
 use Rattle.tt_lists.specs.declared.items.Split.TheVariants as split
 use Rattle.laws_shared.proofs.Deciding as deciding
-use Rattle.tt_tsv.specs.Answers.{act, answers, array_act, changes, done, exists_message, fills, is_own, moves_of, refills, refuses, run, run_asked, table_after, unsets, waits}
-use Rattle.tt_tsv.specs.Arrays.{Table, added, array_of, changed, changes_in, element_of, emptied, held, is_held, is_held_by, let_go, made, makes_in, with_element, without_array, without_element}
+use Rattle.tt_calls.specs.Replies.{answers, refuses}
+use Rattle.tt_tsv.specs.Calls.{act, array_act, changes, empty_answer, exists_message, fills, is_own, moves_of, refills, run, run_asked, table_after, unsets, waits}
+use Rattle.tt_tsv.specs.Arrays.{Table, added, array_of, changed, changes_in, element_of, emptied, held, is_held, is_held_by, let_go, with_array, makes_in, with_element, without_array, without_element}
 use Rattle.tt_tsv.specs.Words.{Asked, asked_of}
 use Rattle.tt_tsv.specs.declared.array.Array.{Array}
 
@@ -104,7 +105,7 @@ module _ (t : ℕ) (name other : List ℕ) where
   by_made change keeps table (Some array) is own =
       by_set table (change array) (λ same held. keeps array (subst (λ found. is_own t found ≡ true) is held)) own
 
-  by_put : (table : Table) (key value : List ℕ) → Stays t name table (made (with_element key value) table other)
+  by_put : (table : Table) (key value : List ℕ) → Stays t name table (with_array (with_element key value) table other)
   by_put table key value own = by_made (with_element key value) (λ array is. is) table (array_of table other) refl own
 
   by_removed : (table : Table) (key : List ℕ) → Stays t name table (changed (without_element key) table other)
@@ -120,7 +121,7 @@ module _ (t : ℕ) (name other : List ℕ) where
       without : Table
       without = changed (without_element key) table other
 
-      go : (b : Bool) → is_own t (array_of (if b then refuses table (exists_message new) else done (made (with_element new value) without other)).table name) ≡ true
+      go : (b : Bool) → is_own t (array_of (if b then refuses table (exists_message new) else empty_answer (with_array (with_element new value) without other)).table name) ≡ true
       go true = own
       go false =
           by_made (with_element new value) (λ array is. is) without (array_of without other) refl
@@ -138,7 +139,7 @@ module _ (t : ℕ) (name other : List ℕ) where
   by_fill table (split.Bad fault) own = own
   by_fill table (split.Items items) own = go (length items % 2 == 0)
     where
-      go : (b : Bool) → is_own t (array_of (if b then done (made (added items) table other) else refuses table (codes "list must have an even number of elements")).table name) ≡ true
+      go : (b : Bool) → is_own t (array_of (if b then empty_answer (with_array (added items) table other) else refuses table (codes "list must have an even number of elements")).table name) ≡ true
       go true = by_made (added items) (λ array is. is) table (array_of table other) refl own
       go false = own
 
@@ -149,7 +150,7 @@ module _ (t : ℕ) (name other : List ℕ) where
       without : Table
       without = changed emptied table other
 
-      go : (b : Bool) → is_own t (array_of (if b then done (made (added items) without other) else refuses table (codes "list must have an even number of elements")).table name) ≡ true
+      go : (b : Bool) → is_own t (array_of (if b then empty_answer (with_array (added items) without other) else refuses table (codes "list must have an even number of elements")).table name) ≡ true
       go true =
           by_made (added items) (λ array is. is) without (array_of without other) refl
           (by_changed emptied (λ array is. is) table (array_of table other) refl own)

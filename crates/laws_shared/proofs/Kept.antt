@@ -5,7 +5,7 @@ use Rattle.tt_calls.specs.declared.chan_call.ChanCall.{ChanCall}
 use Rattle.tt_calls.specs.declared.chan_call.ChanCall.TheVariants as chan
 use Rattle.tt_calls.specs.declared.event.Event.{Event}
 use Rattle.tt_calls.specs.declared.event.Event.TheVariants as event
-use Rattle.tt_chans.specs.Answers.{table_after}
+use Rattle.tt_chans.specs.Calls.{table_after}
 use Rattle.tt_chans.specs.Channels.{ChannelTable, channel_of, with_channel, with_pipe, without_channel}
 use Rattle.tt_chans.specs.Ends.{with_owner}
 use Rattle.tt_chans.specs.declared.channel.Channel.{Channel}
@@ -75,19 +75,19 @@ mild_kept old new mild kept = record {
 -- ---- an end with another owner ----
 
 -- what holds of a channel by its owner: the events that bring it, and who lives
-abbrev pub Holds : Queues → List Row → (text : List ℕ) → Option Owner → Type 0
-Holds queues rows text owner = ((u : ℕ) → arrivals queues u text ≡ expected owner u) × IfSome owner (OwnerLives rows)
+abbrev pub OwnerHolds : Queues → List Row → (text : List ℕ) → Option Owner → Type 0
+OwnerHolds queues rows text owner = ((u : ℕ) → arrivals queues u text ≡ expected owner u) × IfSome owner (OwnerLives rows)
 
 -- a table in which it holds of each
 pub record AllHold (queues : Queues) (rows : List Row) (table : ChannelTable) : Type 0 where
-  pub each : (text : List ℕ) → Holds queues rows text (owner_at table text)
+  pub each : (text : List ℕ) → OwnerHolds queues rows text (owner_at table text)
 
 by_new : (queues : Queues) (rows : List Row) (table : ChannelTable) (id : List ℕ) (new : Channel) → AllHold queues rows table
-    → Holds queues rows id (Some new.owner) → AllHold queues rows (with_channel table id new)
+    → OwnerHolds queues rows id (Some new.owner) → AllHold queues rows (with_channel table id new)
 by_new queues rows table id new all holds = record {
   each = λ text.
-      by_set (λ found. Holds queues rows text (owner_in found)) text id table.channels new
-      (λ same had. subst (λ one. Holds queues rows one (Some new.owner)) (sym same) holds)
+      by_set (λ found. OwnerHolds queues rows text (owner_in found)) text id table.channels new
+      (λ same had. subst (λ one. OwnerHolds queues rows one (Some new.owner)) (sym same) holds)
       (all.each text);
 }
 
@@ -101,47 +101,47 @@ module _ (queues : Queues) (rows : List Row) (table : ChannelTable) (t : ℕ) (l
   abbrev pub Good : ChannelTable → Type 0
   Good other = other.next < 2 ^ 64 → AllHold queues rows other
 
-  was : (id : List ℕ) (old : Channel) → channel_of table id ≡ Some old → Holds queues rows id (Some old.owner)
-  was id old there = subst (λ found. Holds queues rows id (owner_in found)) there (all.each id)
+  was : (id : List ℕ) (old : Channel) → channel_of table id ≡ Some old → OwnerHolds queues rows id (Some old.owner)
+  was id old there = subst (λ found. OwnerHolds queues rows id (owner_in found)) there (all.each id)
 
   by_change : (call : ChanCall) (target : Option ℕ) (id : List ℕ) (old new : Channel) → is_transfer call ≡ false → channel_of table id ≡ Some old
       → Changes t target call id old new → AllHold queues rows (with_channel table id new)
   by_change call target id old new other there (speaks moves is) =
-      by_new queues rows table id new all (subst (λ owner. Holds queues rows id (Some owner)) (sym is) (was id old there))
+      by_new queues rows table id new all (subst (λ owner. OwnerHolds queues rows id (Some owner)) (sym is) (was id old there))
   by_change call target id old new other there (detached asks mine is) =
-      let had : Holds queues rows id (Some (Thread t)) = subst (λ owner. Holds queues rows id (Some owner)) mine (was id old there) in
+      let had : OwnerHolds queues rows id (Some (Thread t)) = subst (λ owner. OwnerHolds queues rows id (Some owner)) mine (was id old there) in
       let owner : new.owner ≡ Detached = ap (λ one. one.owner) is in
-      by_new queues rows table id new all (subst (λ one. Holds queues rows id (Some one)) (sym owner) (had.0, tt))
+      by_new queues rows table id new all (subst (λ one. OwnerHolds queues rows id (Some one)) (sym owner) (had.0, tt))
   by_change call target id old new other there (moved asks goes mine is) =
       let both : true ≡ false = sym (ap is_transfer asks) ∙ other in absurd (cc both)
   by_change call target id old new other there (attached asks nobody is) =
-      let had : Holds queues rows id (Some Detached) = subst (λ owner. Holds queues rows id (Some owner)) nobody (was id old there) in
+      let had : OwnerHolds queues rows id (Some Detached) = subst (λ owner. OwnerHolds queues rows id (Some owner)) nobody (was id old there) in
       let owner : new.owner ≡ Thread t = ap (λ one. one.owner) is in
-      by_new queues rows table id new all (subst (λ one. Holds queues rows id (Some one)) (sym owner) (had.0, lives))
+      by_new queues rows table id new all (subst (λ one. OwnerHolds queues rows id (Some one)) (sym owner) (had.0, lives))
 
   by_close : (call : ChanCall) (id : List ℕ) (old : Channel) → IsFound t (channel_of table id) old → AllHold queues rows (without_channel table id)
   by_close call id old found = record { each = λ text. go text (is_key id text) refl }
     where
-      go : (text : List ℕ) (b : Bool) → is_key id text ≡ b → Holds queues rows text (owner_at (without_channel table id) text)
+      go : (text : List ℕ) (b : Bool) → is_key id text ≡ b → OwnerHolds queues rows text (owner_at (without_channel table id) text)
       go text true is =
           let same = same_key id text is in
-          let had : Holds queues rows id (Some (Thread t)) = subst (λ owner. Holds queues rows id (Some owner)) found.owner (was id old found.there) in
+          let had : OwnerHolds queues rows id (Some (Thread t)) = subst (λ owner. OwnerHolds queues rows id (Some owner)) found.owner (was id old found.there) in
           let none : owner_at (without_channel table id) id ≡ None = ap owner_in (remove_here id table.channels drawn.apart) in
-          subst (λ one. Holds queues rows one (owner_at (without_channel table id) one)) same
-          (subst (λ owner. Holds queues rows id owner) (sym none) (had.0, tt))
-      go text false is = by_remove (λ found. Holds queues rows text (owner_in found)) text id table.channels (other_key id text is) (all.each text)
+          subst (λ one. OwnerHolds queues rows one (owner_at (without_channel table id) one)) same
+          (subst (λ owner. OwnerHolds queues rows id owner) (sym none) (had.0, tt))
+      go text false is = by_remove (λ found. OwnerHolds queues rows text (owner_in found)) text id table.channels (other_key id text is) (all.each text)
 
   by_new_pipe : table.next + 2 < 2 ^ 64 → AllHold queues rows (with_pipe table t)
   by_new_pipe small = record {
     each = λ text.
-        by_pipe (λ found. Holds queues rows text (owner_in found)) table t text
+        by_pipe (λ found. OwnerHolds queues rows text (owner_in found)) table t text
         (λ same. fresh text (ap (owner_at table) same ∙ ap owner_in (read_new table drawn small)))
         (λ same. fresh text (ap (owner_at table) same ∙ ap owner_in (write_new table drawn small)))
         (all.each text);
   }
     where
-      fresh : (text : List ℕ) → owner_at table text ≡ None → Holds queues rows text (Some (Thread t))
-      fresh text none = ((subst (λ owner. Holds queues rows text owner) none (all.each text)).0, lives)
+      fresh : (text : List ℕ) → owner_at table text ≡ None → OwnerHolds queues rows text (Some (Thread t))
+      fresh text none = ((subst (λ owner. OwnerHolds queues rows text owner) none (all.each text)).0, lives)
 
   pub by_calls : (target : Option ℕ) (call : ChanCall) → is_transfer call ≡ false → Good (table_after table t target call)
   by_calls target call other =
@@ -186,13 +186,13 @@ by_sent queues rows table t to events id channel all there mine lives target dif
         nothing true = omega arith
         nothing false = omega arith
 
-    go : (text : List ℕ) (b : Bool) → is_key text id ≡ b → Holds sent rows text (owner_at (with_channel table id new) text)
+    go : (text : List ℕ) (b : Bool) → is_key text id ≡ b → OwnerHolds sent rows text (owner_at (with_channel table id new) text)
     go text true is =
         let same : text ≡ id = same_key text id is in
         let put : owner_at (with_channel table id new) id ≡ Some new.owner = ap owner_in (set_here id table.channels new channel there) in
-        subst (λ id'. Holds sent rows id' (owner_at (with_channel table id new) id')) (sym same)
-        (subst (λ owner. Holds sent rows id owner) (sym put) (one, (target, (lives, differs))))
+        subst (λ id'. OwnerHolds sent rows id' (owner_at (with_channel table id new) id')) (sym same)
+        (subst (λ owner. OwnerHolds sent rows id owner) (sym put) (one, (target, (lives, differs))))
     go text false is =
         let other : text ≢ id = λ same. other_key text id is (sym same) in
-        by_set (λ found. Holds sent rows text (owner_in found)) text id table.channels new (λ same had. absurd (other same))
+        by_set (λ found. OwnerHolds sent rows text (owner_in found)) text id table.channels new (λ same had. absurd (other same))
         ((λ u. others text other u ∙ (all.each text).0 u), (all.each text).1)

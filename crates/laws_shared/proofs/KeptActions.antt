@@ -1,6 +1,8 @@
 -- Each action of a thread that lives keeps the channels, and so does a run.
 use Rattle.std.proofs.Common.{◌≡◌, ◌∙◌, ◌-◌, ◌<◌, ◌^◌, ◌==◌, ℕ, zero, suc, Bool, true, false, if◌then◌else◌, List, [], ◌∷◌, length, slice_get, codes, Option, Some, None, IfSome, ap, refl, sym, subst, ℤ, arith}
 use Rattle.std.specs.Map.{values_of}
+use Rattle.tt_calls.specs.Replies as replies
+use Rattle.tt_calls.specs.Replies.{Answered}
 use Rattle.tt_calls.specs.declared.chan_call.ChanCall.{ChanCall}
 use Rattle.tt_calls.specs.declared.chan_call.ChanCall.TheVariants as chan
 use Rattle.tt_calls.specs.declared.event.Event.{Event}
@@ -11,7 +13,7 @@ use Rattle.tt_calls.specs.declared.reply.Step.TheVariants as step
 use Rattle.tt_calls.specs.declared.request.Request.{Request}
 use Rattle.tt_calls.specs.declared.request.Request.TheVariants as ask
 use Rattle.tt_calls.specs.declared.start.Start.{Start}
-use Rattle.tt_chans.specs.Answers as channels
+use Rattle.tt_chans.specs.Calls as channels
 use Rattle.tt_chans.specs.Channels.{ChannelTable, channel_of, is_standard}
 use Rattle.tt_chans.specs.Ends.{owned}
 use Rattle.tt_chans.specs.declared.channel.Channel.{Channel}
@@ -28,10 +30,10 @@ use Rattle.laws_shared.proofs.Lives.{IsLinked, linked_is, many_end}
 use Rattle.laws_shared.proofs.Mild.{HaveQueues, by_starts, mild}
 use Rattle.laws_shared.proofs.Numbered.{length-put}
 use Rattle.laws_shared.specs.KeptChannels.{AreKept, IsKept, arrivals, events_in}
-use Rattle.laws_shared.specs.Laws.{ChannelsAreKeptLaw}
+use Rattle.laws_shared.specs.SharedLaws.{ChannelsAreKeptLaw}
 use Rattle.laws_shared.specs.Owners.{owner_at}
 use Rattle.laws_shared.specs.Actions.{Action, Acts, NumbersFit, Reached, after, more, none}
-use Rattle.tt_pools.specs.Answers as pools
+use Rattle.tt_pools.specs.Calls as pools
 use Rattle.tt_pools.specs.declared.step.PoolStep.{PoolStep}
 use Rattle.tt_shared.specs.Acts.{act, gives_of, moves, on_channels, pools_after, target_of}
 use Rattle.tt_shared.specs.Ends.{died, ended, hears, tells_died, told_died}
@@ -113,10 +115,10 @@ has_queue state n row queues there = go (n == 0) there
 
 module _ (state : State) (t : ℕ) (lives : is_living state.rows t ≡ true) (kept : Kept state) (drawn : IsDrawn state.channels) where
   -- the state after an answer to a transfer
-  abbrev sent : (thread text : List ℕ) → (target : Option ℕ) → channels.Answered → State
+  abbrev sent : (thread text : List ℕ) → (target : Option ℕ) → Answered ChannelTable → State
   sent thread text target answered = moves (record state { channels = answered.table }) (chan.Transfer thread text) target answered.reply
 
-  refused : (thread text : List ℕ) (target : Option ℕ) (message : List ℕ) → Kept (sent thread text target (channels.refuses state.channels message))
+  refused : (thread text : List ℕ) (target : Option ℕ) (message : List ℕ) → Kept (sent thread text target (replies.refuses state.channels message))
   refused thread text None message = kept
   refused thread text (Some to) message = kept
 
@@ -133,8 +135,8 @@ module _ (state : State) (t : ℕ) (lives : is_living state.rows t ≡ true) (ke
 
       go : (b : Bool) → (to == t) ≡ b
           → Kept (sent thread text (Some to)
-          (if b then channels.answers state.channels (reply.Value []) else
-          channels.answers (Rattle.tt_chans.specs.Channels.with_channel state.channels text (Rattle.tt_chans.specs.Ends.with_owner channel (Moving (Some t) to))) reply.Go))
+          (if b then replies.answers state.channels (reply.Value []) else
+          replies.answers (Rattle.tt_chans.specs.Channels.with_channel state.channels text (Rattle.tt_chans.specs.Ends.with_owner channel (Moving (Some t) to))) reply.Go))
       go true is = kept
       go false is =
           kept_of _ (many_mail state.queues to false (event.Moved text) ∙ kept.queues)
@@ -154,7 +156,7 @@ module _ (state : State) (t : ℕ) (lives : is_living state.rows t ≡ true) (ke
           rw (is, channels.if_owned) (by_owner thread text (linked state.rows thread) channel refl (owned_is t (channel_of state.channels text) channel is))
 
       go : (b : Bool) → Kept (sent thread text (linked state.rows thread)
-          (if b then channels.refuses state.channels (channels.standard_message text (chan.Transfer thread text)) else
+          (if b then replies.refuses state.channels (channels.standard_message text (chan.Transfer thread text)) else
           channels.if_owned (channels.transfers state.channels t thread text (linked state.rows thread)) state.channels t text))
       go true = refused thread text (linked state.rows thread) _
       go false = own (owned t (channel_of state.channels text)) refl

@@ -11,7 +11,7 @@ use Rattle.tt_chans.specs.declared.channel.Owner.TheVariants.{Thread, Detached, 
 use Rattle.laws_shared.proofs.Deciding as deciding
 use Rattle.laws_shared.proofs.Apart.{other_key}
 use Rattle.laws_shared.proofs.Arrivals.{by_taking, count, count-cons, weight}
-use Rattle.laws_shared.proofs.Kept.{AllHold, Holds, expected}
+use Rattle.laws_shared.proofs.Kept.{AllHold, OwnerHolds, expected}
 use Rattle.laws_shared.proofs.Tables.{by_set, is_key, same_key, set_here}
 use Rattle.laws_shared.specs.KeptChannels.{arrivals, brings, events_in}
 use Rattle.laws_shared.specs.Owners.{owner_at, owner_in}
@@ -88,16 +88,16 @@ module _ (queues : Queues) (rows : List Row) (table : ChannelTable) (t : ℕ) (l
         new : Channel
         new = with_owner channel (owner_given t channel.owner)
 
-        go : (text : List ℕ) (b : Bool) → is_key text id ≡ b → Holds later rows text (owner_at (with_channel table id new) text)
+        go : (text : List ℕ) (b : Bool) → is_key text id ≡ b → OwnerHolds later rows text (owner_at (with_channel table id new) text)
         go text true is =
             let alike : text ≡ id = same_key text id is in
             let put : owner_at (with_channel table id new) id ≡ Some (Thread t) = ap owner_in (set_here id table.channels new channel found) ∙ ap Some (given_owner channel found) in
-            subst (λ one. Holds later rows one (owner_at (with_channel table id new) one)) (sym alike)
-            (subst (λ owner. Holds later rows id owner) (sym put) (none_left, lives))
+            subst (λ one. OwnerHolds later rows one (owner_at (with_channel table id new) one)) (sym alike)
+            (subst (λ owner. OwnerHolds later rows id owner) (sym put) (none_left, lives))
         go text false is =
             let other : text ≢ id = λ alike. other_key text id is (sym alike) in
             let not_it : weight text (event.Moved id) ≡ 0 = ap (λ b. cond b 1 0) (deciding.texts_apart id text (λ it. other (sym it))) in
-            by_set (λ one. Holds later rows text (owner_in one)) text id table.channels new (λ alike had. absurd (other alike))
+            by_set (λ one. OwnerHolds later rows text (owner_in one)) text id table.channels new (λ alike had. absurd (other alike))
             ((λ u. others (event.Moved id) text there not_it u ∙ (all.each text).0 u), (all.each text).1)
 
     pub by_coming : AllHold later rows (given table t id (channel_of table id))

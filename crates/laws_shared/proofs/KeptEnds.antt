@@ -9,7 +9,7 @@ use Rattle.laws_shared.proofs.Deciding as deciding
 use Rattle.laws_shared.proofs.Apart.{left, left-is}
 use Rattle.laws_shared.proofs.Arrivals.{SameArrivals, by_emptying}
 use Rattle.laws_shared.proofs.Drawn.{IsDrawn}
-use Rattle.laws_shared.proofs.Kept.{AllHold, Holds}
+use Rattle.laws_shared.proofs.Kept.{AllHold, OwnerHolds}
 use Rattle.laws_shared.proofs.Lives.{by_end}
 use Rattle.laws_shared.specs.KeptChannels.{arrivals}
 use Rattle.laws_shared.specs.Owners.{owner_in}
@@ -35,7 +35,7 @@ owner-left t channel = go (stays_open t channel)
 
 module _ (queues later : Queues) (rows : List Row) (t : ℕ) (code : ℤ) (text : List ℕ) (arrive : SameArrivals queues later) where
   abbrev HoldsThen : Option Owner → Type 0
-  HoldsThen owner = Holds (emptied later t) (with_end rows t code) text owner
+  HoldsThen owner = OwnerHolds (emptied later t) (with_end rows t code) text owner
 
   counted : (u : ℕ) → arrivals (emptied later t) u text ≡ (if u == t then 0 else arrivals queues u text)
   counted u = by_emptying later t u text ∙ ap (λ n. if u == t then 0 else n) (arrive u text)
@@ -53,7 +53,7 @@ module _ (queues later : Queues) (rows : List Row) (t : ℕ) (code : ℤ) (text 
           sym (ap deciding.one_if not_here)
       go false is = refl
 
-  goes_on : (owner : Owner) → Holds queues rows text (Some owner) → HoldsThen (owner_left t owner)
+  goes_on : (owner : Owner) → OwnerHolds queues rows text (Some owner) → HoldsThen (owner_left t owner)
   goes_on Detached holds = (nothing None holds.0, tt)
   goes_on (Thread s) holds = go (s == t) refl
     where
@@ -95,12 +95,12 @@ pub by_ending : (queues later : Queues) (rows : List Row) (table : ChannelTable)
     → AllHold (emptied later t) (with_end rows t code) (table_after_end table t)
 by_ending queues later rows table t code arrive drawn all = record {
   each = λ text.
-      subst (λ found. Holds (emptied later t) (with_end rows t code) text (owner_in found)) (sym (left-is (stays_open t) (after_end t) text table.channels drawn.apart))
+      subst (λ found. OwnerHolds (emptied later t) (with_end rows t code) text (owner_in found)) (sym (left-is (stays_open t) (after_end t) text table.channels drawn.apart))
       (go text (channel_of table text) (all.each text));
 }
   where
-    go : (text : List ℕ) (found : Option Channel) → Holds queues rows text (owner_in found) → Holds (emptied later t) (with_end rows t code) text (owner_in (left (stays_open t) (after_end t) found))
+    go : (text : List ℕ) (found : Option Channel) → OwnerHolds queues rows text (owner_in found) → OwnerHolds (emptied later t) (with_end rows t code) text (owner_in (left (stays_open t) (after_end t) found))
     go text None holds = (nothing queues later rows t code text arrive None holds.0, tt)
     go text (Some channel) holds =
-        subst (λ owner. Holds (emptied later t) (with_end rows t code) text owner) (sym (owner-left t channel))
+        subst (λ owner. OwnerHolds (emptied later t) (with_end rows t code) text owner) (sym (owner-left t channel))
         (goes_on queues later rows t code text arrive channel.owner holds)

@@ -5,8 +5,8 @@ use Rattle.tt_calls.specs.declared.request.Request.TheVariants as ask
 use Rattle.laws_shared.proofs.Numbered.{by_number, length-put, numbered-suc}
 use Rattle.tt_ids.specs.Ids.{id}
 use Rattle.tt_ids.specs.declared.id.IdKind.TheVariants.{Thread}
-use Rattle.tt_threads.specs.Answers as threads
-use Rattle.tt_threads.specs.Rows.{found_from, is_linked, is_living, is_living_at, linked, lives, made, row_of, with_end, with_end_at, with_row}
+use Rattle.tt_threads.specs.Requests as threads
+use Rattle.tt_threads.specs.Rows.{found_from, is_linked, is_living, is_living_at, linked, lives, row_of, thread_of_id, with_end, with_end_at, with_row}
 use Rattle.tt_threads.specs.declared.row.Life.{Life}
 use Rattle.tt_threads.specs.declared.row.Life.TheVariants.{Live, Marked, Ended}
 use Rattle.tt_threads.specs.declared.row.Row.{Row}
@@ -87,7 +87,7 @@ module _ (rows : List Row) where
   pub by_threads : (t : ℕ) (request : Request) → GoesOn rows (threads.act rows t request).rows
   by_threads t (ask.Preserve text) = by_counts threads.preserved (λ row is. is) text (threads.named rows t text)
   by_threads t (ask.Release text) = by_counts threads.released (λ row is. lives_at _ row.life is) text (threads.named rows t text)
-  by_threads t (ask.Join text) = by_joins t text (made rows text)
+  by_threads t (ask.Join text) = by_joins t text (thread_of_id rows text)
   by_threads t (ask.AwaitEnd n) = by_exit (row_of rows n)
   by_threads t (ask.Configure text words) = by_configures text words (linked rows text)
   by_threads t request = on_same rows

@@ -7,8 +7,9 @@ use Rattle.tt_calls.specs.declared.lock_call.Kind.{Kind}
 use Rattle.tt_calls.specs.declared.lock_call.Kind.TheVariants.{Exclusive, Recursive, ReadWrite, Condition}
 use Rattle.tt_calls.specs.declared.lock_call.LockCall.{LockCall}
 use Rattle.tt_calls.specs.declared.lock_call.LockCall.TheVariants as ask
-use Rattle.tt_locks.specs.Answers.{act, acts_on, begins, cond_waits, destroys, destroys_named, gives_up, table_after, waits, waits_where}
-use Rattle.tt_locks.specs.Laws.{HasOneHolder, HaveOneHolder}
+use Rattle.tt_calls.specs.Replies.{refuses}
+use Rattle.tt_locks.specs.Calls.{act, acts_on, begins, cond_waits, destroys, destroys_named, gives_up, is_first, table_after, waits, waits_where}
+use Rattle.tt_locks.specs.LockLaws.{HasOneHolder, HaveOneHolder}
 use Rattle.tt_locks.specs.Lock.{Done, does_go, family_of, free, held, locks, read_locks, unlocks, write_locks, has_none, is_among, is_owned, unheld, waits_alone}
 use Rattle.tt_locks.specs.Table.{LockTable, in_family, is_id, is_same, lock_in, lock_of, new_id, with_lock, with_new, without_lock}
 use Rattle.tt_locks.specs.declared.lock.Lock.{Lock}
@@ -91,33 +92,39 @@ module _ (table : LockTable) (t u : ℕ) (text : List ℕ) (alone : Bool) (have 
       go [] is = is
       go (b ∷ rest) is = by_insert (Still t alone) (b ∷ rest) (new_id table kind) table.others (free kind) (λ here. new) is
 
-  by_without : (id : List ℕ) (b : ℕ) → (text ≡ b ∷ id → ⊥) → StillIn (without_lock table (b ∷ id))
-  by_without id b other = go text other same
+  by_without : (id : List ℕ) → (text ≡ id → ⊥) → StillIn (without_lock table id)
+  by_without id other = go text other same
     where
-      go : (one : List ℕ) → (one ≡ b ∷ id → ⊥) → Still t alone (lock_of table one) → Still t alone (lock_of (without_lock table (b ∷ id)) one)
+      go : (one : List ℕ) → (one ≡ id → ⊥) → Still t alone (lock_of table one) → Still t alone (lock_of (without_lock table id) one)
       go [] other is = is
-      go (c ∷ rest) other is = by_remove (Still t alone) (c ∷ rest) (b ∷ id) table.others other is
+      go (c ∷ rest) other is = by_remove (Still t alone) (c ∷ rest) id table.others other is
 
-  by_destroy : (kind : Family) (id : List ℕ) → StillIn (destroys_named table kind id).table
-  by_destroy kind [] = same
-  by_destroy kind (b ∷ id) = go (lock_in table kind (b ∷ id)) refl
+  by_found : (kind : Family) (id : List ℕ) → StillIn (destroys table kind id (lock_in table kind id)).table
+  by_found kind id = go (lock_in table kind id) refl
     where
       both : (x y : Bool) → (x && y) ≡ true → x ≡ true
       both true y is = refl
       both false y is = absurd (cc is)
 
-      go : (found : Option Lock) → lock_in table kind (b ∷ id) ≡ found → StillIn (destroys table kind (b ∷ id) found).table
+      go : (found : Option Lock) → lock_in table kind id ≡ found → StillIn (destroys table kind id found).table
       go None is = same
       go (Some lock) is = unused (has_none lock.holders && has_none lock.waiters) refl
         where
-          in_use : (has_none lock.holders && has_none lock.waiters) ≡ true → text ≡ b ∷ id → ⊥
+          in_use : (has_none lock.holders && has_none lock.waiters) ≡ true → text ≡ id → ⊥
           in_use none here =
               none-among lock.holders t (both (has_none lock.holders) (has_none lock.waiters) none)
-              (among t lock alone (if_here (b ∷ id) lock (found_in table kind (b ∷ id) lock is).there here)).0
+              (among t lock alone (if_here id lock (found_in table kind id lock is).there here)).0
 
-          unused : (none : Bool) → (has_none lock.holders && has_none lock.waiters) ≡ none → StillIn (destroys table kind (b ∷ id) (Some lock)).table
-          unused true none = rw none (by_without id b (in_use none))
+          unused : (none : Bool) → (has_none lock.holders && has_none lock.waiters) ≡ none → StillIn (destroys table kind id (Some lock)).table
+          unused true none = rw none (by_without id (in_use none))
           unused false none = rw none same
+
+  by_destroy : (kind : Family) (id : List ℕ) → StillIn (destroys_named table kind id).table
+  by_destroy kind id = go (is_first kind id)
+    where
+      go : (first : Bool) → StillIn (if first then refuses table [] else destroys table kind id (lock_in table kind id)).table
+      go true = same
+      go false = by_found kind id
 
   by_begin : (other : LockTable) (condition : List ℕ) → StillIn other → StillIn (begins other u condition).table
   by_begin other condition still = go (lock_in other family.Condition condition) refl

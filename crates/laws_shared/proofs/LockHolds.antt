@@ -5,7 +5,7 @@ use Rattle.std.specs.List.{All}
 use Rattle.tt_calls.specs.declared.lock_call.Family.TheVariants as family
 use Rattle.tt_calls.specs.declared.lock_call.Kind.{Kind}
 use Rattle.tt_calls.specs.declared.lock_call.Kind.TheVariants.{Exclusive, Recursive, ReadWrite, Condition}
-use Rattle.tt_locks.specs.Laws.{AreAllowed, HasOneHolder}
+use Rattle.tt_locks.specs.LockLaws.{AreAllowed, HasOneHolder}
 use Rattle.tt_locks.specs.Lock.{Done, family_of, has_none, held, holds, is_among, locks, read_locks, unheld, unlocks, waits_alone, without_one, write_locks}
 use Rattle.tt_locks.specs.Table.{is_same}
 use Rattle.tt_locks.specs.declared.lock.Lock.{Lock}

@@ -24,7 +24,7 @@ use Rattle.tt_shared.specs.declared.reports.ErrorProcedure.{ErrorProcedure}
 use Rattle.tt_slots.specs.Waiting.{slot_of, with_state}
 use Rattle.tt_slots.specs.declared.slot.Slot.{Slot}
 use Rattle.tt_slots.specs.declared.slot.SlotState.TheVariants as slot
-use Rattle.tt_threads.specs.Answers as threads
+use Rattle.tt_threads.specs.Requests as threads
 use Rattle.tt_threads.specs.Rows.{is_living, is_living_at, linked, new_row}
 use Rattle.tt_threads.specs.declared.row.Row.{Row}
 

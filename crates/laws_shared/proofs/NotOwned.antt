@@ -1,17 +1,19 @@
 -- What a thread asks of a channel that it does not own is refused.
 use Rattle.std.proofs.Common.{◌≡◌, ◌∙◌, ◌==◌, ℕ, Bool, true, false, not, if◌then◌else◌, List, Option, Some, None, ap, refl, rules, tests}
+use Rattle.tt_calls.specs.Replies as replies
+use Rattle.tt_calls.specs.Replies.{Answered}
 use Rattle.tt_calls.specs.declared.chan_call.ChanCall.{ChanCall}
 use Rattle.tt_calls.specs.declared.chan_call.ChanCall.TheVariants as chan
 use Rattle.tt_calls.specs.declared.reply.Reply.TheVariants.{Refused}
 use Rattle.tt_calls.specs.declared.reply.Step.TheVariants as step
-use Rattle.tt_chans.specs.Answers as channels
+use Rattle.tt_chans.specs.Calls as channels
 use Rattle.tt_chans.specs.Channels.{ChannelTable, channel_of, is_standard}
 use Rattle.tt_chans.specs.Ends.{is_owned, owned}
 use Rattle.tt_chans.specs.declared.channel.Channel.{Channel}
 use Rattle.tt_chans.specs.declared.channel.Owner.{Owner}
 use Rattle.tt_chans.specs.declared.channel.Owner.TheVariants.{Thread, Detached, Moving}
-use Rattle.laws_shared.specs.Laws.{NotOwnedLaw}
-use Rattle.laws_shared.specs.Owners.{asks_owner, no_channel, owner_in}
+use Rattle.laws_shared.specs.SharedLaws.{NotOwnedLaw}
+use Rattle.laws_shared.specs.Owners.{asks_owner, owner_in}
 use Rattle.tt_shared.specs.Acts.{moves, on_channels, target_of}
 use Rattle.tt_shared.specs.State.{State, answers, refuses, reply_of}
 
@@ -33,7 +35,7 @@ not_owned t (Some channel) other = go channel.owner refl
     go (Moving from to) is = if-not (is_owned channel.owner t) (ap (λ owner. is_owned owner t) is)
 
 module _ (table : ChannelTable) (t : ℕ) where
-  is-none : (does : Channel → channels.Answered) (text : List ℕ) → owned t (channel_of table text) ≡ None → channels.if_owned does table t text ≡ channels.not_found table text
+  is-none : (does : Channel → Answered ChannelTable) (text : List ℕ) → owned t (channel_of table text) ≡ None → channels.if_owned does table t text ≡ channels.not_found table text
   is-none does text none = rw (none, channels.if_owned) refl
 
   -- the call is one of those that the owner alone may make
@@ -55,7 +57,7 @@ module _ (table : ChannelTable) (t : ℕ) where
   act_is : (target : Option ℕ) (call : ChanCall) → is_standard (channels.id_of call) ≡ false → channels.act table t target call ≡ channels.act_own table t target call
   act_is target call other = go (is_standard (channels.id_of call)) other
     where
-      go : (b : Bool) → b ≡ false → (if b then channels.refuses table (channels.standard_message (channels.id_of call) call) else channels.act_own table t target call) ≡ channels.act_own table t target call
+      go : (b : Bool) → b ≡ false → (if b then replies.refuses table (channels.standard_message (channels.id_of call) call) else channels.act_own table t target call) ≡ channels.act_own table t target call
       go true is = absurd (cc is)
       go false is = refl
 
@@ -65,11 +67,11 @@ unmoved state (chan.Transfer text channel) (Some target) message = refl
 unmoved state call target message = refl
 
 told : (state : State) (t : ℕ) (call : ChanCall) (message : List ℕ) → channels.waits state.channels t call ≡ false
-    → channels.act state.channels t (target_of state call) call ≡ channels.refuses state.channels message
+    → channels.act state.channels t (target_of state call) call ≡ replies.refuses state.channels message
     → on_channels state t call ≡ refuses state message
 told state t call message free is =
     let target = target_of state call in
-    let answered = λ (waiting : Bool) (does : channels.Answered).
+    let answered = λ (waiting : Bool) (does : Answered ChannelTable).
     let reply = reply_of (if waiting then step.Wait else step.Reply does.reply) in
     let table = if waiting then state.channels else does.table in
     answers (moves (record state { channels = table }) call target reply) reply in
@@ -85,5 +87,5 @@ not_owned_law state t call line asks own other =
     let target = target_of state call in
     record {
       enabled = ap not free;
-      refused = told state t call (no_channel (channels.id_of call)) free (act_is table t target call own ∙ refused table t target call asks none);
+      refused = told state t call (channels.no_channel (channels.id_of call)) free (act_is table t target call own ∙ refused table t target call asks none);
     }

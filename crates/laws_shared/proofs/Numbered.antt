@@ -1,10 +1,7 @@
 -- What stands under a number, from 1, in a list after it was changed.
 use Rattle.std.proofs.Common.{◌≡◌, ◌∙◌, ◌-◌, ◌==◌, ℕ, zero, suc, Bool, true, false, List, [], ◌∷◌, ◌++◌, length, slice_get, slice_set, Option, Some, None, if◌then◌else◌, ap, refl, arith}
 use Rattle.std.proofs.lemmas.Bool.Decides.{nat_tests}
-
--- the element of a number
-abbrev pub numbered : {X : Type 0} → List X → ℕ → Option X
-numbered xs n = if n == 0 then None else slice_get xs (n - 1)
+use Rattle.tt_calls.specs.Numbers.{at_number}
 
 -- numbers are from 1
 not_zero : (i : ℕ) → (suc i == 0) ≡ false
@@ -28,7 +25,7 @@ module _ {X : Type 0} where
   past_place P (y ∷ ys) (suc j) x new is = past_place P ys j x (λ none same. new none (ap suc same)) is
 
   -- an element that is there is put in place of another
-  pub by_number : (P : Option X → Type 0) (xs : List X) (n m : ℕ) (x old : X) → numbered xs n ≡ Some old → (m ≡ n → P (Some x)) → P (numbered xs m) → P (numbered (slice_set xs (n - 1) x) m)
+  pub by_number : (P : Option X → Type 0) (xs : List X) (n m : ℕ) (x old : X) → at_number xs n ≡ Some old → (m ≡ n → P (Some x)) → P (at_number xs m) → P (at_number (slice_set xs (n - 1) x) m)
   by_number P xs n m x old there here is = go (n == 0) (m == 0) refl refl there is
     where
       go : (first second : Bool) → (n == 0) ≡ first → (m == 0) ≡ second
@@ -45,18 +42,18 @@ module _ {X : Type 0} where
   at_place (y ∷ ys) (suc i) x old there = at_place ys i x old there
 
   -- it is there then
-  pub put_here : (xs : List X) (n : ℕ) (x old : X) → numbered xs n ≡ Some old → numbered (slice_set xs (n - 1) x) n ≡ Some x
+  pub put_here : (xs : List X) (n : ℕ) (x old : X) → at_number xs n ≡ Some old → at_number (slice_set xs (n - 1) x) n ≡ Some x
   put_here xs n x old there = go (n == 0) there
     where
       go : (b : Bool) → (if b then None else slice_get xs (n - 1)) ≡ Some old → (if b then None else slice_get (slice_set xs (n - 1) x) (n - 1)) ≡ Some x
       go true there = absurd (cc there)
       go false there = at_place xs (n - 1) x old there
 
-  pub numbered-suc : (xs : List X) (i : ℕ) → numbered xs (suc i) ≡ slice_get xs i
+  pub numbered-suc : (xs : List X) (i : ℕ) → at_number xs (suc i) ≡ slice_get xs i
   numbered-suc xs i = ap (λ b. if b then None else slice_get xs (suc i - 1)) (not_zero i) ∙ ap (slice_get xs) (less_one i)
 
   -- one more at the end
-  pub by_more : (P : Option X → Type 0) (xs : List X) (m : ℕ) (x : X) → (P None → m ≡ suc (length xs) → P (Some x)) → P (numbered xs m) → P (numbered (xs ++ x ∷ []) m)
+  pub by_more : (P : Option X → Type 0) (xs : List X) (m : ℕ) (x : X) → (P None → m ≡ suc (length xs) → P (Some x)) → P (at_number xs m) → P (at_number (xs ++ x ∷ []) m)
   by_more P xs m x new is = go (m == 0) refl is
     where
       go : (b : Bool) → (m == 0) ≡ b → P (if b then None else slice_get xs (m - 1)) → P (if b then None else slice_get (xs ++ x ∷ []) (m - 1))

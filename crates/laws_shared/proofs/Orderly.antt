@@ -13,7 +13,7 @@ use Rattle.laws_shared.proofs.Pipes.{flow_after}
 use Rattle.laws_shared.specs.Actions.{CanHappen, Moment, NumbersFit, after}
 use Rattle.laws_shared.specs.Orderly.{KeepsArrays, KeepsChannels, KeepsLocks, OrderlyLaw, later}
 use Rattle.laws_shared.specs.Pipes.{Flows, bytes_at, put_at, taken_at}
-use Rattle.tt_locks.specs.Laws.{HaveOneHolder}
+use Rattle.tt_locks.specs.LockLaws.{HaveOneHolder}
 
 keeps_arrays : (moment : Moment) → CanHappen moment.before moment.action → KeepsArrays moment
 keeps_arrays moment can =

@@ -18,7 +18,7 @@ use Rattle.laws_shared.proofs.Channels.{IsFound, by_action}
 use Rattle.laws_shared.proofs.Drawn.{IsDrawn, by_pipe, reached_drawn, read_new, up_after, up_along, write_new}
 use Rattle.laws_shared.proofs.Tables.{by_remove, by_set, is_key, same_key}
 use Rattle.laws_shared.specs.Actions.{Action, Acts, Moment, NumbersFit, after, moments, more, none}
-use Rattle.laws_shared.specs.Laws.{StaysOwnLaw}
+use Rattle.laws_shared.specs.SharedLaws.{StaysOwnLaw}
 use Rattle.laws_shared.specs.Owners.{GivesUp, OwnsChannel, gives_up, owner_at, owner_in}
 use Rattle.tt_shared.specs.Acts.{act, target_of}
 use Rattle.tt_shared.specs.State.{State}

@@ -5,7 +5,8 @@ use Rattle.tt_calls.specs.declared.chan_call.ChanCall.TheVariants as chan
 use Rattle.tt_calls.specs.declared.reply.Reply.TheVariants as reply
 use Rattle.tt_calls.specs.declared.reply.Step.TheVariants as step
 use Rattle.tt_chans.proofs.LineLaw.{line}
-use Rattle.tt_chans.specs.Answers.{Answered, act, gets, if_owned, named, puts, puts_at, refuses, standard_message, step_after, table_after, took, waits}
+use Rattle.tt_calls.specs.Replies.{Answered, refuses}
+use Rattle.tt_chans.specs.Calls.{act, gets, if_owned, named, puts, puts_at, standard_message, step_after, table_after, took, waits}
 use Rattle.tt_chans.specs.Channels.{ChannelTable, channel_of, is_standard, with_channel}
 use Rattle.tt_chans.specs.Ends.{Taken, gets_line, owned, puts_into, reads, rest_reply, takes_line, takes_rest}
 use Rattle.tt_chans.specs.Lines.{first_line, has_line, later_lines}
@@ -43,7 +44,7 @@ module _ (table : ChannelTable) (id : List ℕ) where
   -- ---- puts ----
 
   module _ (text bytes : List ℕ) where
-    abbrev Puts : Answered → Type 0
+    abbrev Puts : Answered ChannelTable → Type 0
     Puts answered = After answered.table (put_into id bytes (channel_of table text) answered.reply) []
 
     no_put : (found : Option Channel) (message : List ℕ) → put_into id bytes found (reply.Refused message) ≡ []
@@ -104,7 +105,7 @@ module _ (table : ChannelTable) (id : List ℕ) where
   -- ---- gets ----
 
   module _ (text : List ℕ) where
-    abbrev Gets : Answered → Type 0
+    abbrev Gets : Answered ChannelTable → Type 0
     Gets answered = After answered.table [] (if bytes_eq text id then taken_with (has_newline (bytes_at table id)) answered.reply else [])
 
     not_got : (message : List ℕ) → Gets (refuses table message)

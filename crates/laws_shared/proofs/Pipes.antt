@@ -12,7 +12,7 @@ use Rattle.laws_shared.proofs.Drawn.{IsDrawn, IsUsed, none_drawn, up_after, up_a
 use Rattle.laws_shared.proofs.Flows.{Flow, made, opened, quiet_after, shut}
 use Rattle.laws_shared.proofs.PipeCalls.{get_after, put_after}
 use Rattle.laws_shared.specs.Actions.{Action, Acts, Moment, NumbersFit, after, more, none}
-use Rattle.laws_shared.specs.Laws.{PipeLaw}
+use Rattle.laws_shared.specs.SharedLaws.{PipeLaw}
 use Rattle.laws_shared.specs.Pipes.{bytes_at, bytes_in, put, put_at, put_by, taken, taken_at, taken_by}
 use Rattle.tt_shared.specs.Acts.{act, target_of}
 use Rattle.tt_shared.specs.State.{State, start_state}

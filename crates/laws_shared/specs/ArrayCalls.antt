@@ -8,7 +8,7 @@ use Rattle.tt_calls.specs.declared.request.Request.TheVariants as ask
 use Rattle.tt_calls.specs.declared.tsv_call.TsvCall.{TsvCall}
 use Rattle.laws_shared.specs.Actions.{Action, Moment, acted, moments}
 use Rattle.tt_shared.specs.State.{State}
-use Rattle.tt_tsv.specs.Answers.{step_after, table_after}
+use Rattle.tt_tsv.specs.Calls.{step_after, table_after}
 use Rattle.tt_tsv.specs.Arrays.{Table}
 
 -- a call, and the thread that makes it
@@ -16,7 +16,7 @@ pub record ArrayCall : Type 0 where
   pub thread : ℕ
   pub call : TsvCall
 
--- the call of an action, where it is one on shared variables
+-- the call of an action, if it is one on shared variables
 abbrev pub call_of : (thread : ℕ) → Request → Option ArrayCall
 call_of thread (ask.Tsv call) = Some (record { thread = thread; call = call })
 call_of thread request = None

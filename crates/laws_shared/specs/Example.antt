@@ -13,7 +13,7 @@ use Rattle.tt_calls.specs.declared.request.Request.TheVariants as ask
 use Rattle.tt_calls.specs.declared.start.Start.TheVariants.{Script}
 use Rattle.tt_chans.specs.declared.channel.Owner.TheVariants.{Thread, Detached, Moving}
 use Rattle.laws_shared.specs.Actions.{Action}
-use Rattle.laws_shared.specs.Happenings.{Began, Died, Finished, Frees, Got, Holds, Nobody, Owner, Posted, Set, Variable, Waiting, happenings}
+use Rattle.laws_shared.specs.Happenings.{Began, Died, Finished, Frees, Got, GetsHold, Nobody, Owner, Posted, Set, Variable, Waiting, happenings}
 use Rattle.laws_shared.specs.Pipes.{put, taken}
 use Rattle.tt_shared.specs.State.{State, start_state}
 use Rattle.tt_shared.specs.declared.applied.Line.TheVariants.{NotRead}
@@ -83,8 +83,8 @@ pub record WorkedHappenings : Type 0 where
       ∷ []
   pub locked :
       happenings main locks
-      ≡ Holds (codes "rid1") 1
-      ∷ Holds (codes "rid1") 1
+      ≡ GetsHold (codes "rid1") 1
+      ∷ GetsHold (codes "rid1") 1
       ∷ Frees (codes "rid1") 1
       ∷ []
   pub moved :

@@ -31,13 +31,13 @@ use Rattle.tt_slots.specs.declared.slot.Slot.{Slot}
 use Rattle.tt_threads.specs.Rows.{is_living, linked, row_of}
 use Rattle.tt_threads.specs.declared.row.Row.{Row}
 
--- who asks for the answer of a post: nobody, its sender, who waits, or a variable of its sender
-pub data Asks : Type 0 where
-  Nobody Waiting Variable : Asks
+-- who gets the answer of a post: nobody, its sender, who waits, or a variable of its sender
+pub data Recipient : Type 0 where
+  Nobody Waiting Variable : Recipient
 
 pub data Happening : Type 0 where
   -- script n was put on the queue of a thread, at its head or at its tail
-  Posted : (n from to : ℕ) → Asks → (head : Bool) → Happening
+  Posted : (n from to : ℕ) → Recipient → (head : Bool) → Happening
   -- its target took it
   Began : (n : ℕ) → Happening
   -- its target has handed over what it came to, or has ended before
@@ -47,20 +47,20 @@ pub data Happening : Type 0 where
   Got : (n : ℕ) → Reply → Happening
   Set : (n : ℕ) → (value : List ℕ) → Happening
   -- a thread has a hold of a lock more, or one less
-  Holds Frees : (lock : List ℕ) → (t : ℕ) → Happening
+  GetsHold Frees : (lock : List ℕ) → (t : ℕ) → Happening
   -- a channel has another owner: a thread, nobody, or it is on its way
   Owner : (channel : List ℕ) → owners.Owner → Happening
 
 -- ---- sends ----
 
-abbrev pub asks_of : Mode → (variable : Option (List ℕ)) → Asks
-asks_of mode.Waits variable = Waiting
-asks_of mode.Later None = Nobody
-asks_of mode.Later (Some name) = Variable
+abbrev pub recipient_of : Mode → (variable : Option (List ℕ)) → Recipient
+recipient_of mode.Waits variable = Waiting
+recipient_of mode.Later None = Nobody
+recipient_of mode.Later (Some name) = Variable
 
-abbrev pub sent : ℕ → (target : Option ℕ) → Asks → (head : Bool) → Reply → List Happening
-sent t (Some target) asks head (reply.Posted n) = Posted n t target asks head ∷ []
-sent t target asks head told = []
+abbrev pub sent : ℕ → (target : Option ℕ) → Recipient → (head : Bool) → Reply → List Happening
+sent t (Some target) recipient head (reply.Posted n) = Posted n t target recipient head ∷ []
+sent t target recipient head told = []
 
 abbrev pub reported : State → ℕ → Option ErrorProcedure → List Happening
 reported state t None = []
@@ -88,7 +88,7 @@ got n reply.Died = Got n reply.Died ∷ []
 got n (reply.Answer outcome) = Got n (reply.Answer outcome) ∷ []
 got n told = []
 
--- the variable of the sender, where that has not ended
+-- the variable of the sender, if that has not ended
 abbrev pub set_of : List Row → (n : ℕ) → (value : List ℕ) → Option VariablePost → List Happening
 set_of rows n value None = []
 set_of rows n value (Some post) = if is_living rows post.sender then Set n value ∷ [] else []
@@ -141,7 +141,7 @@ holds_of table text t = count_by (λ holder. holder == t) (holders_in (lock_of t
 
 abbrev pub hold_changed : (text : List ℕ) → (t old new : ℕ) → List Happening
 hold_changed text t old new =
-    if nat_lt old new then Holds text t ∷ [] else
+    if nat_lt old new then GetsHold text t ∷ [] else
     if nat_lt new old then Frees text t ∷ [] else []
 
 abbrev pub holds_changed : (old new : LockTable) → (t : ℕ) → Option (List ℕ) → List Happening
@@ -172,7 +172,7 @@ owners_changed old new = flat_map (owner_changed old) new.channels
 -- the table, but for owners: a line for each request by which something happens
 abbrev pub happens : (old new : State) → (t : ℕ) → Request → Reply → List Happening
 happens old new t (ask.Send text script mode variable head) told =
-    sent t (linked old.rows text) (asks_of mode variable) head told
+    sent t (linked old.rows text) (recipient_of mode variable) head told
 happens old new t (ask.Report trace plain) told = reported old t (procedure_in_use old plain old.error_procedure)
 happens old new t (ask.Broadcast script) told = posted_from old.posts.next t (others old t)
 happens old new t ask.Take told = began told

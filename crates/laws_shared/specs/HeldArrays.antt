@@ -5,7 +5,7 @@ use Rattle.tt_calls.specs.declared.request.Request.TheVariants as ask
 use Rattle.tt_calls.specs.declared.tsv_call.TsvCall.TheVariants.{Unhold}
 use Rattle.laws_shared.specs.Actions.{Action, Moment}
 use Rattle.tt_shared.specs.State.{State}
-use Rattle.tt_tsv.specs.Answers.{array_asked, is_own}
+use Rattle.tt_tsv.specs.Calls.{array_asked, is_own}
 use Rattle.tt_tsv.specs.Arrays.{array_of}
 
 -- the array that a request is on; none of tsv::names and of what is no call on shared variables

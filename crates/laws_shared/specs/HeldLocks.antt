@@ -23,8 +23,8 @@ abbrev pub hold_of : State → ℕ → (text : List ℕ) → Option Bool
 hold_of state t text = hold_in t (lock_of state.locks text)
 
 -- the thread holds the lock, and holds it alone
-abbrev pub Holds : State → ℕ → (text : List ℕ) → Type 0
-Holds state t text = IsSome (hold_of state t text)
+abbrev pub HoldsLock : State → ℕ → (text : List ℕ) → Type 0
+HoldsLock state t text = IsSome (hold_of state t text)
 
 abbrev pub HoldsAlone : State → ℕ → (text : List ℕ) → Type 0
 HoldsAlone state t text = hold_of state t text ≡ Some true

@@ -22,8 +22,8 @@ events_in (Some events) = events
 abbrev pub arrivals : Queues → ℕ → (text : List ℕ) → ℕ
 arrivals queues t text = count_by (brings text) (events_in (queue_of queues t))
 
--- A channel that is not closed is owned by a thread that lives, or nobody's; or it is on its way to a thread that lives,
--- and one event in the queue of that thread brings it.
+-- A channel that is not closed is owned by a thread that lives, or nobody's; or it is on its way to a thread that
+-- lives, and one event in the queue of that thread brings it.
 abbrev pub IsKept : State → (text : List ℕ) → Owner → Type 0
 IsKept state text (Thread t) = IsTrue (is_living state.rows t)
 IsKept state text Detached = ⊤

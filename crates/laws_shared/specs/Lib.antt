@@ -5,7 +5,7 @@ pub mod Happenings
 pub mod HeldArrays
 pub mod HeldLocks
 pub mod KeptChannels
-pub mod Laws
+pub mod SharedLaws
 pub mod Orderly
 pub mod Owners
 pub mod Pipes

@@ -3,14 +3,14 @@ use Rattle.std.specs.Prelude.{◌≡◌, ℕ, Bool, true, IsTrue, IsFalse, List,
 use Rattle.std.specs.List.{Contains}
 use Rattle.tt_calls.specs.declared.chan_call.ChanCall.{ChanCall}
 use Rattle.tt_calls.specs.declared.request.Request.TheVariants as ask
-use Rattle.tt_chans.specs.Answers.{id_of}
+use Rattle.tt_chans.specs.Calls.{id_of}
 use Rattle.tt_chans.specs.Channels.{is_standard}
 use Rattle.laws_shared.specs.Actions.{CanHappen, Moment, NumbersFit, Reached, after}
 use Rattle.laws_shared.specs.Happenings.{Happening as happening, happened}
 use Rattle.laws_shared.specs.HeldArrays.{EndsHold, HoldsArray, IsOn}
-use Rattle.laws_shared.specs.HeldLocks.{Holds, hold_of}
+use Rattle.laws_shared.specs.HeldLocks.{HoldsLock, hold_of}
 use Rattle.laws_shared.specs.KeptChannels.{AreKept}
-use Rattle.laws_shared.specs.Laws.{ArraysStandAlone, IsNotFound, LocksHaveOneHolder}
+use Rattle.laws_shared.specs.SharedLaws.{ArraysStandAlone, IsNotFound, LocksHaveOneHolder}
 use Rattle.laws_shared.specs.Owners.{GivesUp, OwnsChannel, asks_owner}
 use Rattle.laws_shared.specs.Pipes.{Flows, bytes_at, put_at, taken_at}
 use Rattle.tt_shared.specs.State.{State}
@@ -43,18 +43,18 @@ pub record KeepsLocks (moment : Moment) : Type 0 where
   pub holds :
       (t : ℕ) (text : List ℕ) (alone : Bool) →
       hold_of moment.before t text ≡ Some alone →
-      Holds (later moment) t text →
+      HoldsLock (later moment) t text →
       hold_of (later moment) t text ≡ Some alone
   pub none :
       (t other : ℕ) (text : List ℕ) →
       hold_of (later moment) t text ≡ Some true →
-      Contains (happened moment) (happening.Holds text other) →
+      Contains (happened moment) (happening.GetsHold text other) →
       other ≡ t
 
 -- ---- channels ----
 
--- A channel answers its owner, who owns it until it gives it up; of the bytes of a pipe none is lost; and a channel that
--- is not closed is owned by a thread that lives, or nobody's, or on its way to one that lives.
+-- A channel answers its owner, who owns it until it gives it up; of the bytes of a pipe none is lost; and a channel
+-- that is not closed is owned by a thread that lives, or nobody's, or on its way to one that lives.
 pub record KeepsChannels (moment : Moment) : Type 0 where
   pub refused :
       (call : ChanCall) →

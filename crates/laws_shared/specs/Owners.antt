@@ -1,5 +1,5 @@
 -- Whose channels are (chan(n); thread(n), thread::detach, thread::attach, thread::transfer).
-use Rattle.std.specs.Prelude.{◌≡◌, ℕ, Bool, true, false, IsTrue, List, ◌++◌, codes, bytes_eq, Option, Some, None}
+use Rattle.std.specs.Prelude.{◌≡◌, ℕ, Bool, true, false, IsTrue, List, bytes_eq, Option, Some, None}
 use Rattle.tt_calls.specs.declared.chan_call.ChanCall.{ChanCall}
 use Rattle.tt_calls.specs.declared.chan_call.ChanCall.TheVariants as chan
 use Rattle.tt_calls.specs.declared.request.Request.{Request}
@@ -11,7 +11,7 @@ use Rattle.tt_chans.specs.declared.channel.Owner.TheVariants.{Thread}
 use Rattle.laws_shared.specs.Actions.{Action}
 use Rattle.tt_shared.specs.State.{State}
 
--- whose a channel is; it has one owner, and none where it was closed or never made
+-- whose a channel is; it has one owner, and none if it was closed or never made
 abbrev pub owner_in : Option Channel → Option Owner
 owner_in None = None
 owner_in (Some channel) = Some channel.owner
@@ -32,10 +32,6 @@ asks_owner (chan.Close text) = true
 asks_owner (chan.Detach text) = true
 asks_owner (chan.Transfer thread text) = true
 asks_owner call = false
-
--- the answer to anyone else
-abbrev pub no_channel : (text : List ℕ) → List ℕ
-no_channel text = codes "can not find channel named \"" ++ (text ++ codes "\"")
 
 -- what an owner gives a channel up by
 abbrev pub gives_up : (text : List ℕ) → Request → Bool

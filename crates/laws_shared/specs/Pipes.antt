@@ -14,7 +14,7 @@ use Rattle.tt_chans.specs.declared.channel.End.TheVariants.{Reads, Writes}
 use Rattle.laws_shared.specs.Actions.{Action, Moment, acted, moments}
 use Rattle.tt_shared.specs.State.{State}
 
--- the bytes that the read end of an id has; none where it was closed, or never made
+-- the bytes that the read end of an id has; none if it was closed, or never made
 abbrev pub bytes_of : End → Option (List ℕ)
 bytes_of (Reads bytes ended) = Some bytes
 bytes_of Writes = None
@@ -39,7 +39,7 @@ put_by id state request told = []
 
 -- ---- gets ----
 
--- what it takes out: the line that is answered and its newline, where there was one
+-- what it takes out: the line that is answered and its newline, if there was one
 abbrev pub has_newline : Option (List ℕ) → Bool
 has_newline None = false
 has_newline (Some bytes) = has_line bytes

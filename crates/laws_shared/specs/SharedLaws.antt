@@ -6,17 +6,17 @@ use Rattle.tt_calls.specs.declared.reply.Step.TheVariants as step
 use Rattle.tt_calls.specs.declared.request.Request.{Request}
 use Rattle.tt_calls.specs.declared.request.Request.TheVariants as ask
 use Rattle.tt_calls.specs.declared.start.Start.{Start}
-use Rattle.tt_chans.specs.Answers.{id_of}
+use Rattle.tt_chans.specs.Calls.{id_of, no_channel}
 use Rattle.tt_chans.specs.Channels.{is_standard}
 use Rattle.laws_shared.specs.Actions.{Action, Acts, CanHappen, NumbersFit, Reached, after, moments}
 use Rattle.laws_shared.specs.ArrayCalls.{array_calls, array_replies, array_steps, arrays_after}
 use Rattle.laws_shared.specs.Happenings.{Happening as happening, happenings}
 use Rattle.laws_shared.specs.HeldArrays.{EndsHold, HoldsArray, IsOn, array_named}
-use Rattle.laws_shared.specs.HeldLocks.{Holds, HoldsAlone, hold_of}
+use Rattle.laws_shared.specs.HeldLocks.{HoldsLock, HoldsAlone, hold_of}
 use Rattle.laws_shared.specs.KeptChannels.{AreKept}
-use Rattle.laws_shared.specs.Owners.{GivesUp, OwnsChannel, asks_owner, no_channel}
+use Rattle.laws_shared.specs.Owners.{GivesUp, OwnsChannel, asks_owner}
 use Rattle.laws_shared.specs.Pipes.{bytes_at, put, taken}
-use Rattle.tt_locks.specs.Laws.{HaveOneHolder}
+use Rattle.tt_locks.specs.LockLaws.{HaveOneHolder}
 use Rattle.tt_shared.specs.Acts.{act}
 use Rattle.tt_shared.specs.Enabled.{enabled}
 use Rattle.tt_shared.specs.State.{State, refuses, start_state}
@@ -67,20 +67,20 @@ HeldAloneLaw =
 -- thread reads, no other writes.
 pub record LocksHaveOneHolder (state : State) : Type 0 where
   pub have : HaveOneHolder state.locks
-  pub one : (t other : ℕ) (text : List ℕ) → HoldsAlone state t text → Holds state other text → other ≡ t
+  pub one : (t other : ℕ) (text : List ℕ) → HoldsAlone state t text → HoldsLock state other text → other ≡ t
 
 abbrev pub OneHolderLaw : Type 0
 OneHolderLaw = (state : State) → Reached state → LocksHaveOneHolder state
 
--- While a thread holds a lock, it holds it as it did: who reads it reads, and nobody writes. And of a lock that it holds
--- alone, no other thread gets a hold.
+-- While a thread holds a lock, it holds it as it did: who reads it reads, and nobody writes. And of a lock that it
+-- holds alone, no other thread gets a hold.
 pub record HoldStays (old : State) (actions : List Action) (new : State) (t : ℕ) (text : List ℕ) (alone : Bool) :
     Type 0 where
   pub stays : hold_of new t text ≡ Some alone
   pub none :
       alone ≡ true →
       (other : ℕ) →
-      Contains (happenings old actions) (happening.Holds text other) →
+      Contains (happenings old actions) (happening.GetsHold text other) →
       other ≡ t
 
 abbrev pub HoldStaysLaw : Type 0
@@ -89,7 +89,7 @@ HoldStaysLaw =
     Reached old →
     Acts old actions new →
     hold_of old t text ≡ Some alone →
-    All (λ moment. Holds (after moment.before moment.action) t text) (moments old actions) →
+    All (λ moment. HoldsLock (after moment.before moment.action) t text) (moments old actions) →
     HoldStays old actions new t text alone
 
 -- ---- channels ----

@@ -1,5 +1,5 @@
 -- What calls on pools do, and when they wait: a case each (tpool(n)).
-use Rattle.std.specs.Prelude.{◌≡◌, ◌<◌, ◌^◌, ℕ, ◌+◌, ◌-◌, Bool, true, false, ◌&&◌, ◌||◌, not, nat_lt, List, [], ◌∷◌, ◌++◌, codes, Option, Some, None, is_some, if◌then◌else◌, ℤ, pos, negsuc, ◌+ℤ◌, ◌==◌}
+use Rattle.std.specs.Prelude.{ℕ, ◌+◌, ◌-◌, Bool, true, false, ◌&&◌, ◌||◌, not, nat_lt, List, [], ◌++◌, codes, Option, Some, None, if◌then◌else◌, ℤ, pos, negsuc, ◌+ℤ◌, ◌==◌}
 use Rattle.std.specs.Fmt.{decimal, signed_decimal}
 use Rattle.std.specs.List.{filter, list_any}
 use Rattle.tt_calls.specs.declared.outcome.Outcome.{Outcome}
@@ -7,9 +7,7 @@ use Rattle.tt_calls.specs.declared.pool_call.PoolCall.{PoolCall}
 use Rattle.tt_calls.specs.declared.pool_call.PoolCall.TheVariants as ask
 use Rattle.tt_calls.specs.declared.reply.Reply.{Reply}
 use Rattle.tt_calls.specs.declared.reply.Reply.TheVariants.{Go, Value, Refused, Answer, Job, JobStop, Lists}
-use Rattle.tt_calls.specs.declared.reply.Step.{Step}
 use Rattle.tt_calls.specs.declared.reply.Step.TheVariants as step
-use Rattle.tt_calls.specs.declared.start.Start.{Start}
 use Rattle.tt_lists.specs.Spelling.{list_of}
 use Rattle.tt_pools.specs.Jobs.{Cancelled, JobTable, begins, cancels, fails, finishes, at, has_none, is_done, is_job, is_pending, oldest, outcome_of, posted, unfinished, without_outcome}
 use Rattle.tt_pools.specs.Pools.{PoolTable, is_allowed, new_id, new_pool, pool_ids, pool_of, with_new, with_pool, without_pool, worker_of}
@@ -96,7 +94,7 @@ creates table least most init exit room =
       gives = workers_made (new_id table) (new_pool most least init exit) least (Value (new_id table));
     }
 
--- tpool::post: the job is queued; where more jobs are unfinished than there are workers, one worker is made, if the
+-- tpool::post: the job is queued; if more jobs are unfinished than there are workers, one worker is made, if the
 -- pool may have it and there is room
 abbrev pub wants_worker : Pool → (room : ℕ) → Bool
 wants_worker pool room = nat_lt pool.workers (unfinished pool.jobs) && (nat_lt pool.workers pool.most && nat_lt 0 room)
@@ -121,6 +119,9 @@ posts text script detached room pool =
     if pool.workers == 0 && room == 0 then does pool (Refused (codes "too many threads")) else
     grows text room (job_reply pool.jobs detached) (with_jobs pool (posted pool.jobs script detached))
 
+abbrev pub posts_in : PoolTable → (text script : List ℕ) → (detached : Bool) → (room : ℕ) → Answered
+posts_in table text script detached room = in_pool (posts text script detached room) table text
+
 -- tpool::wait: the listed jobs that are done, and those that are pending
 abbrev pub look_reply : JobTable → List (List ℕ) → Reply
 look_reply jobs listed = Lists (list_of (filter (is_done jobs) listed)) (list_of (filter (is_pending jobs) listed))
@@ -133,11 +134,11 @@ looks table text listed =
     ]
 
 -- tpool::cancel
-abbrev pub left_by : Pool → Cancelled → Done
-left_by pool left = does (with_jobs pool left.jobs) (Lists (list_of left.gone) (list_of left.others))
+abbrev pub after_cancel : Pool → Cancelled → Done
+after_cancel pool left = does (with_jobs pool left.jobs) (Lists (list_of left.gone) (list_of left.others))
 
 abbrev pub cancelled : List (List ℕ) → Pool → Done
-cancelled listed pool = left_by pool (cancels pool.jobs listed)
+cancelled listed pool = after_cancel pool (cancels pool.jobs listed)
 
 -- tpool::get: what a job came to, once
 abbrev pub no_outcome : (job : List ℕ) → JobTable → List ℕ
@@ -182,7 +183,7 @@ releases table text = closes_unheld text (in_pool (counts (negsuc 0)) table text
 abbrev pub suspends : Bool → Pool → Done
 suspends on pool = does (record pool { suspended = on }) Go
 
--- a worker's next job: none where its pool is closed, or it is to stop
+-- a worker's next job: none if its pool is closed, or it is to stop
 abbrev pub job_told : Option (ℕ × Queued) → Reply
 job_told None = JobStop
 job_told (Some job) = Job job.0 job.1.script job.1.detached
@@ -195,7 +196,10 @@ takes_job table t marked text None = answers table JobStop
 takes_job table t marked text (Some pool) =
     if marked then answers table JobStop else done_in table text (begins_job t pool)
 
--- what its job came to; of a closed pool nothing is kept, and a job that it has not begun is refused
+abbrev pub takes_from : PoolTable → ℕ → (marked : Bool) → List ℕ → Answered
+takes_from table t marked text = takes_job table t marked text (pool_of table text)
+
+-- what its job came to; of a closed pool nothing is recorded, and a job that it has not begun is refused
 abbrev pub ends_job : ℕ → ℕ → Outcome → Pool → Done
 ends_job t n outcome pool =
     if is_job n (at pool.jobs.begun t)
@@ -206,18 +210,21 @@ abbrev pub is_over : PoolTable → ℕ → (text : List ℕ) → (n : ℕ) → O
 is_over table t text n outcome None = answers table Go
 is_over table t text n outcome (Some pool) = done_in table text (ends_job t n outcome pool)
 
+abbrev pub ends_in : PoolTable → ℕ → (text : List ℕ) → (n : ℕ) → Outcome → Answered
+ends_in table t text n outcome = is_over table t text n outcome (pool_of table text)
+
 abbrev pub act : PoolTable → ℕ → (room : ℕ) → (marked : Bool) → PoolCall → Answered
 act table t room marked (ask.Create least most init exit) = creates table least most init exit room
 act table t room marked ask.Names = answers table (Value (list_of (pool_ids table)))
-act table t room marked (ask.Post text script detached) = in_pool (posts text script detached room) table text
+act table t room marked (ask.Post text script detached) = posts_in table text script detached room
 act table t room marked (ask.Look text listed) = looks table text listed
 act table t room marked (ask.Cancel text listed) = in_pool (cancelled listed) table text
 act table t room marked (ask.Get text job) = in_pool (takes_outcome job) table text
 act table t room marked (ask.Preserve text) = in_pool (counts (pos 1)) table text
 act table t room marked (ask.Release text) = releases table text
 act table t room marked (ask.Suspend text on) = in_pool (suspends on) table text
-act table t room marked (ask.JobTake text) = takes_job table t marked text (pool_of table text)
-act table t room marked (ask.JobDone text n outcome) = is_over table t text n outcome (pool_of table text)
+act table t room marked (ask.JobTake text) = takes_from table t marked text
+act table t room marked (ask.JobDone text n outcome) = ends_in table t text n outcome
 
 -- ---- the end of a worker ----
 

@@ -9,7 +9,6 @@ use Rattle.std.specs.Prelude.{bytes_eq}
 use Rattle.tt_calls.specs.Outcomes.{failed}
 use Rattle.tt_calls.specs.declared.outcome.Outcome.{Outcome}
 use Rattle.tt_ids.specs.Ids.{number_named}
-use Rattle.tt_pools.specs.declared.cancel.Listed.{Listed}
 use Rattle.tt_pools.specs.declared.jobs.Begun.{Begun}
 use Rattle.tt_pools.specs.declared.jobs.Queued.{Queued}
 
@@ -30,7 +29,7 @@ at jobs n = lookup (is_at (nat_cmp n)) jobs
 abbrev pub without : {X : Type 0} → List (ℕ × X) → ℕ → List (ℕ × X)
 without jobs n = remove_entry (is_at (nat_cmp n)) jobs
 
--- a job more, which draws a number also where it is detached
+-- a job more, which draws a number also if it is detached
 abbrev pub posted : JobTable → (script : List ℕ) → (detached : Bool) → JobTable
 posted jobs script detached = record jobs {
   queued = insert_entry nat_cmp jobs.queued jobs.next (record { script = script; detached = detached });
@@ -73,9 +72,6 @@ pub record Cancelled : Type 0 where
   pub gone : List (List ℕ)
   pub others : List (List ℕ)
 
-abbrev pub so_far : JobTable → Listed → Cancelled
-so_far jobs left = record { jobs = jobs; gone = left.gone; others = left.others.keys }
-
 abbrev pub without_queued : JobTable → List ℕ → JobTable
 without_queued jobs text =
     elim (number_named text) [ Some n ↦ record jobs { queued = without jobs.queued n } | None ↦ jobs ]
@@ -100,16 +96,16 @@ begun_by jobs t job later = record jobs {
   begun = insert_entry nat_cmp jobs.begun t (record { job = job.0; detached = job.1.detached });
 }
 
--- a begun job is done: what it came to is kept, but of a detached one
-abbrev pub kept : JobTable → ℕ → Begun → Outcome → JobTable
-kept jobs t job outcome =
+-- a begun job is done: what it came to is recorded, but of a detached one
+abbrev pub with_outcome : JobTable → ℕ → Begun → Outcome → JobTable
+with_outcome jobs t job outcome =
     if job.detached then record jobs { begun = without jobs.begun t } else
     record jobs { begun = without jobs.begun t; done = insert_entry nat_cmp jobs.done job.job outcome }
 
 -- the end of a worker: its job has failed
 abbrev pub fails : JobTable → ℕ → Option Begun → JobTable
 fails jobs t None = jobs
-fails jobs t (Some job) = kept jobs t job (failed (codes "target thread died"))
+fails jobs t (Some job) = with_outcome jobs t job (failed (codes "target thread died"))
 
 abbrev pub has_none : {X : Type 0} → List (ℕ × X) → Bool
 has_none [] = true
@@ -137,4 +133,4 @@ is_job n (Some job) = job.job == n
 
 abbrev pub finishes : JobTable → ℕ → ℕ → Outcome → Option Begun → JobTable
 finishes jobs t n outcome None = jobs
-finishes jobs t n outcome (Some job) = if job.job == n then kept jobs t job outcome else jobs
+finishes jobs t n outcome (Some job) = if job.job == n then with_outcome jobs t job outcome else jobs

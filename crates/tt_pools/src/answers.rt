@@ -2,7 +2,7 @@ ghost use Rattle.std.specs.Prelude.{◌≡◌, IfOk, OnOk, negsuc, pos};
 ghost use Rattle.std.specs.Option.{option_copied};
 ghost use Rattle.tt_calls.specs.declared.reply.Reply.TheVariants.{Refused, Value};
 ghost use Rattle.tt_lists.specs.Spelling.{list_of};
-ghost use Rattle.tt_pools.specs.Answers.{act, act_or_wait, cancelled, counts, creates, in_pool, is_over, is_unheld, looks, missing, posts, releases, replies, suspends, table_after_end, takes_job, takes_outcome};
+ghost use Rattle.tt_pools.specs.Calls.{act, act_or_wait, cancelled, counts, creates, ends_in, in_pool, is_unheld, looks, missing, posts_in, releases, replies, suspends, table_after_end, takes_from, takes_outcome};
 ghost use Rattle.tt_pools.specs.Pools.{pool_ids, pool_of, without_pool};
 
 use crate::calls::Hold;
@@ -18,11 +18,11 @@ use tt_text::{NoMemory, Text, Texts};
 const MOST_WORKERS: u32 = 900;
 
 impl Pools {
-    /// What a call of a thread on pools does, its reply, and the workers that are to be made; `Wait` exactly where it has to
-    /// wait, and then nothing is done. `room` is how many threads may still be made, `marked` whether the thread is to stop
-    /// (tpool(n)).
+    /// What a call of a thread on pools does, its reply, and the workers that are to be made; `Wait` exactly if it
+    /// has to wait, and then nothing is done. `room` is how many threads may still be made, `marked` whether the
+    /// thread is to stop (tpool(n)).
     ///
-    /// `NoMemory` where memory for a pool, a job or the reply is refused.
+    /// `NoMemory` if memory for a pool, a job or the reply is refused.
     pub fn apply(
         &mut self,
         thread: u32,
@@ -112,8 +112,8 @@ impl Pools {
         detached: bool,
         room: u32,
     ) -> Result<PoolStep, NoMemory>
-        ensures table { OnOk result (self.new ≡ (in_pool (posts id.now script.now detached room) self.old id.now).table) }
-        ensures gives { IfOk result (λ gives. gives ≡ (in_pool (posts id.now script.now detached room) self.old id.now).gives) }
+        ensures table { OnOk result (self.new ≡ (posts_in self.old id.now script.now detached room).table) }
+        ensures gives { IfOk result (λ gives. gives ≡ (posts_in self.old id.now script.now detached room).gives) }
     {
         let alloc = self.alloc;
         let Some(number) = id_number(IdKind::Pool, id.as_bytes()) else {
@@ -223,8 +223,8 @@ impl Pools {
 
     // A worker's next job.
     fn take_job(&mut self, worker: u32, id: &Text, marked: bool) -> Result<PoolStep, NoMemory>
-        ensures table { OnOk result (self.new ≡ (takes_job self.old worker marked id.now (pool_of self.old id.now)).table) }
-        ensures gives { IfOk result (λ gives. gives ≡ (takes_job self.old worker marked id.now (pool_of self.old id.now)).gives) }
+        ensures table { OnOk result (self.new ≡ (takes_from self.old worker marked id.now).table) }
+        ensures gives { IfOk result (λ gives. gives ≡ (takes_from self.old worker marked id.now).gives) }
     {
         if marked {
             return Ok(PoolStep::reply(Reply::JobStop));
@@ -246,8 +246,8 @@ impl Pools {
         job: u64,
         outcome: Outcome,
     ) -> Result<PoolStep, NoMemory>
-        ensures table { OnOk result (self.new ≡ (is_over self.old worker id.now job outcome (pool_of self.old id.now)).table) }
-        ensures gives { IfOk result (λ gives. gives ≡ (is_over self.old worker id.now job outcome (pool_of self.old id.now)).gives) }
+        ensures table { OnOk result (self.new ≡ (ends_in self.old worker id.now job outcome).table) }
+        ensures gives { IfOk result (λ gives. gives ≡ (ends_in self.old worker id.now job outcome).gives) }
     {
         let alloc = self.alloc;
         let Some(number) = id_number(IdKind::Pool, id.as_bytes()) else {
@@ -262,7 +262,7 @@ impl Pools {
     /// The end of a thread: where it was a worker of a pool that is open, that has one worker less, and the job that it
     /// has begun has failed. `worker_of` is the id of that pool, and `None` for any other thread.
     ///
-    /// `NoMemory` where memory for the failure is refused.
+    /// `NoMemory` if memory for the failure is refused.
     pub fn end(&mut self, thread: u32, worker_of: Option<&Text>) -> Result<(), NoMemory>
         ensures ended { OnOk result (self.new ≡ table_after_end self.old thread (option_copied worker_of.entry)) }
     {

@@ -1,7 +1,7 @@
 ghost use Rattle.std.specs.Prelude.{◌≡◌, [], IfOk, OnOk, if◌then◌else◌};
 ghost use Rattle.std.specs.Fmt.{decimal};
 ghost use Rattle.tt_calls.specs.declared.reply.Reply.TheVariants.{Value};
-ghost use Rattle.tt_pools.specs.Answers.{begins_job, counts, ends_job, grows, loses, more, posts, takes_outcome, workers_made};
+ghost use Rattle.tt_pools.specs.Calls.{begins_job, counts, ends_job, grows, loses, more, posts, takes_outcome, workers_made};
 ghost use Rattle.tt_pools.specs.Pools.{worker_of};
 
 use crate::telling::{no_outcome, refused};
@@ -85,7 +85,7 @@ impl Pool {
         self.grow(id, room, reply)
     }
 
-    // A worker more, where it is to get one.
+    // A worker more, if it is to get one.
     fn grow(&mut self, id: &Text, room: u32, reply: Reply) -> Result<PoolStep, NoMemory>
         ensures pool { OnOk result (self.new ≡ (grows id.now room reply self.old).pool) }
         ensures gives { IfOk result (λ gives. gives ≡ (grows id.now room reply self.old).gives) }

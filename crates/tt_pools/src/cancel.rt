@@ -1,6 +1,7 @@
 ghost use Rattle.std.specs.Prelude.{◌≡◌, IfOk, OnOk};
-ghost use Rattle.tt_pools.specs.Answers.{cancelled};
-ghost use Rattle.tt_pools.specs.Jobs.{cancels, cancels_one, so_far};
+ghost use Rattle.tt_pools.specs.Calls.{cancelled};
+ghost use Rattle.tt_pools.specs.Jobs.{cancels, cancels_one};
+ghost use Rattle.tt_pools.specs.inside.Cancelling.{so_far};
 
 use crate::{Jobs, Pool, PoolStep};
 use indexmap::IndexSet;

@@ -2,7 +2,7 @@ ghost use Rattle.std.specs.Prelude.{◌≡◌, ◌↔◌, IsTrue, IfNone, IfOk, 
 ghost use Rattle.tt_calls.specs.Outcomes.{failed};
 ghost use Rattle.std.specs.List.{list_any};
 ghost use Rattle.std.specs.Map.{values_of};
-ghost use Rattle.tt_pools.specs.Jobs.{at, begins, fails, finishes, has_none, is_begun, is_done, is_job, is_own_begun, is_pending, is_queued, kept, no_jobs, oldest, outcome_of, posted, unfinished, without_outcome, without_queued};
+ghost use Rattle.tt_pools.specs.Jobs.{at, begins, fails, finishes, has_none, is_begun, is_done, is_job, is_own_begun, is_pending, is_queued, no_jobs, oldest, outcome_of, posted, unfinished, with_outcome, without_outcome, without_queued};
 
 use std::alloc::Global;
 use std::collections::BTreeMap;
@@ -40,7 +40,12 @@ impl Model for Jobs {
 
     ghost Value = { JobTable };
 
-    ghost view = { λ jobs. record { queued = jobs.queued.entries; begun = jobs.begun.entries; done = jobs.done.entries; next = jobs.next } };
+    ghost view = { λ jobs. record {
+      queued = jobs.queued.entries;
+      begun = jobs.begun.entries;
+      done = jobs.done.entries;
+      next = jobs.next;
+    } };
 }
 
 impl Jobs {
@@ -180,9 +185,9 @@ impl Jobs {
         }
     }
 
-    // What a begun job came to is kept, but of a detached one.
+    // What a begun job came to is recorded, but of a detached one.
     fn keep(&mut self, worker: u32, begun: Begun, outcome: Outcome) -> Result<(), NoMemory>
-        ensures { OnOk result (self.new ≡ kept self.old worker begun outcome) }
+        ensures { OnOk result (self.new ≡ with_outcome self.old worker begun outcome) }
     {
         self.begun.remove(&worker);
         if !begun.detached {

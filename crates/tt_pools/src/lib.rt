@@ -14,6 +14,3 @@ pub use jobs::{Begun, Jobs, Queued};
 pub use pool::Pool;
 pub use pools::Pools;
 pub use step::PoolStep;
-
-#[cfg(test)]
-mod tests;

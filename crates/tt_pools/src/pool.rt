@@ -1,5 +1,5 @@
 ghost use Rattle.std.specs.Prelude.{◌≡◌};
-ghost use Rattle.tt_pools.specs.Answers.{wants_worker};
+ghost use Rattle.tt_pools.specs.Calls.{wants_worker};
 ghost use Rattle.tt_pools.specs.Pools.{new_pool};
 
 use crate::Jobs;
@@ -39,7 +39,7 @@ impl Pool {
         }
     }
 
-    // Whether it is to get a worker more, where so many threads may still be made.
+    // Whether it is to get a worker more, if so many threads may still be made.
     pub(crate) fn wants_worker(&self, room: u32) -> bool
         ensures { result ≡ wants_worker self.now room }
     {

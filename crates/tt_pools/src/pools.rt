@@ -1,6 +1,6 @@
 ghost use Rattle.std.specs.Prelude.{◌≡◌, option_copied};
 ghost use Rattle.std.specs.List.{list_any};
-ghost use Rattle.tt_pools.specs.Answers.{lacks_done, waits};
+ghost use Rattle.tt_pools.specs.Calls.{lacks_done, waits};
 ghost use Rattle.tt_pools.specs.Jobs.{is_done, is_pending};
 ghost use Rattle.tt_pools.specs.Pools.{no_pools, pool_of};
 
@@ -48,8 +48,9 @@ impl Pools {
         self.pools.get(&number)
     }
 
-    /// Whether the thread has to wait before its call is done: for a job of the listed ones that is done, which waits for
-    /// events meanwhile, or as a worker for its next job. `marked` says whether the thread is to stop. It takes no memory.
+    /// Whether the thread has to wait before its call is done: for a job of the listed ones that is done, which waits
+    /// for events meanwhile, or as a worker for its next job. `marked` says whether the thread is to stop. It takes
+    /// no memory.
     pub fn waits(&self, call: &PoolCall, marked: bool) -> bool
         ensures waits { result ≡ waits self.now marked call.now }
     {

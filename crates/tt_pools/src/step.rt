@@ -1,5 +1,5 @@
 ghost use Rattle.std.specs.Prelude.{◌≡◌};
-ghost use Rattle.tt_pools.specs.Answers.{replies, waiting};
+ghost use Rattle.tt_pools.specs.Calls.{replies, waiting};
 
 use tt_calls::{Reply, Start, Step};
 
@@ -9,7 +9,7 @@ pub struct PoolStep {
     pub step: Step,
     /// How many workers are to be made.
     pub start: u32,
-    /// What each of them begins with; there exactly where some are to be made.
+    /// What each of them begins with; there exactly if some are to be made.
     pub worker: Option<Start>,
 }
 

@@ -2,7 +2,7 @@ ghost use Rattle.std.specs.Prelude.{◌≡◌, ◌++◌, codes, IfOk};
 ghost use Rattle.std.specs.List.{filter};
 ghost use Rattle.tt_calls.specs.declared.reply.Reply.TheVariants.{Lists, Refused, Value};
 ghost use Rattle.tt_lists.specs.Spelling.{list_of};
-ghost use Rattle.tt_pools.specs.Answers.{look_reply, missing, no_outcome};
+ghost use Rattle.tt_pools.specs.Calls.{look_reply, missing, no_outcome};
 ghost use Rattle.tt_pools.specs.Jobs.{is_done, is_pending};
 
 use crate::{Jobs, Pool};

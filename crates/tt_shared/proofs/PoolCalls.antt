@@ -1,7 +1,7 @@
 -- A call on pools, by what the pools say of it.
 use Rattle.std.proofs.Common.{◌≡◌, ℕ, Bool, refl}
 use Rattle.tt_calls.specs.declared.pool_call.PoolCall.{PoolCall}
-use Rattle.tt_pools.specs.Answers as pools
+use Rattle.tt_pools.specs.Calls as pools
 use Rattle.tt_pools.specs.Pools.{PoolTable}
 use Rattle.tt_pools.specs.declared.step.PoolStep.{PoolStep}
 use Rattle.tt_shared.specs.Acts.{gives_of, on_pools}

@@ -15,11 +15,11 @@ use Rattle.tt_calls.specs.declared.request.Request.TheVariants as ask
 use Rattle.tt_calls.specs.declared.start.Start.{Start}
 use Rattle.tt_calls.specs.declared.start.Start.TheVariants.{Script}
 use Rattle.tt_calls.specs.declared.tsv_call.TsvCall.{TsvCall}
-use Rattle.tt_chans.specs.Answers as channels
+use Rattle.tt_chans.specs.Calls as channels
 use Rattle.tt_ids.specs.Ids.{id}
 use Rattle.tt_ids.specs.declared.id.IdKind.TheVariants.{Thread}
-use Rattle.tt_locks.specs.Answers as locks
-use Rattle.tt_pools.specs.Answers as pools
+use Rattle.tt_locks.specs.Calls as locks
+use Rattle.tt_pools.specs.Calls as pools
 use Rattle.tt_pools.specs.declared.step.PoolStep.{PoolStep}
 use Rattle.tt_shared.specs.Ends.{ends, exits}
 use Rattle.tt_shared.specs.Mail.{Queues, queued}
@@ -27,10 +27,10 @@ use Rattle.tt_shared.specs.Sends.{awaits, broadcasts, delivers, mailed, names_pr
 use Rattle.tt_shared.specs.State.{Acted, State, answer, answers, is_marked, is_not_asked, refuses, reply_of, room, truth, with_thread}
 use Rattle.tt_shared.specs.declared.applied.Line.{Line}
 use Rattle.tt_shared.specs.declared.applied.Line.TheVariants as line
-use Rattle.tt_threads.specs.Answers as threads
+use Rattle.tt_threads.specs.Requests as threads
 use Rattle.tt_threads.specs.Rows.{linked, living, most_living, new_row, row_of}
 use Rattle.tt_threads.specs.declared.row.Row.{Row}
-use Rattle.tt_tsv.specs.Answers as arrays
+use Rattle.tt_tsv.specs.Calls as arrays
 
 -- ---- streams ----
 
@@ -76,6 +76,9 @@ creates state joinable preserved script =
 abbrev pub in_rows : State → threads.Answered → Acted
 in_rows state answered = answers (record state { rows = answered.rows }) answered.reply
 
+abbrev pub asks_rows : State → ℕ → Request → Acted
+asks_rows state t request = in_rows state (threads.act state.rows t request)
+
 -- thread::release: a thread that nobody holds any more is told to stop
 abbrev pub is_unheld : Option Row → Bool
 is_unheld None = false
@@ -89,6 +92,9 @@ stops_unheld state (Some number) =
 abbrev pub releases : State → ℕ → (text : List ℕ) → threads.Answered → Acted
 releases state t text answered =
     answers (stops_unheld (record state { rows = answered.rows }) (threads.named state.rows t text)) answered.reply
+
+abbrev pub asks_release : State → ℕ → (text : List ℕ) → Request → Acted
+asks_release state t text request = releases state t text (threads.act state.rows t request)
 
 -- ---- shared variables and locks ----
 
@@ -157,7 +163,7 @@ act state t (ask.WriteErr text) line = writes_err state text
 act state t ask.ReadLine line = reads state line
 act state t ask.StdinEof line = answers state (reply.Value (truth state.input_ended))
 act state t (ask.Create joinable preserved script) line = creates state joinable preserved script
-act state t (ask.Release text) line = releases state t text (threads.act state.rows t (ask.Release text))
+act state t (ask.Release text) line = asks_release state t text (ask.Release text)
 act state t (ask.ErrorProc name) line = names_procedure state t name
 act state t (ask.Send text script mode variable head) line = sends state t text script mode variable head
 act state t (ask.Await n) line = awaits state t n
@@ -173,4 +179,4 @@ act state t (ask.Chan call) line = on_channels state t call
 act state t ask.Pause line = answers state reply.Go
 act state t (ask.End code) line = ends state t code
 act state t (ask.Exit code) line = exits state code
-act state t request line = in_rows state (threads.act state.rows t request)
+act state t request line = asks_rows state t request

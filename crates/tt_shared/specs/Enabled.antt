@@ -7,16 +7,16 @@ use Rattle.tt_calls.specs.declared.request.Mode.{Mode}
 use Rattle.tt_calls.specs.declared.request.Mode.TheVariants.{Waits, Later}
 use Rattle.tt_calls.specs.declared.request.Request.{Request}
 use Rattle.tt_calls.specs.declared.request.Request.TheVariants as ask
-use Rattle.tt_chans.specs.Answers as channels
-use Rattle.tt_locks.specs.Answers as locks
-use Rattle.tt_pools.specs.Answers as pools
+use Rattle.tt_chans.specs.Calls as channels
+use Rattle.tt_locks.specs.Calls as locks
+use Rattle.tt_pools.specs.Calls as pools
 use Rattle.tt_shared.specs.Mail.{first_of, scripts_of}
 use Rattle.tt_shared.specs.State.{State, is_marked}
 use Rattle.tt_slots.specs.Waiting.{OpenSlots, is_waiting, slot_of}
 use Rattle.tt_slots.specs.declared.slot.Slot.{Slot}
 use Rattle.tt_threads.specs.Rows.{is_living, linked, row_of}
 use Rattle.tt_threads.specs.declared.row.Row.{Row}
-use Rattle.tt_tsv.specs.Answers as arrays
+use Rattle.tt_tsv.specs.Calls as arrays
 
 -- the thread's queue has an event
 abbrev pub has_event : State → ℕ → Bool

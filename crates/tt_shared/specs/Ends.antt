@@ -10,7 +10,8 @@ use Rattle.tt_calls.specs.declared.reply.Reply.TheVariants.{Go}
 use Rattle.tt_calls.specs.declared.start.Start.{Start}
 use Rattle.tt_calls.specs.declared.start.Start.TheVariants.{Script, Worker}
 use Rattle.tt_chans.specs.Channels as channels
-use Rattle.tt_pools.specs.Answers as pools
+use Rattle.tt_pools.specs.Calls as pools
+use Rattle.tt_pools.specs.Pools.{PoolTable}
 use Rattle.tt_shared.specs.Mail.{Queues, emptied, posts_after, queued}
 use Rattle.tt_shared.specs.State.{Acted, State, answers}
 use Rattle.tt_shared.specs.declared.posts.VariablePost.{VariablePost}
@@ -51,6 +52,10 @@ exit_code code = unsigned_abs (int_rem_euclid code (pos 256))
 abbrev pub over_after : Option ℕ → ℕ → ℤ → Option ℕ
 over_after over t code = if t == 1 then Some (exit_code code) else over
 
+-- the pools after the end of a thread
+abbrev pub pools_left : State → ℕ → PoolTable
+pools_left state t = pools.table_after_end state.pools t (pool_of_row (row_of state.rows t))
+
 -- The thread has ended with its code; whoever waits for an answer of it is told that it died; its queue is emptied; as
 -- a worker its job has failed; its channels are closed, and those that were on their way to it go back. Locks and
 -- arrays that it holds stay held.
@@ -60,7 +65,7 @@ ended state t code = record state {
   rows = with_end state.rows t code;
   queues = emptied (tells_died state.rows t (values_of state.posts.variables) state.queues) t;
   posts = posts_after state.posts t;
-  pools = pools.table_after_end state.pools t (pool_of_row (row_of state.rows t));
+  pools = pools_left state t;
   channels = channels.table_after_end state.channels t;
 }
 

@@ -4,3 +4,4 @@ pub mod Ends
 pub mod Mail
 pub mod Sends
 pub mod State
+pub mod inside

@@ -4,6 +4,7 @@ use Rattle.std.specs.BTreeMap.{insert_entry, is_at}
 use Rattle.std.specs.List.{filter}
 use Rattle.std.specs.Map.{lookup, remove_entry}
 use Rattle.std.specs.Ordering.{nat_cmp}
+use Rattle.tt_calls.specs.Numbers.{at_number, with_at}
 use Rattle.tt_calls.specs.declared.event.Event.{Event}
 use Rattle.tt_calls.specs.declared.request.Mode.{Mode}
 use Rattle.tt_calls.specs.declared.request.Mode.TheVariants.{Waits, Later}
@@ -19,19 +20,19 @@ Queues = List (List Event)
 
 -- the queue of a thread
 abbrev pub queue_of : Queues → ℕ → Option (List Event)
-queue_of queues thread = if thread == 0 then None else slice_get queues (thread - 1)
+queue_of queues thread = at_number queues thread
 
 abbrev pub with_queue : Queues → ℕ → List Event → Queues
-with_queue queues thread events = slice_set queues (thread - 1) events
+with_queue queues thread events = with_at queues thread events
 
 -- an event more for a thread, at the tail of its queue or at its head
-abbrev pub placed : (head : Bool) → Event → List Event → List Event
-placed true event events = event ∷ events
-placed false event events = events ++ event ∷ []
+abbrev pub with_event : (head : Bool) → Event → List Event → List Event
+with_event true event events = event ∷ events
+with_event false event events = events ++ event ∷ []
 
 abbrev pub queued_in : Queues → ℕ → (head : Bool) → Event → Option (List Event) → Queues
 queued_in queues thread head event None = queues
-queued_in queues thread head event (Some events) = with_queue queues thread (placed head event events)
+queued_in queues thread head event (Some events) = with_queue queues thread (with_event head event events)
 
 abbrev pub queued : Queues → ℕ → (head : Bool) → Event → Queues
 queued queues thread head event = queued_in queues thread head event (queue_of queues thread)

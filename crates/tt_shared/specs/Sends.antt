@@ -63,15 +63,16 @@ sends state t text script mode variable head =
 
 -- ---- its answer ----
 
--- what the sender is told of its slot
-abbrev pub told : SlotState → Reply
-told slot.Waiting = reply.Refused []
-told (slot.Result outcome) = reply.Answer outcome
-told slot.Died = reply.Died
+-- what the sender is answered by its slot
+abbrev pub slot_reply : SlotState → Reply
+slot_reply slot.Waiting = reply.Refused []
+slot_reply (slot.Result outcome) = reply.Answer outcome
+slot_reply slot.Died = reply.Died
 
 abbrev pub takes_answer : State → ℕ → SlotState → Acted
 takes_answer state n found =
-    answers (record state { posts = record state.posts { slots = after_take state.posts.slots n found } }) (told found)
+    let slots = after_take state.posts.slots n found in
+    answers (record state { posts = record state.posts { slots = slots } }) (slot_reply found)
 
 -- the thread's own slot, once
 abbrev pub awaits_at : State → (t n : ℕ) → Option Slot → Acted
@@ -120,12 +121,15 @@ delivers_value state t n outcome (Some post) =
     answers (sets rest post outcome.value) (served state t outcome))
     else is_not_asked state
 
+abbrev pub delivers_to : State → (t n : ℕ) → Outcome → Acted
+delivers_to state t n outcome = delivers_value state t n outcome (variable_post state.posts n)
+
 -- a slot that waits for this thread
 abbrev pub is_due : ℕ → Slot → Bool
 is_due t found = found.target == t && is_waiting found.state
 
 abbrev pub delivers_at : State → (t n : ℕ) → Outcome → Option Slot → Acted
-delivers_at state t n outcome None = delivers_value state t n outcome (variable_post state.posts n)
+delivers_at state t n outcome None = delivers_to state t n outcome
 delivers_at state t n outcome (Some found) =
     if is_due t found
     then

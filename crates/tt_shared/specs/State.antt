@@ -99,7 +99,7 @@ is_marked_row (Some row) = is_marked_life row.life
 abbrev pub is_marked : State → ℕ → Bool
 is_marked state t = is_marked_row (row_of state.rows t)
 
--- a thread more, with an empty queue, where there is room
+-- a thread more, with an empty queue, if there is room
 abbrev pub with_thread : State → Row → State
 with_thread state row =
     if nat_lt (living state.rows) most_living

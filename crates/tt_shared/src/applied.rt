@@ -23,7 +23,7 @@ pub struct Applied {
     pub out: Text,
     /// What is to be put on standard error.
     pub err: Text,
-    /// The exit code of the run, from 0 to 255, where it is over.
+    /// The exit code of the run, from 0 to 255, if it is over.
     pub over: Option<u8>,
     /// How many threads were made.
     pub made: u32,

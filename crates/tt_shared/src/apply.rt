@@ -15,7 +15,7 @@ impl Shared {
     /// standard input for ReadLine, and `NotRead` for any other (puts(n), gets(n), eof(n), thread(n), tsv(n), tpool(n),
     /// chan(n)).
     ///
-    /// `NoMemory` where memory is refused; then nothing is said of what is shared.
+    /// `NoMemory` if memory is refused; then nothing is said of what is shared.
     pub fn apply(&mut self, thread: u32, request: &Request, line: Line) -> Result<Applied, NoMemory>
         requires lives { IsTrue (is_living self.old.rows thread) }
         requires enabled { IsTrue (enabled self.old thread request.now) }

@@ -1,7 +1,6 @@
 ghost use Rattle.std.specs.Prelude.{◌≡◌, IfOk, IsTrue, OnOk, option_copied};
 ghost use Rattle.std.specs.Map.{values_of};
-ghost use Rattle.tt_pools.specs.Answers.{table_after_end};
-ghost use Rattle.tt_shared.specs.Ends.{died, ends, exit_code, exits, hears, pool_of_row, tells_died};
+ghost use Rattle.tt_shared.specs.Ends.{died, ends, exit_code, exits, hears, pool_of_row, pools_left, tells_died};
 ghost use Rattle.tt_threads.specs.Rows.{is_living, row_of};
 
 use crate::{Applied, Posts, Queues, Shared, VariablePost};
@@ -40,7 +39,7 @@ impl Shared {
 
     // The end of a worker in its pool.
     fn end_job(&mut self, thread: u32) -> Result<(), NoMemory>
-        ensures { OnOk result (self.new ≡ (record self.old { pools = table_after_end self.old.pools thread (pool_of_row (row_of self.old.rows thread)) })) }
+        ensures { OnOk result (self.new ≡ (record self.old { pools = pools_left self.old thread })) }
     {
         let pool = pool_of(self.threads.row(thread));
         self.pools.end(thread, pool)

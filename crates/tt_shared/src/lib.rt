@@ -1,5 +1,5 @@
-//! What threads share, and what their requests do to it: the queues of events, the posts that wait for an answer, shared
-//! variables, locks, pools and channels (thread(n), tsv(n), tpool(n), chan(n)).
+//! What threads share, and what their requests do to it: the queues of events, the posts that wait for an answer,
+//! shared variables, locks, pools and channels (thread(n), tsv(n), tpool(n), chan(n)).
 #![tactic(auto)]
 
 mod applied;

@@ -61,7 +61,7 @@ impl Posts {
 
     /// One post more.
     ///
-    /// `NoMemory` where memory for it, or a number, is refused.
+    /// `NoMemory` if memory for it, or a number, is refused.
     pub fn post(
         &mut self,
         sender: u32,
@@ -90,7 +90,7 @@ impl Posts {
 
     /// One post more, of which nobody asks the answer. It takes no memory.
     ///
-    /// `NoMemory` where a number is refused.
+    /// `NoMemory` if a number is refused.
     pub fn pass(&mut self) -> Result<(), NoMemory>
         ensures passed { OnOk result (self.new ≡ with_plain self.old) }
     {
@@ -98,14 +98,14 @@ impl Posts {
         Ok(())
     }
 
-    /// The slot of a number; `None` exactly where it isn't open. It takes no memory.
+    /// The slot of a number; `None` exactly if it isn't open. It takes no memory.
     pub fn slot(&self, n: u64) -> Option<&Slot>
         ensures slot { option_copied result ≡ slot_of self.now.slots n }
     {
         self.slots.slot(n)
     }
 
-    /// Answers what slot `n`, which is open, has, and closes it where it doesn't wait. It takes no memory.
+    /// Answers what slot `n`, which is open, has, and closes it if it doesn't wait. It takes no memory.
     pub fn take(&mut self, n: u64) -> SlotState
         requires { IsSome (slot_of self.old.slots n) }
         ensures state { option_map (λ slot. slot.state) (slot_of self.old.slots n) ≡ Some result }
@@ -122,14 +122,14 @@ impl Posts {
         self.slots.fill(n, outcome);
     }
 
-    /// The post of a number whose answer goes to a variable; `None` exactly where there is none. It takes no memory.
+    /// The post of a number whose answer goes to a variable; `None` exactly if there is none. It takes no memory.
     pub fn variable(&self, n: u64) -> Option<&VariablePost>
         ensures variable { option_copied result ≡ variable_post self.now n }
     {
         self.variables.get(&n)
     }
 
-    /// Takes that post out; `None` exactly where there is none. It takes no memory.
+    /// Takes that post out; `None` exactly if there is none. It takes no memory.
     pub fn take_variable(&mut self, n: u64) -> Option<VariablePost>
         ensures post { result ≡ variable_post self.old n }
         ensures removed { self.new ≡ without_variable self.old n }

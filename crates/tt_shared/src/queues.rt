@@ -1,5 +1,5 @@
 ghost use Rattle.std.specs.Prelude.{◌≡◌, ◌<◌, ◌-◌, ◌++◌, ◌∷◌, [], length, IfNone, IfSome, None, OnOk, is_some};
-ghost use Rattle.tt_shared.specs.Mail.{emptied, first_of, placed, queue_of, queued, scripts_of, without_first};
+ghost use Rattle.tt_shared.specs.Mail.{emptied, first_of, with_event, queue_of, queued, scripts_of, without_first};
 
 use std::alloc::Global;
 use std::marker::Model;
@@ -35,7 +35,7 @@ impl Queues {
 
     /// The queue of the next thread, which is empty.
     ///
-    /// `NoMemory` where memory for it is refused.
+    /// `NoMemory` if memory for it is refused.
     pub fn add(&mut self) -> Result<(), NoMemory>
         ensures added { OnOk result (self.new ≡ self.old ++ [] ∷ []) }
     {
@@ -43,7 +43,7 @@ impl Queues {
         Ok(())
     }
 
-    // Where the queue of a thread is; none where there is none.
+    // Where the queue of a thread is; none if there is none.
     fn place(&self, thread: u32) -> Option<usize>
         ensures found { IfSome result (λ place. (place < length self.now) × (place ≡ thread - 1) × (0 < thread)) }
         ensures none { IfNone result (queue_of self.now thread ≡ None) }
@@ -52,9 +52,9 @@ impl Queues {
         (place < self.queues.len()).then_some(place)
     }
 
-    /// An event more for a thread, before all others with `head`, else behind them; nothing where there is no such thread.
+    /// An event more for a thread, before all others with `head`, else behind them; nothing if there is no such thread.
     ///
-    /// `NoMemory` where memory for it is refused.
+    /// `NoMemory` if memory for it is refused.
     pub fn push(&mut self, thread: u32, head: bool, event: Event) -> Result<(), NoMemory>
         ensures pushed { OnOk result (self.new ≡ queued self.old thread head event) }
     {
@@ -72,7 +72,7 @@ impl Queues {
             .is_some_and(|place| !self.queues[place].is_empty())
     }
 
-    /// Takes a thread's first event out; `None` exactly where it has none. It takes no memory.
+    /// Takes a thread's first event out; `None` exactly if it has none. It takes no memory.
     pub fn take(&mut self, thread: u32) -> Option<Event>
         ensures first { result ≡ first_of self.old thread }
         ensures rest { self.new ≡ without_first self.old thread }
@@ -107,7 +107,7 @@ impl Queues {
 }
 
 fn put(queue: &mut Queue, head: bool, event: Event) -> Result<(), NoMemory>
-    ensures { OnOk result (queue.new ≡ placed head event queue.old) }
+    ensures { OnOk result (queue.new ≡ with_event head event queue.old) }
 {
     if head {
         queue.push_head(event)

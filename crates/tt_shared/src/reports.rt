@@ -69,7 +69,7 @@ impl Shared {
         Ok(self.answer(Reply::Served(self.unwinds(thread))))
     }
 
-    // The procedure, where its thread is linked, and the error isn't one of its own.
+    // The procedure, if its thread is linked, and the error isn't one of its own.
     fn procedure_in_use(&self, plain: bool) -> Option<&ErrorProcedure>
         ensures { option_copied result ≡ procedure_in_use self.now plain self.now.error_procedure }
     {

@@ -1,6 +1,7 @@
 ghost use Rattle.std.specs.Prelude.{◌≡◌, IfOk, OnOk};
 ghost use Rattle.tt_shared.specs.Mail.{is_answered};
-ghost use Rattle.tt_shared.specs.Sends.{broadcasts, is_asked, sends, sends_linked, sends_to, tells_other};
+ghost use Rattle.tt_shared.specs.Sends.{broadcasts, is_asked, tells_other};
+ghost use Rattle.tt_shared.specs.inside.Sending.{sends, sends_linked, sends_to};
 ghost use Rattle.tt_shared.specs.State.{answer, no_thread};
 ghost use Rattle.tt_calls.specs.declared.reply.Reply.TheVariants.{Refused};
 
@@ -21,8 +22,8 @@ pub(crate) struct Sent<'a> {
 impl Shared {
     // A script goes to the thread of an id.
     pub(crate) fn send(&mut self, thread: u32, id: &Text, sent: &Sent) -> Result<Applied, NoMemory>
-        ensures state { OnOk result (self.new ≡ (sends self.old thread id.now sent.now.script.now sent.now.mode sent.now.variable.now sent.now.head).state) }
-        ensures gives { IfOk result (λ gives. gives ≡ (sends self.old thread id.now sent.now.script.now sent.now.mode sent.now.variable.now sent.now.head).gives) }
+        ensures state { OnOk result (self.new ≡ (sends self.old thread id.now sent.now).state) }
+        ensures gives { IfOk result (λ gives. gives ≡ (sends self.old thread id.now sent.now).gives) }
     {
         if !sent.is_asked() {
             return Ok(self.not_asked());
@@ -35,8 +36,8 @@ impl Shared {
 
     // A script goes to a linked thread.
     fn send_linked(&mut self, thread: u32, target: u32, sent: &Sent) -> Result<Applied, NoMemory>
-        ensures state { OnOk result (self.new ≡ (sends_linked self.old thread target sent.now.script.now sent.now.mode sent.now.variable.now sent.now.head).state) }
-        ensures gives { IfOk result (λ gives. gives ≡ (sends_linked self.old thread target sent.now.script.now sent.now.mode sent.now.variable.now sent.now.head).gives) }
+        ensures state { OnOk result (self.new ≡ (sends_linked self.old thread target sent.now).state) }
+        ensures gives { IfOk result (λ gives. gives ≡ (sends_linked self.old thread target sent.now).gives) }
     {
         match sent.mode {
             Mode::Waits if target == thread => Ok(self.not_asked()),
@@ -45,8 +46,8 @@ impl Shared {
     }
 
     fn send_to(&mut self, thread: u32, target: u32, sent: &Sent) -> Result<Applied, NoMemory>
-        ensures state { OnOk result (self.new ≡ (sends_to self.old thread target sent.now.script.now sent.now.mode sent.now.variable.now sent.now.head).state) }
-        ensures gives { IfOk result (λ gives. gives ≡ (sends_to self.old thread target sent.now.script.now sent.now.mode sent.now.variable.now sent.now.head).gives) }
+        ensures state { OnOk result (self.new ≡ (sends_to self.old thread target sent.now).state) }
+        ensures gives { IfOk result (λ gives. gives ≡ (sends_to self.old thread target sent.now).gives) }
     {
         let n = self.posts.next();
         let event = Event::Script {
@@ -82,7 +83,7 @@ impl Shared {
         Ok(self.answer(Reply::Go))
     }
 
-    // It goes to this thread, where it is another one and linked.
+    // It goes to this thread, if it is another one and linked.
     fn tell_other(&mut self, thread: u32, number: u32, script: &Text) -> Result<(), NoMemory>
         ensures { OnOk result (self.new ≡ tells_other thread number script.now self.old) }
     {

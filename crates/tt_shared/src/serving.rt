@@ -1,6 +1,6 @@
 ghost use Rattle.std.specs.Prelude.{◌≡◌, IfOk, OnOk};
 ghost use Rattle.tt_shared.specs.Mail.{variable_post};
-ghost use Rattle.tt_shared.specs.Sends.{awaits, come, delivers, delivers_value, is_due, is_failed, is_target, served, sets, takes, told};
+ghost use Rattle.tt_shared.specs.Sends.{awaits, come, delivers, delivers_to, is_due, is_failed, is_target, served, sets, slot_reply, takes};
 ghost use Rattle.tt_shared.specs.State.{answer};
 
 use crate::{Applied, Shared, VariablePost};
@@ -17,15 +17,15 @@ impl Shared {
         match self.posts.slot(n) {
             Some(slot) if slot.sender == thread => {
                 let state = self.posts.take(n);
-                self.told(state)
+                self.slot_answer(state)
             }
             _ => self.not_asked(),
         }
     }
 
-    // What a sender is told of its slot.
-    fn told(&self, state: SlotState) -> Applied
-        ensures { result ≡ answer self.now (told state) }
+    // What a sender is answered by its slot.
+    fn slot_answer(&self, state: SlotState) -> Applied
+        ensures { result ≡ answer self.now (slot_reply state) }
     {
         match state {
             SlotState::Waiting => self.not_asked(),
@@ -56,8 +56,8 @@ impl Shared {
 
     // It goes to the sender's variable.
     fn deliver_value(&mut self, thread: u32, n: u64, outcome: &Outcome) -> Result<Applied, NoMemory>
-        ensures state { OnOk result (self.new ≡ (delivers_value self.old thread n outcome.now (variable_post self.old.posts n)).state) }
-        ensures gives { IfOk result (λ gives. gives ≡ (delivers_value self.old thread n outcome.now (variable_post self.old.posts n)).gives) }
+        ensures state { OnOk result (self.new ≡ (delivers_to self.old thread n outcome.now).state) }
+        ensures gives { IfOk result (λ gives. gives ≡ (delivers_to self.old thread n outcome.now).gives) }
     {
         if !self.owes_value(thread, n) {
             return Ok(self.not_asked());

@@ -56,7 +56,7 @@ impl Model for Shared {
 impl Shared {
     /// Main alone, thread 1, which begins with this.
     ///
-    /// `NoMemory` where memory for it is refused.
+    /// `NoMemory` if memory for it is refused.
     pub fn new(alloc: Global, main: Start) -> Result<Shared, NoMemory>
         ensures new { IfOk result (λ shared. shared ≡ start_state main) }
     {
@@ -101,7 +101,7 @@ impl Shared {
         self.threads.made()
     }
 
-    /// The exit code of the run, from 0 to 255, where it is over. It takes no memory.
+    /// The exit code of the run, from 0 to 255, if it is over. It takes no memory.
     pub fn over(&self) -> Option<u8>
         ensures over { result ≡ self.now.over }
     {

@@ -1,8 +1,8 @@
 ghost use Rattle.std.specs.Prelude.{◌≡◌, IfOk, OnOk};
 ghost use Rattle.tt_calls.specs.declared.request.Request.TheVariants as ask;
-ghost use Rattle.tt_shared.specs.Acts.{creates, in_rows, releases, starts, is_unheld, stops_unheld, with_workers};
+ghost use Rattle.tt_shared.specs.Acts.{asks_release, asks_rows, creates, starts, is_unheld, stops_unheld, with_workers};
 ghost use Rattle.tt_shared.specs.State.{with_thread};
-ghost use Rattle.tt_threads.specs.Answers as threads;
+ghost use Rattle.tt_threads.specs.Requests as threads;
 ghost use Rattle.tt_threads.specs.Rows.{new_row, number_made, row_of};
 
 use crate::{Applied, Shared};
@@ -11,7 +11,7 @@ use tt_ids::{IdKind, id_text};
 use tt_text::{NoMemory, Text};
 
 impl Shared {
-    // A thread more, where there is room, and its number.
+    // A thread more, if there is room, and its number.
     fn make(
         &mut self,
         start: Start,
@@ -71,8 +71,8 @@ impl Shared {
 
     // A request on the table of threads alone.
     pub(crate) fn in_rows(&mut self, thread: u32, request: &Request) -> Result<Applied, NoMemory>
-        ensures state { OnOk result (self.new ≡ (in_rows self.old (threads.act self.old.rows thread request.now)).state) }
-        ensures gives { IfOk result (λ gives. gives ≡ (in_rows self.old (threads.act self.old.rows thread request.now)).gives) }
+        ensures state { OnOk result (self.new ≡ (asks_rows self.old thread request.now).state) }
+        ensures gives { IfOk result (λ gives. gives ≡ (asks_rows self.old thread request.now).gives) }
     {
         let reply = self.threads.apply(thread, request)?;
         Ok(self.answer(reply))
@@ -85,8 +85,8 @@ impl Shared {
         id: &Text,
         request: &Request,
     ) -> Result<Applied, NoMemory>
-        ensures state { OnOk result (self.new ≡ (releases self.old thread id.now (threads.act self.old.rows thread request.now)).state) }
-        ensures gives { IfOk result (λ gives. gives ≡ (releases self.old thread id.now (threads.act self.old.rows thread request.now)).gives) }
+        ensures state { OnOk result (self.new ≡ (asks_release self.old thread id.now request.now).state) }
+        ensures gives { IfOk result (λ gives. gives ≡ (asks_release self.old thread id.now request.now).gives) }
     {
         let number = self.named(thread, id);
         let reply = self.threads.apply(thread, request)?;

@@ -1,6 +1,7 @@
 use Rattle.std.proofs.Common.{◌≡◌, drop}
 use Rattle.std.specs.List.{fold}
-use Rattle.tt_pools.specs.Jobs.{cancels, cancels_one, so_far}
+use Rattle.tt_pools.specs.Jobs.{cancels, cancels_one}
+use Rattle.tt_pools.specs.inside.Cancelling.{so_far}
 use Rattle.tt_pools.proofs.cancel.cancel_all.Given as goal
 
 abbrev pub invariant-loop-job : goal.invariant-loop-job
