@@ -5,7 +5,7 @@ use Rattle.std.specs.List.{AllByRecursion}
 use Rattle.std.proofs.lemmas.List.Concat.{flat_map-append}
 use Rattle.tt_text.specs.Characters.{Character, characters, begin_with, continues_character, begins_character, IsCharacter, BeginsAnywhere, later_characters}
 use Rattle.tt_text.proofs.CharacterLemmas.{character_laws}
-use Rattle.tt_strings.specs.Places.{joined}
+use Rattle.tt_strings.specs.Places.{bytes_of}
 
 -- characters of which the first begins wherever it stands
 abbrev pub IsFresh : List Character → Type 0
@@ -85,12 +85,12 @@ one_of [] h = absurd h
 one_of (b ∷ more) h = one_character b more h
 
 -- characters that may stand side by side are those of the text that they make
-pub cut_again : (cut : List Character) → IsCut cut → characters (joined cut) ≡ cut
+pub cut_again : (cut : List Character) → IsCut cut → characters (bytes_of cut) ≡ cut
 cut_again [] h = refl
 cut_again (c ∷ cut) h =
-    let later : characters (joined cut) ≡ cut = cut_again cut (record { each = h.each.1; apart = later_all cut h.apart }) in
-    let fresh : IsFresh (characters (joined cut)) = let P : List Character → Type 0 = IsFresh in subst P (sym later) (all_fresh cut h.apart) in
-    append_fresh c (joined cut) fresh ∙ ap (λ t. t ++ characters (joined cut)) (one_of c h.each.0) ∙ ap (λ t. c ∷ t) later
+    let later : characters (bytes_of cut) ≡ cut = cut_again cut (record { each = h.each.1; apart = later_all cut h.apart }) in
+    let fresh : IsFresh (characters (bytes_of cut)) = let P : List Character → Type 0 = IsFresh in subst P (sym later) (all_fresh cut h.apart) in
+    append_fresh c (bytes_of cut) fresh ∙ ap (λ t. t ++ characters (bytes_of cut)) (one_of c h.each.0) ∙ ap (λ t. c ∷ t) later
 
 pub all_front : (P : Character → Type 0) (front back : List Character) → AllByRecursion P (front ++ back) → AllByRecursion P front
 all_front P [] back h = tt
@@ -109,7 +109,7 @@ back_apart [] back h = h
 back_apart (c ∷ front) back h = later_all back (all_back BeginsAnywhere front back h)
 
 -- a text is what its characters make
-pub whole_text : (text : List ℕ) → joined (characters text) ≡ text
+pub whole_text : (text : List ℕ) → bytes_of (characters text) ≡ text
 whole_text text = (character_laws.cut text).joined
 
 cut_of_text : (text : List ℕ) → IsCut (characters text)
@@ -117,16 +117,16 @@ cut_of_text text = record { each = (character_laws.cut text).each; apart = (char
 
 -- where a text's characters are cut in two, the bytes before and after make the same characters
 pub record IsCutAt (text : List ℕ) (front back : List Character) : Type 0 where
-  pub bytes : text ≡ joined front ++ joined back
-  pub front_is : characters (joined front) ≡ front
-  pub back_is : characters (joined back) ≡ back
+  pub bytes : text ≡ bytes_of front ++ bytes_of back
+  pub front_is : characters (bytes_of front) ≡ front
+  pub back_is : characters (bytes_of back) ≡ back
 
 pub cut_at : (text : List ℕ) (front back : List Character) → characters text ≡ front ++ back → IsCutAt text front back
 cut_at text front back e =
     let P : List Character → Type 0 = IsCut in
     let cut : IsCut (front ++ back) = subst P e (cut_of_text text) in
     record {
-      bytes = sym (whole_text text) ∙ ap joined e ∙ flat_map-append (λ c. c) front back;
+      bytes = sym (whole_text text) ∙ ap bytes_of e ∙ flat_map-append (λ c. c) front back;
       front_is = cut_again front (record { each = all_front IsCharacter front back cut.each; apart = front_apart front back cut.apart });
       back_is = cut_again back (record { each = all_back IsCharacter front back cut.each; apart = back_apart front back cut.apart });
     }

@@ -4,7 +4,7 @@ use Rattle.std.specs.List.{AllByRecursion}
 use Rattle.std.specs.Prelude.{IsTrue}
 use Rattle.std.proofs.lemmas.List.{take-append-drop, get_or-drop, length-drop}
 use Rattle.tt_text.specs.Characters.{characters, continues_character, IsCharacter}
-use Rattle.tt_strings.specs.Ends.{IsLastStart}
+use Rattle.tt_strings.specs.inside.Ends.{IsLastStart}
 use Rattle.tt_strings.proofs.Cuts.{Begins, append_fresh, fresh_of, one_of}
 
 all_from_reads : (P : ℕ → Type 0) (xs : List ℕ) → ((k : ℕ) → k < length xs → P (get_or xs k 0)) → AllByRecursion P xs

@@ -4,9 +4,9 @@ use Rattle.std.specs.List.{AllByRecursion}
 use Rattle.std.proofs.Math.Seq.{drop-append_seam}
 use Rattle.tt_text.specs.Characters.{Character, characters, BeginsAnywhere, continues_character, later_characters, begin_with}
 use Rattle.tt_text.proofs.CharacterLemmas.{character_laws}
-use Rattle.tt_strings.specs.Ends.{goes_on}
+use Rattle.tt_strings.specs.inside.Ends.{goes_on}
 use Rattle.tt_strings.specs.Mapping.{IsAtFront, IsNotAtFront}
-use Rattle.tt_strings.specs.Places.{joined}
+use Rattle.tt_strings.specs.Places.{bytes_of}
 use Rattle.tt_strings.proofs.Cuts.{IsFresh, Begins, all_back, all_fresh, append_fresh, cut_at, fresh_of, whole_text}
 
 -- the characters of a text that isn't empty
@@ -34,7 +34,7 @@ pub first_of : (text : List ℕ) → text ≢ [] → First text
 first_of [] some = absurd (some refl)
 first_of (b ∷ text) some = let h = begin_first b (characters text) in record { first = h.first; later = h.later; cut = h.cut }
 
-pub fresh_begins : (cut : List Character) → IsFresh cut → Begins (joined cut)
+pub fresh_begins : (cut : List Character) → IsFresh cut → Begins (bytes_of cut)
 fresh_begins [] h = tt
 fresh_begins ([] ∷ cut) h = absurd h
 fresh_begins ((b ∷ more) ∷ cut) h = h
@@ -49,8 +49,8 @@ rest_fresh text key rest some e =
     let P : List Character → Type 0 = λ cut. AllByRecursion BeginsAnywhere (later_characters cut) in
     after_first first.first first.later rest (subst P (e ∙ ap (λ k. k ++ rest) first.cut) (character_laws.cut text).apart)
 
-key_bytes : (text key : List ℕ) (rest : List Character) → characters text ≡ characters key ++ rest → text ≡ key ++ joined rest
-key_bytes text key rest e = (cut_at text (characters key) rest e).bytes ∙ ap (λ k. k ++ joined rest) (whole_text key)
+key_bytes : (text key : List ℕ) (rest : List Character) → characters text ≡ characters key ++ rest → text ≡ key ++ bytes_of rest
+key_bytes text key rest e = (cut_at text (characters key) rest e).bytes ∙ ap (λ k. k ++ bytes_of rest) (whole_text key)
 
 clash : true ≡ false → ⊥
 clash e = let P : Bool → Type 0 = λ b. elim b [ true ↦ Unit {0} | false ↦ ⊥ ] in subst P e tt
@@ -69,13 +69,13 @@ empty_nowhere text (b ∷ key) h rest at = absurd (omega arith)
 
 -- where its bytes don't stand, it doesn't
 pub no_bytes : (text key : List ℕ) → ((rest : List ℕ) → text ≢ key ++ rest) → IsNotAtFront key (characters text)
-no_bytes text key none rest at = none (joined rest) (key_bytes text key rest at.cut)
+no_bytes text key none rest at = none (bytes_of rest) (key_bytes text key rest at.cut)
 
 -- where its bytes end in a character, it doesn't
 pub cut_character : (text key after : List ℕ) → text ≡ key ++ after → goes_on after ≡ true → IsNotAtFront key (characters text)
 cut_character text key after e goes rest at =
-    let same : after ≡ joined rest = sym (drop-append_seam key after) ∙ ap (drop (length key)) (sym e ∙ key_bytes text key rest at.cut) ∙ drop-append_seam key (joined rest) in
-    let stops : goes_on after ≡ false = ap goes_on same ∙ begins_no (joined rest) (fresh_begins rest (rest_fresh text key rest at.some at.cut)) in
+    let same : after ≡ bytes_of rest = sym (drop-append_seam key after) ∙ ap (drop (length key)) (sym e ∙ key_bytes text key rest at.cut) ∙ drop-append_seam key (bytes_of rest) in
+    let stops : goes_on after ≡ false = ap goes_on same ∙ begins_no (bytes_of rest) (fresh_begins rest (rest_fresh text key rest at.some at.cut)) in
     absurd (clash (sym goes ∙ stops))
 
 one_more_byte : {n : ℕ} → suc n ≡ 0 → ⊥

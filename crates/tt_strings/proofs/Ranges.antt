@@ -4,7 +4,7 @@ use Rattle.std.specs.Prelude.{ℤ, pos, negsuc}
 use Rattle.std.proofs.lemmas.List.{take-append-drop, take_min, drop_min, length-take}
 use Rattle.std.proofs.Math.Seq.{take-append_seam, drop-nil, take-nil}
 use Rattle.tt_text.specs.Characters.{Character, characters, begin_with, continues_character}
-use Rattle.tt_strings.specs.Places.{joined, character_at, places_before, places_through, range}
+use Rattle.tt_strings.specs.Places.{bytes_of, character_at, places_before, places_through, range}
 use Rattle.tt_strings.proofs.Cuts.{cut_at, whole_text}
 
 begin_cases : (b n : ℕ) (more : List ℕ) (later : List Character) (v : Bool) → continues_character n ≡ v → length (begin_with b ((n ∷ more) ∷ later)) ≤ 1 + suc (length later)
@@ -23,19 +23,19 @@ no_more_characters (b ∷ text) = omega (arith, begin_longer b (characters text)
 
 -- the text before what is left of it
 
-split_text : (text rest : List ℕ) (front : List Character) → characters text ≡ front ++ characters rest → text ≡ joined front ++ rest
-split_text text rest front e = (cut_at text front (characters rest) e).bytes ∙ ap (λ t. joined front ++ t) (whole_text rest)
+split_text : (text rest : List ℕ) (front : List Character) → characters text ≡ front ++ characters rest → text ≡ bytes_of front ++ rest
+split_text text rest front e = (cut_at text front (characters rest) e).bytes ∙ ap (λ t. bytes_of front ++ t) (whole_text rest)
 
 pub rest_no_longer : (text rest : List ℕ) (front : List Character) → characters text ≡ front ++ characters rest → length rest ≤ length text
 rest_no_longer text rest front e =
-    let long : length text ≡ length (joined front) + length rest = ap length (split_text text rest front e) ∙ length-append (joined front) rest in
+    let long : length text ≡ length (bytes_of front) + length rest = ap length (split_text text rest front e) ∙ length-append (bytes_of front) rest in
     omega (arith, long)
 
 pub before_rest : (text rest : List ℕ) (front : List Character) → characters text ≡ front ++ characters rest → characters (take (length text - length rest) text) ≡ front
 before_rest text rest front e =
-    let long : length text ≡ length (joined front) + length rest = ap length (split_text text rest front e) ∙ length-append (joined front) rest in
-    let count : length text - length rest ≡ length (joined front) = omega (arith, long) in
-    ap characters (ap (λ k. take k text) count ∙ ap (take (length (joined front))) (split_text text rest front e) ∙ take-append_seam (joined front) rest)
+    let long : length text ≡ length (bytes_of front) + length rest = ap length (split_text text rest front e) ∙ length-append (bytes_of front) rest in
+    let count : length text - length rest ≡ length (bytes_of front) = omega (arith, long) in
+    ap characters (ap (λ k. take k text) count ∙ ap (take (length (bytes_of front))) (split_text text rest front e) ∙ take-append_seam (bytes_of front) rest)
     ∙ (cut_at text front (characters rest) e).front_is
 
 -- the same after the first n characters
@@ -62,16 +62,16 @@ drop_capped n m xs h =
 
 -- one place through itself
 
-one_place : (n : ℕ) (xs : List Character) → joined (drop n (take (n + 1) xs)) ≡ get_or xs n []
-one_place n [] = ap (λ xs. joined (drop n xs)) (take-nil (n + 1)) ∙ ap joined (drop-nil n)
-one_place zero (c ∷ xs) = ap (λ k. joined (take k (c ∷ xs))) one ∙ append-nil c where
+one_place : (n : ℕ) (xs : List Character) → bytes_of (drop n (take (n + 1) xs)) ≡ get_or xs n []
+one_place n [] = ap (λ xs. bytes_of (drop n xs)) (take-nil (n + 1)) ∙ ap bytes_of (drop-nil n)
+one_place zero (c ∷ xs) = ap (λ k. bytes_of (take k (c ∷ xs))) one ∙ append-nil c where
   one : 0 + 1 ≡ 1
   one = refl
-one_place (suc n) (c ∷ xs) = ap (λ k. joined (drop (suc n) (take k (c ∷ xs)))) more ∙ one_place n xs where
+one_place (suc n) (c ∷ xs) = ap (λ k. bytes_of (drop (suc n) (take k (c ∷ xs)))) more ∙ one_place n xs where
   more : suc n + 1 ≡ suc (n + 1)
   more = omega arith
 
-pub one_character : (place : ℤ) (characters : List Character) → joined (range place place characters) ≡ character_at place characters
+pub one_character : (place : ℤ) (characters : List Character) → bytes_of (range place place characters) ≡ character_at place characters
 one_character (pos n) characters = one_place n characters
 one_character (negsuc n) characters = refl
 
@@ -86,5 +86,5 @@ between text front middle first last m n i j e f =
     let few : length (characters front) ≤ length text = omega (arith, no_more_characters text, ap length e, length-take m (characters text)) in
     f ∙ ap (λ k. drop k (characters front)) j ∙ drop_capped (places_before first) (length text) (characters front) few ∙ ap (drop (places_before first)) through
 
-pub text_of : (text : List ℕ) (cut : List Character) → characters text ≡ cut → text ≡ joined cut
-text_of text cut e = sym (whole_text text) ∙ ap joined e
+pub text_of : (text : List ℕ) (cut : List Character) → characters text ≡ cut → text ≡ bytes_of cut
+text_of text cut e = sym (whole_text text) ∙ ap bytes_of e

@@ -7,10 +7,10 @@ use Rattle.std.proofs.Math.Seq.{take-append_seam}
 use Rattle.memchr.specs.Find.{OccursAt, Nowhere, NoneBefore, NoneAfter}
 use Rattle.tt_text.specs.Characters.{Character, characters, IsCharacter}
 use Rattle.tt_text.proofs.CharacterLemmas.{character_laws}
-use Rattle.tt_strings.specs.Ends.{is_whole}
+use Rattle.tt_strings.specs.inside.Ends.{is_whole}
 use Rattle.tt_strings.specs.Finding.{StandsAt, IsFirstPlace, IsLastPlace}
-use Rattle.tt_strings.specs.Places.{joined}
-use Rattle.tt_strings.specs.Whole.{IsWholeAt}
+use Rattle.tt_strings.specs.Places.{bytes_of}
+use Rattle.tt_strings.specs.inside.Whole.{IsWholeAt}
 use Rattle.tt_strings.proofs.Cuts.{cut_at, all_front}
 use Rattle.tt_strings.proofs.Keys.{First, first_of}
 use Rattle.tt_strings.proofs.Standing.{whole_occurs, whole_test, test_whole}
@@ -178,17 +178,17 @@ same_first a b xs ys e = (ap (λ l. get_or l 0 []) e, ap (drop 1) e)
 
 -- of two fronts of characters, the one of fewer has fewer bytes
 shorter_front : (front other rest more : List Character) → front ++ rest ≡ other ++ more → AllByRecursion IsCharacter other → length front < length other
-    → length (joined front) < length (joined other)
+    → length (bytes_of front) < length (bytes_of other)
 shorter_front front [] rest more e each less = absurd (omega arith)
-shorter_front [] (c ∷ other) rest more e each less = omega (arith, nonempty c each.0, length-append c (joined other))
+shorter_front [] (c ∷ other) rest more e each less = omega (arith, nonempty c each.0, length-append c (bytes_of other))
 shorter_front (b ∷ front) (c ∷ other) rest more e each less =
     let same = same_first b c (front ++ rest) (other ++ more) e in
-    omega (arith, shorter_front front other rest more same.1 each.1 (omega arith), ap length same.0, length-append b (joined front), length-append c (joined other))
+    omega (arith, shorter_front front other rest more same.1 each.1 (omega arith), ap length same.0, length-append b (bytes_of front), length-append c (bytes_of other))
 
 stands : (needle text : List ℕ) (k : ℕ) (w : IsWholeAt needle text k) → StandsAt (characters needle) (characters text) (length w.before)
 stands needle text k w = record { before = w.before; after = w.after; cut = w.cut; place_is = refl }
 
-whole_of : (needle text : List ℕ) (p : ℕ) (s : StandsAt (characters needle) (characters text) p) → IsWholeAt needle text (length (joined s.before))
+whole_of : (needle text : List ℕ) (p : ℕ) (s : StandsAt (characters needle) (characters text) p) → IsWholeAt needle text (length (bytes_of s.before))
 whole_of needle text p s = record { before = s.before; after = s.after; cut = s.cut; start_is = refl }
 
 each_before : (text : List ℕ) (front rest : List Character) → characters text ≡ front ++ rest → AllByRecursion IsCharacter front
@@ -202,26 +202,26 @@ place_is : (needle text : List ℕ) (k : ℕ) (w : IsWholeAt needle text k) → 
 place_is needle text k w =
     let cut = cut_at text w.before (characters needle ++ w.after) (regrouped text needle w.before w.after w.cut) in
     ap (λ n. length (characters (take n text))) (sym w.start_is)
-    ∙ ap (λ t. length (characters (take (length (joined w.before)) t))) cut.bytes
-    ∙ ap (λ t. length (characters t)) (take-append_seam (joined w.before) (joined (characters needle ++ w.after)))
+    ∙ ap (λ t. length (characters (take (length (bytes_of w.before)) t))) cut.bytes
+    ∙ ap (λ t. length (characters t)) (take-append_seam (bytes_of w.before) (bytes_of (characters needle ++ w.after)))
     ∙ ap length cut.front_is
 
 pub nowhere : (needle text : List ℕ) → ((k : ℕ) → ¬ IsWholeAt needle text k) → (p : ℕ) → ¬ StandsAt (characters needle) (characters text) p
-nowhere needle text none p s = none (length (joined s.before)) (whole_of needle text p s)
+nowhere needle text none p s = none (length (bytes_of s.before)) (whole_of needle text p s)
 
 fewer : (needle text : List ℕ) (p : ℕ) (s : StandsAt (characters needle) (characters text) p) (k : ℕ) (w : IsWholeAt needle text k) → length s.before < length w.before
-    → length (joined s.before) < k
+    → length (bytes_of s.before) < k
 fewer needle text p s k w less =
-    let short : length (joined s.before) < length (joined w.before) =
+    let short : length (bytes_of s.before) < length (bytes_of w.before) =
     shorter_front s.before w.before (characters needle ++ s.after) (characters needle ++ w.after)
     (sym (regrouped text needle s.before s.after s.cut) ∙ regrouped text needle w.before w.after w.cut)
     (each_before text w.before (characters needle ++ w.after) (regrouped text needle w.before w.after w.cut)) less in
     omega (arith, short, w.start_is)
 
 more : (needle text : List ℕ) (p : ℕ) (s : StandsAt (characters needle) (characters text) p) (k : ℕ) (w : IsWholeAt needle text k) → length w.before < length s.before
-    → k < length (joined s.before)
+    → k < length (bytes_of s.before)
 more needle text p s k w less =
-    let short : length (joined w.before) < length (joined s.before) =
+    let short : length (bytes_of w.before) < length (bytes_of s.before) =
     shorter_front w.before s.before (characters needle ++ w.after) (characters needle ++ s.after)
     (sym (regrouped text needle w.before w.after w.cut) ∙ regrouped text needle s.before s.after s.cut)
     (each_before text s.before (characters needle ++ s.after) (regrouped text needle s.before s.after s.cut)) less in
@@ -234,7 +234,7 @@ stands_first needle text start h =
     let P : ℕ → Type 0 = StandsAt (characters needle) (characters text) in
     let same = place_is needle text start h.0 in (
       subst P (sym same) (stands needle text start h.0),
-      λ p less s. h.1 (length (joined s.before)) (fewer needle text p s start h.0 (omega (arith, less, same, s.place_is))) (whole_of needle text p s),
+      λ p less s. h.1 (length (bytes_of s.before)) (fewer needle text p s start h.0 (omega (arith, less, same, s.place_is))) (whole_of needle text p s),
     )
 
 pub stands_last : (needle text : List ℕ) (start : ℕ) → IsWholeAt needle text start × ((k : ℕ) → start < k → ¬ IsWholeAt needle text k)
@@ -244,7 +244,7 @@ stands_last needle text start h =
     let P : ℕ → Type 0 = StandsAt (characters needle) (characters text) in
     let same = place_is needle text start h.0 in (
       subst P (sym same) (stands needle text start h.0),
-      λ p less s. h.1 (length (joined s.before)) (more needle text p s start h.0 (omega (arith, less, same, s.place_is))) (whole_of needle text p s),
+      λ p less s. h.1 (length (bytes_of s.before)) (more needle text p s start h.0 (omega (arith, less, same, s.place_is))) (whole_of needle text p s),
     )
 
 -- by cases on the needle

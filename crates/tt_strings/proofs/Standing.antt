@@ -10,41 +10,41 @@ use Rattle.memchr.specs.Find.{OccursAt}
 use Rattle.memchr.proofs.lemmas.MatchLemmas.{OccursAt-from_part, OccursAt-split}
 use Rattle.tt_text.specs.Characters.{Character, characters, BeginsAnywhere, later_characters}
 use Rattle.tt_text.proofs.CharacterLemmas.{character_laws}
-use Rattle.tt_strings.specs.Ends.{goes_on, is_whole}
-use Rattle.tt_strings.specs.Places.{joined}
-use Rattle.tt_strings.specs.Whole.{IsWholeAt}
+use Rattle.tt_strings.specs.inside.Ends.{goes_on, is_whole}
+use Rattle.tt_strings.specs.Places.{bytes_of}
+use Rattle.tt_strings.specs.inside.Whole.{IsWholeAt}
 use Rattle.tt_strings.proofs.Cuts.{IsFresh, all_back, all_fresh, append_fresh, cut_at, fresh_of, whole_text}
 use Rattle.tt_strings.proofs.Keys.{First, first_of, fresh_begins, begins_no, no_begins}
 
 -- the bytes of a text at whole characters
 
-pub whole_bytes : (needle text : List ℕ) (k : ℕ) (w : IsWholeAt needle text k) → text ≡ joined w.before ++ (needle ++ joined w.after)
+pub whole_bytes : (needle text : List ℕ) (k : ℕ) (w : IsWholeAt needle text k) → text ≡ bytes_of w.before ++ (needle ++ bytes_of w.after)
 whole_bytes needle text k w =
     (cut_at text (w.before ++ characters needle) w.after w.cut).bytes
-    ∙ ap (λ t. t ++ joined w.after) (flat_map-append (λ c. c) w.before (characters needle) ∙ ap (λ t. joined w.before ++ t) (whole_text needle))
-    ∙ append_assoc (joined w.before) needle (joined w.after)
+    ∙ ap (λ t. t ++ bytes_of w.after) (flat_map-append (λ c. c) w.before (characters needle) ∙ ap (λ t. bytes_of w.before ++ t) (whole_text needle))
+    ∙ append_assoc (bytes_of w.before) needle (bytes_of w.after)
 
-from_start : (needle text : List ℕ) (k : ℕ) (w : IsWholeAt needle text k) → drop k text ≡ needle ++ joined w.after
+from_start : (needle text : List ℕ) (k : ℕ) (w : IsWholeAt needle text k) → drop k text ≡ needle ++ bytes_of w.after
 from_start needle text k w =
-    ap (λ n. drop n text) (sym w.start_is) ∙ ap (drop (length (joined w.before))) (whole_bytes needle text k w)
-    ∙ drop-append_seam (joined w.before) (needle ++ joined w.after)
+    ap (λ n. drop n text) (sym w.start_is) ∙ ap (drop (length (bytes_of w.before))) (whole_bytes needle text k w)
+    ∙ drop-append_seam (bytes_of w.before) (needle ++ bytes_of w.after)
 
 whole_fits : (needle text : List ℕ) (k : ℕ) (w : IsWholeAt needle text k) → k + length needle ≤ length text
 whole_fits needle text k w =
-    let long : length text ≡ length (joined w.before) + length (needle ++ joined w.after) =
-    ap length (whole_bytes needle text k w) ∙ length-append (joined w.before) (needle ++ joined w.after) in
-    omega (arith, long, w.start_is, length-append needle (joined w.after))
+    let long : length text ≡ length (bytes_of w.before) + length (needle ++ bytes_of w.after) =
+    ap length (whole_bytes needle text k w) ∙ length-append (bytes_of w.before) (needle ++ bytes_of w.after) in
+    omega (arith, long, w.start_is, length-append needle (bytes_of w.after))
 
 -- a needle's bytes stand where its characters do
 pub whole_occurs : (needle text : List ℕ) (k : ℕ) → IsWholeAt needle text k → OccursAt text needle k
 whole_occurs needle text k w =
-    OccursAt-from_part text needle k (whole_fits needle text k w) (ap (take (length needle)) (from_start needle text k w) ∙ take-append_seam needle (joined w.after))
+    OccursAt-from_part text needle k (whole_fits needle text k w) (ap (take (length needle)) (from_start needle text k w) ∙ take-append_seam needle (bytes_of w.after))
 
-from_end : (needle text : List ℕ) (k : ℕ) (w : IsWholeAt needle text k) → drop (k + length needle) text ≡ joined w.after
+from_end : (needle text : List ℕ) (k : ℕ) (w : IsWholeAt needle text k) → drop (k + length needle) text ≡ bytes_of w.after
 from_end needle text k w =
     sym (drop-append_seam needle (drop (k + length needle) text))
     ∙ ap (drop (length needle)) (sym (OccursAt-split text needle k (whole_occurs needle text k w)) ∙ from_start needle text k w)
-    ∙ drop-append_seam needle (joined w.after)
+    ∙ drop-append_seam needle (bytes_of w.after)
 
 fresh_after : (front rest : List Character) → front ≢ [] → AllByRecursion BeginsAnywhere (later_characters (front ++ rest)) → IsFresh rest
 fresh_after [] rest some h = absurd (some refl)
@@ -69,17 +69,17 @@ ends_whole needle text k some w =
     let first : First needle = first_of needle some in
     let P : List Character → Type 0 = λ l. w.before ++ l ≢ [] in
     let front : w.before ++ characters needle ≢ [] = subst P (sym first.cut) (not_empty w.before first.first first.later) in
-    ap goes_on (from_end needle text k w) ∙ begins_no (joined w.after) (fresh_begins w.after (back_fresh text (w.before ++ characters needle) w.after front w.cut))
+    ap goes_on (from_end needle text k w) ∙ begins_no (bytes_of w.after) (fresh_begins w.after (back_fresh text (w.before ++ characters needle) w.after front w.cut))
 
 starts_whole : (needle text : List ℕ) (k : ℕ) (w : IsWholeAt needle text k) → (k ≡ 0) ⊎ (goes_on (drop k text) ≡ false)
 starts_whole needle text k w = by_before w.before refl where
   by_before : (before : List Character) → w.before ≡ before → (k ≡ 0) ⊎ (goes_on (drop k text) ≡ false)
-  by_before [] e = inl (sym w.start_is ∙ ap (λ b. length (joined b)) e)
+  by_before [] e = inl (sym w.start_is ∙ ap (λ b. length (bytes_of b)) e)
   by_before (c ∷ before) e =
       let some : w.before ≢ [] = λ n. not_empty [] c before (sym e ∙ n) in
       let cut : characters text ≡ w.before ++ (characters needle ++ w.after) = w.cut ∙ append_assoc w.before (characters needle) w.after in
-      let same : drop k text ≡ joined (characters needle ++ w.after) =
-      from_start needle text k w ∙ ap (λ t. t ++ joined w.after) (sym (whole_text needle)) ∙ sym (flat_map-append (λ c. c) (characters needle) w.after) in
+      let same : drop k text ≡ bytes_of (characters needle ++ w.after) =
+      from_start needle text k w ∙ ap (λ t. t ++ bytes_of w.after) (sym (whole_text needle)) ∙ sym (flat_map-append (λ c. c) (characters needle) w.after) in
       inr (ap goes_on same ∙ begins_no _ (fresh_begins (characters needle ++ w.after) (back_fresh text w.before (characters needle ++ w.after) some cut)))
 
 either_true : (a b : Bool) → (a ≡ true) ⊎ (b ≡ true) → (a || b) ≡ true

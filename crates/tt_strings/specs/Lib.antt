@@ -1,8 +1,7 @@
-pub mod Ends
 pub mod Finding
 pub mod Making
 pub mod Mapping
 pub mod Places
 pub mod Splitting
 pub mod Trimming
-pub mod Whole
+pub mod inside

@@ -4,8 +4,8 @@ use Rattle.std.specs.List.{flat_map}
 use Rattle.tt_text.specs.Characters.{Character}
 
 -- the text that characters are, one after the other
-abbrev pub joined : List Character → List ℕ
-joined characters = flat_map (λ c. c) characters
+abbrev pub bytes_of : List Character → List ℕ
+bytes_of characters = flat_map (λ c. c) characters
 
 -- the character at a place, and the empty text outside (string(n), string index)
 abbrev pub character_at : ℤ → List Character → Character

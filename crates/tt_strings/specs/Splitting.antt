@@ -2,7 +2,7 @@
 use Rattle.std.specs.Prelude.{◌≡◌, ℕ, false, IsTrue, List, [], ◌∷◌, ◌++◌}
 use Rattle.std.specs.List.{AllByRecursion}
 use Rattle.tt_text.specs.Characters.{Character}
-use Rattle.tt_strings.specs.Places.{joined}
+use Rattle.tt_strings.specs.Places.{bytes_of}
 use Rattle.tt_strings.specs.Trimming.{is_among}
 
 -- a text has none of these characters
@@ -20,11 +20,11 @@ pub record BeginsWithField (splitting text field rest : List Character) : Type 0
 pub data IsSplit (splitting : List Character) : (text : List Character) (fields : List (List ℕ)) → Type 0 where
   last : {text : List Character} →
       HasNone splitting text →
-      IsSplit splitting text (joined text ∷ [])
+      IsSplit splitting text (bytes_of text ∷ [])
   field : {text first rest : List Character} {fields : List (List ℕ)} →
       BeginsWithField splitting text first rest →
       IsSplit splitting rest fields →
-      IsSplit splitting text (joined first ∷ fields)
+      IsSplit splitting text (bytes_of first ∷ fields)
 
 -- what splitting a text comes to: an empty text has no fields, and without splitting characters each character is one
 abbrev pub IsSplitInto : (splitting text : List Character) (fields : List (List ℕ)) → Type 0

@@ -2,9 +2,9 @@
 ghost use Rattle.std.specs.Prelude.{◌≡◌, ◌+◌, ◌<◌, ◌≤◌, length, drop, take};
 ghost use Rattle.memchr.specs.Find.{FindsNeedle, FindsLastNeedle, OccursAt};
 ghost use Rattle.tt_text.specs.Characters.{characters};
-ghost use Rattle.tt_strings.specs.Ends.{is_whole};
+ghost use Rattle.tt_strings.specs.inside.Ends.{is_whole};
 ghost use Rattle.tt_strings.specs.Finding.{IsFirstPlace, IsLastPlace};
-ghost use Rattle.tt_strings.specs.Whole.{IsFirstWhole, IsLastWhole, IsWholeAt};
+ghost use Rattle.tt_strings.specs.inside.Whole.{IsFirstWhole, IsLastWhole, IsWholeAt};
 
 use crate::mapping::goes_on;
 use memchr::memmem;

@@ -15,6 +15,3 @@ pub use mapping::mapped;
 pub use places::{character_at, leading, range};
 pub use splitting::split_at;
 pub use trimming::{Side, WHITE_SPACE, trim};
-
-#[cfg(test)]
-mod tests;

@@ -4,7 +4,7 @@ ghost use Rattle.std.specs.Char.{to_ascii_lowercase, to_ascii_uppercase};
 ghost use Rattle.std.specs.List.{repeat};
 ghost use Rattle.tt_text.specs.Characters.{characters};
 ghost use Rattle.tt_strings.specs.Making.{IsRepeated, compared, times};
-ghost use Rattle.tt_strings.specs.Places.{joined};
+ghost use Rattle.tt_strings.specs.Places.{bytes_of};
 
 use crate::ends::split_last;
 use std::alloc::Global;
@@ -65,7 +65,7 @@ fn copies(alloc: Global, text: &[u8], count: usize) -> Result<Text, NoMemory>
 ///
 /// `NoMemory` where memory for it is refused.
 pub fn reversed(alloc: Global, text: &[u8]) -> Result<Text, NoMemory>
-    ensures { IfOk result (λ made. made ≡ joined (reverse (characters text.now))) }
+    ensures { IfOk result (λ made. made ≡ bytes_of (reverse (characters text.now))) }
 {
     let mut made = Vec::with_capacity(alloc, text.len())?;
     let mut left = text;

@@ -1,7 +1,7 @@
 //! Parts of a text replaced.
 ghost use Rattle.std.specs.Prelude.{◌≡◌, ◌≢◌, ◌<◌, ◌++◌, ℕ, List, [], length, IfOk, IfSome, MatchOption};
 ghost use Rattle.tt_text.specs.Characters.{characters};
-ghost use Rattle.tt_strings.specs.Ends.{goes_on};
+ghost use Rattle.tt_strings.specs.inside.Ends.{goes_on};
 ghost use Rattle.tt_strings.specs.Mapping.{HasNoPair, IsAtFront, IsFirstPair, IsMapped, IsNotAtFront, IsStep};
 
 use std::alloc::Global;
@@ -26,7 +26,8 @@ pub fn mapped(alloc: Global, pairs: &[Text], text: &[u8]) -> Result<Text, NoMemo
 // What stands at the front of the text becomes, and the text after it.
 #[tactic(auto, using(crate::proofs::Pairs::step_kept, crate::proofs::Pairs::step_replaced))]
 fn next_part<'a>(pairs: &'a [Text], text: &'a [u8]) -> Option<(&'a [u8], &'a [u8])>
-    ensures cases { MatchOption result (text.now ≡ []) (λ parts. IsStep pairs.now (characters text.now) parts.0.now (characters parts.1.now)) }
+    ensures cases { MatchOption result (text.now ≡ [])
+        (λ parts. IsStep pairs.now (characters text.now) parts.0.now (characters parts.1.now)) }
     ensures shorter { IfSome result (λ parts. length parts.1.now < length text.now) }
 {
     let (first, rest) = split_character(text)?;
@@ -38,7 +39,8 @@ fn next_part<'a>(pairs: &'a [Text], text: &'a [u8]) -> Option<(&'a [u8], &'a [u8
 
 // The value of the first pair whose key stands at the front of the text, and the text after the key.
 fn first_pair<'a>(pairs: &'a [Text], text: &'a [u8]) -> Option<(&'a [u8], &'a [u8])>
-    ensures cases { MatchOption result (HasNoPair pairs.now (characters text.now)) (λ parts. IsFirstPair pairs.now (characters text.now) parts.0.now (characters parts.1.now)) }
+    ensures cases { MatchOption result (HasNoPair pairs.now (characters text.now))
+        (λ parts. IsFirstPair pairs.now (characters text.now) parts.0.now (characters parts.1.now)) }
     ensures shorter { IfSome result (λ parts. length parts.1.now < length text.now) }
 {
     let mut left = pairs;
@@ -54,7 +56,8 @@ fn first_pair<'a>(pairs: &'a [Text], text: &'a [u8]) -> Option<(&'a [u8], &'a [u
 // The text after a key at its front, if the key stands there as whole characters and isn't empty.
 #[tactic(auto, using(crate::proofs::Keys::empty_nowhere, crate::proofs::Keys::no_bytes, crate::proofs::Keys::cut_character, crate::proofs::Keys::found, crate::proofs::Keys::found_shorter))]
 fn after_key<'a>(text: &'a [u8], key: &[u8]) -> Option<&'a [u8]>
-    ensures cases { MatchOption result (IsNotAtFront key.now (characters text.now)) (λ after. IsAtFront key.now (characters text.now) (characters after.now)) }
+    ensures cases { MatchOption result (IsNotAtFront key.now (characters text.now))
+        (λ after. IsAtFront key.now (characters text.now) (characters after.now)) }
     ensures shorter { IfSome result (λ after. length after.now < length text.now) }
 {
     let [_, ..] = key else {
@@ -68,7 +71,8 @@ fn after_key<'a>(text: &'a [u8], key: &[u8]) -> Option<&'a [u8]>
 
 // The text after these bytes at its front.
 fn after_bytes<'a>(text: &'a [u8], front: &[u8]) -> Option<&'a [u8]>
-    ensures { MatchOption result ((rest : List ℕ) → text.now ≢ front.now ++ rest) (λ after. text.now ≡ front.now ++ after.now) }
+    ensures { MatchOption result ((rest : List ℕ) → text.now ≢ front.now ++ rest)
+        (λ after. text.now ≡ front.now ++ after.now) }
 {
     let after = text.strip_prefix(front);
     after

@@ -1,7 +1,7 @@
 //! Characters by their places.
 ghost use Rattle.std.specs.Prelude.{◌≡◌, length, take, drop, min};
 ghost use Rattle.tt_text.specs.Characters.{characters};
-ghost use Rattle.tt_strings.specs.Places.{character_at, joined, places_before, places_through, range};
+ghost use Rattle.tt_strings.specs.Places.{character_at, bytes_of, places_before, places_through, range};
 
 use tt_text::split_character;
 
@@ -20,7 +20,7 @@ pub fn character_at(text: &[u8], place: i128) -> &[u8]
 /// The first character is at place 0.
 #[tactic(auto, using(crate::proofs::Ranges::between, crate::proofs::Ranges::text_of))]
 pub fn range(text: &[u8], first: i128, last: i128) -> &[u8]
-    ensures text { result.now ≡ joined (range first last (characters text.now)) }
+    ensures text { result.now ≡ bytes_of (range first last (characters text.now)) }
     ensures characters { characters result.now ≡ range first last (characters text.now) }
 {
     let front = leading(text, places_through(last, text.len()));
@@ -55,7 +55,7 @@ fn places_through(place: i128, most: usize) -> usize
 
 /// The first characters of a text, so many, or all where it has fewer.
 pub fn leading(text: &[u8], count: usize) -> &[u8]
-    ensures text { result.now ≡ joined (take count (characters text.now)) }
+    ensures text { result.now ≡ bytes_of (take count (characters text.now)) }
     ensures characters { characters result.now ≡ take count (characters text.now) }
 {
     let rest = after(text, count);

@@ -54,7 +54,9 @@ fn fields(alloc: Global, text: &[u8], splitting: &[u8]) -> Result<Texts, NoMemor
 // The text before the first splitting character, and the text after it.
 #[tactic(auto, using(crate::proofs::Fields::none_passed, crate::proofs::Fields::one_passed, crate::proofs::Fields::all_passed, crate::proofs::Fields::found_field))]
 fn next_field<'a>(text: &'a [u8], splitting: &[u8]) -> Option<(&'a [u8], &'a [u8])>
-    ensures cases { MatchOption result (HasNone (characters splitting.now) (characters text.now)) (λ parts. BeginsWithField (characters splitting.now) (characters text.now) (characters parts.0.now) (characters parts.1.now)) }
+    ensures cases { MatchOption result (HasNone (characters splitting.now) (characters text.now))
+        (λ parts. BeginsWithField (characters splitting.now) (characters text.now) (characters parts.0.now)
+        (characters parts.1.now)) }
     ensures shorter { IfSome result (λ parts. length parts.1.now < length text.now) }
 {
     let mut left = text;

@@ -1,7 +1,7 @@
 //! Characters left out at the ends of a text.
 ghost use Rattle.std.specs.Prelude.{◌≡◌};
 ghost use Rattle.tt_text.specs.Characters.{characters};
-ghost use Rattle.tt_strings.specs.Places.{joined};
+ghost use Rattle.tt_strings.specs.Places.{bytes_of};
 ghost use Rattle.tt_strings.specs.Trimming.{is_among, trim_left, trim_right, trim};
 
 use crate::ends::split_last;
@@ -24,7 +24,7 @@ pub static WHITE_SPACE: &[u8] = b"\t\n\x0b\x0c\r ";
 /// The text without those characters at the ends of that side (string(n), string trim).
 #[tactic(auto, using(crate::proofs::Ranges::text_of))]
 pub fn trim<'a>(text: &'a [u8], trimmed: &[u8], side: Side) -> &'a [u8]
-    ensures text { result.now ≡ joined (trim side (characters trimmed.now) (characters text.now)) }
+    ensures text { result.now ≡ bytes_of (trim side (characters trimmed.now) (characters text.now)) }
     ensures characters { characters result.now ≡ trim side (characters trimmed.now) (characters text.now) }
 {
     match side {

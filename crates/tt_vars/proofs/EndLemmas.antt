@@ -8,7 +8,7 @@ use Rattle.tt_vars.specs.declared.variable.Place.{Place}
 use Rattle.tt_vars.specs.declared.variable.Variable.{Variable}
 use Rattle.tt_vars.specs.declared.variable.Variable.TheVariants.{Scalar, Array, Link}
 use Rattle.tt_vars.specs.Variables.{Name, Frame, named, leads, is_set, with}
-use Rattle.tt_vars.specs.Ending.{rank, KeepsLinks, LeadsOn, LinksEnd, CanLink}
+use Rattle.tt_vars.specs.inside.Ending.{rank, KeepsLinks, LeadsOn, LinksEnd, CanLink}
 use Rattle.tt_vars.specs.Links.{frame_at}
 use Rattle.tt_vars.proofs.FrameLemmas.{same_some, none_is_some}
 use Rattle.tt_vars.proofs.LinkLemmas.{link_is_there, rank-with}

@@ -3,7 +3,7 @@ use Rattle.std.proofs.Common.{◌≡◌, inl, inr, ℕ, zero, suc, ◌+◌, ◌-
 use Rattle.std.proofs.lemmas.Bool.{cases_lt}
 use Rattle.tt_vars.specs.declared.variable.Place.{Place}
 use Rattle.tt_vars.specs.Variables.{Name, Frame, named, leads}
-use Rattle.tt_vars.specs.Ending.{rank, LinksEnd}
+use Rattle.tt_vars.specs.inside.Ending.{rank, LinksEnd}
 use Rattle.tt_vars.specs.Links.{frame_at, at, element_of, onward, StandsFor, linked}
 use Rattle.tt_vars.proofs.FrameLemmas.{same_some, none_is_some}
 use Rattle.tt_vars.proofs.LinkLemmas.{link_is_there}

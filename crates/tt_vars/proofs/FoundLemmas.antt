@@ -12,7 +12,7 @@ use Rattle.tt_vars.specs.Variables.{Name, Frame, named, leads, read, with, witho
 use Rattle.tt_vars.specs.declared.variable.Found.{Found}
 use Rattle.tt_vars.specs.declared.variable.Place.{Place}
 use Rattle.tt_vars.specs.Links.{at, frame_at, with_frame, written_at}
-use Rattle.tt_vars.specs.Found.{element_in, put_at, put_by, text_at, text_in, removed_in}
+use Rattle.tt_vars.specs.inside.Found.{element_in, put_at, put_by, text_at, text_in, removed_in}
 
 err_is_ok : {X E : Type 0} {e : E} {x : X} → Err e ≡ Ok x → ⊥
 err_is_ok h = cc

@@ -6,7 +6,7 @@ use Rattle.std.specs.Map.{values_of}
 use Rattle.indexmap.specs.IndexMap.{set_value_at}
 use Rattle.tt_lists.specs.declared.answer.ListAnswer.{ListAnswer}
 use Rattle.tt_lists.specs.declared.answer.ListAnswer.TheVariants.{Made, Bad}
-use Rattle.tt_value.specs.Growing.{grown, left_by}
+use Rattle.tt_value.specs.Growing.{grown, value_after}
 use Rattle.tt_value.specs.declared.value.Growth.{Growth}
 use Rattle.tt_vars.specs.declared.answers.VarFault.{VarFault}
 use Rattle.tt_vars.specs.declared.answers.VarFault.TheVariants.{IsArray}
@@ -16,11 +16,11 @@ use Rattle.tt_vars.specs.declared.variable.Found.{Found}
 use Rattle.tt_vars.specs.declared.variable.Variable.{Variable}
 use Rattle.tt_vars.specs.Variables.{Frame, Pairs, Puts, result_of}
 use Rattle.tt_vars.specs.Links.{Grows, Takes, frame_at, with_frame}
-use Rattle.tt_vars.specs.Found.{FindsAt, after_growing, put_at, put_by, put_in, text_at}
+use Rattle.tt_vars.specs.inside.Found.{FindsAt, after_growing, put_at, put_by, put_in, text_at}
 use Rattle.tt_vars.proofs.FrameLemmas.{set_value_at-same}
 
 pub among : (es : Pairs) (i : ℕ) (old new : List ℕ) (answer : ListAnswer) → slice_get (values_of es) i ≡ Some old
-    → new ≡ left_by answer old → set_value_at es i new ≡ after_growing (set_value_at es i) es (Some answer)
+    → new ≡ value_after answer old → set_value_at es i new ≡ after_growing (set_value_at es i) es (Some answer)
 among es i old new (Made text) at is = ap (set_value_at es i) is
 among es i old new (Bad message) at is = ap (set_value_at es i) is ∙ set_value_at-same es i old at
 

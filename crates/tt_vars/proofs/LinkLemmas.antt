@@ -10,8 +10,8 @@ use Rattle.tt_vars.specs.declared.variable.Place.{Place}
 use Rattle.tt_vars.specs.declared.variable.Variable.{Variable}
 use Rattle.tt_vars.specs.declared.variable.Variable.TheVariants.{Scalar, Array, Link}
 use Rattle.tt_vars.specs.Variables.{Name, Frame, named, leads, with}
-use Rattle.tt_vars.specs.Ending.{rank, KeepsLinks}
-use Rattle.tt_vars.specs.Found.{without_at, removed_in}
+use Rattle.tt_vars.specs.inside.Ending.{rank, KeepsLinks}
+use Rattle.tt_vars.specs.inside.Found.{without_at, removed_in}
 use Rattle.tt_vars.proofs.FrameLemmas.{same_some, none_is_some, keys-set_at}
 
 pub link_is_there : (v : Option Variable) (to : Option Place) → leads v ≡ Some to → is_some v ≡ true

@@ -4,7 +4,7 @@ use Rattle.tt_vars.specs.declared.answers.Linked.TheVariants as answers
 use Rattle.tt_vars.specs.declared.variable.Place.{Place}
 use Rattle.tt_vars.specs.Variables.{Name, Frame, named, leads, is_set}
 use Rattle.tt_vars.specs.Links.{frame_at, at, place_of, element_of, onward, StandsFor, itself, nothing, linked, is_of, is_variable, link_answer}
-use Rattle.tt_vars.specs.Ending.{LinksEnd, CanLink}
+use Rattle.tt_vars.specs.inside.Ending.{LinksEnd, CanLink}
 use Rattle.tt_vars.proofs.FrameLemmas.{same_some, none_is_some}
 use Rattle.tt_vars.proofs.FollowLemmas.{onward_to}
 

@@ -1,4 +1,3 @@
-pub mod Ending
-pub mod Found
 pub mod Links
 pub mod Variables
+pub mod inside

@@ -1,5 +1,6 @@
 -- What names stand for after their links (upvar(n), global(n)), and what is done through them.
-use Rattle.std.specs.Prelude.{◌≡◌, ℕ, Bool, false, ◌&&◌, ◌||◌, ◌==◌, cond, not, is_some, List, [], Option, None, Some, Result, Ok, Err, IsOk, bytes_eq, length, slice_index_or, slice_set}
+use Rattle.std.specs.Prelude.{◌≡◌, ℕ, Bool, false, ◌&&◌, ◌||◌, ◌==◌, cond, not, is_some, List, [], Option, None, Some}
+use Rattle.std.specs.Prelude.{Result, Ok, Err, IsOk, bytes_eq, length, slice_index_or, slice_set}
 use Rattle.std.specs.Borrow.{Bor}
 use Rattle.std.specs.Map.{keys_of}
 use Rattle.std.specs.Result.{result_map_both}
@@ -17,7 +18,8 @@ use Rattle.tt_vars.specs.declared.answers.Linked.TheVariants as answers
 use Rattle.tt_vars.specs.declared.variable.Place.{Place}
 use Rattle.tt_vars.specs.declared.variable.Variable.{Variable}
 use Rattle.tt_vars.specs.declared.variable.Variable.TheVariants.{Link}
-use Rattle.tt_vars.specs.Variables.{Name, Pairs, Frame, named, leads, elements_of, read, written, with, removed, result_of, is_set, Puts}
+use Rattle.tt_vars.specs.Variables.{Name, Pairs, Frame, named, leads, elements_of, read, written, with, removed}
+use Rattle.tt_vars.specs.Variables.{result_of, is_set, Puts}
 
 -- the frame with a number, from the global one, 0
 abbrev pub frame_at : List Frame → ℕ → Frame

@@ -1,11 +1,12 @@
-ghost use Rattle.std.specs.Prelude.{◌≡◌, ◌∷◌, [], length, map, position, remove, bytes_eq, slice_get, IfOk, OnOk, OnErr};
+ghost use Rattle.std.specs.Prelude.{◌≡◌, ◌∷◌, [], length, map, position, remove, bytes_eq, slice_get, IfOk, OnOk};
+ghost use Rattle.std.specs.Prelude.{OnErr};
 ghost use Rattle.std.specs.Option.{option_map, option_copied};
 ghost use Rattle.std.specs.Map.{lookup, keys_of, values_of};
 ghost use Rattle.indexmap.specs.IndexMap.{insert_entry, set_value_at};
 ghost use Rattle.tt_lists.specs.Reading.{split_of};
 ghost use Rattle.tt_number.specs.Numerals.{whole_of};
 ghost use Rattle.tt_value.specs.Growing.{grown};
-ghost use Rattle.tt_vars.specs.Found.{after_growing};
+ghost use Rattle.tt_vars.specs.inside.Found.{after_growing};
 
 use indexmap::IndexMap;
 use std::alloc::Global;
@@ -114,7 +115,8 @@ impl Elements {
         growth: Growth,
         texts: &[Text],
     ) -> Result<Option<ListAnswer>, NoMemory>
-        ensures answer { IfOk result (λ answer. answer ≡ option_map (grown growth texts.now) (slice_get (values_of self.old) place)) }
+        ensures answer { IfOk result (λ answer.
+            answer ≡ option_map (grown growth texts.now) (slice_get (values_of self.old) place)) }
         ensures grown { IfOk result (λ answer. self.new ≡ after_growing (set_value_at self.old place) self.old answer) }
     {
         let alloc = *self.map.allocator();

@@ -1,14 +1,16 @@
-ghost use Rattle.std.specs.Prelude.{◌≡◌, ℕ, List, [], Some, Ok, Err, cond, length, slice_get, remove, bytes_eq, IfOk, IfErr, OnOk, OnErr};
+ghost use Rattle.std.specs.Prelude.{◌≡◌, ℕ, List, [], Some, Ok, Err, cond, length, slice_get, remove, bytes_eq, IfOk};
+ghost use Rattle.std.specs.Prelude.{IfErr, OnOk, OnErr};
 ghost use Rattle.std.specs.Map.{keys_of, values_of};
 ghost use Rattle.std.specs.Option.{option_copied, option_map, ok_or};
 ghost use Rattle.tt_lists.specs.Reading.{split_of};
 ghost use Rattle.tt_number.specs.Numerals.{whole_of};
 ghost use Rattle.tt_vars.specs.declared.answers.VarFault.TheVariants.{IsArray};
 ghost use Rattle.tt_vars.specs.declared.variable.Variable.TheVariants.{Link};
-ghost use Rattle.tt_vars.specs.Variables.{Name, named, is_set, leads, elements_of, read, written, with, removed, result_of, Puts};
+ghost use Rattle.tt_vars.specs.Variables.{Name, named, is_set, leads, elements_of, read, written, with, removed};
+ghost use Rattle.tt_vars.specs.Variables.{result_of, Puts};
 ghost use Rattle.tt_value.specs.Growing.{grown};
-ghost use Rattle.tt_vars.specs.Found.{after_growing, element_in, put_at, text_at, removed_at, removed_in};
-ghost use Rattle.tt_vars.specs.Ending.{KeepsLinks};
+ghost use Rattle.tt_vars.specs.inside.Found.{after_growing, element_in, put_at, text_at, removed_at, removed_in};
+ghost use Rattle.tt_vars.specs.inside.Ending.{KeepsLinks};
 
 use crate::variable::{
     Found, Place, Variable, first_written, grow_in, items_in, remove_from, whole_in, write_to,
@@ -65,8 +67,10 @@ impl Frame {
         index: Option<&Text>,
         missing: VarFault,
     ) -> Result<&Value, VarFault>
-        ensures value { IfOk result (λ value. read missing (named self.now name.now) (option_copied index.entry) ≡ Ok value.now) }
-        ensures fault { IfErr result (λ fault. read missing (named self.now name.now) (option_copied index.entry) ≡ Err fault) }
+        ensures value { IfOk result (λ value.
+            read missing (named self.now name.now) (option_copied index.entry) ≡ Ok value.now) }
+        ensures fault { IfErr result (λ fault.
+            read missing (named self.now name.now) (option_copied index.entry) ≡ Err fault) }
     {
         match (self.map.get(name).ok_or(missing)?, index) {
             (Variable::Scalar(value), None) => Ok(value),
@@ -87,7 +91,9 @@ impl Frame {
         index: Option<Text>,
         value: Value,
     ) -> Result<Written, NoMemory>
-        ensures written { IfOk result (λ answer. Puts (result_of (with self.old name) (written (named self.old name) index value)) self.old self.new answer) }
+        ensures written { IfOk result (λ answer.
+            Puts (result_of (with self.old name) (written (named self.old name) index value)) self.old self.new
+            answer) }
         ensures unchanged { OnErr result (self.new ≡ self.old) }
         ensures links { KeepsLinks self.old self.new }
     {
@@ -104,7 +110,8 @@ impl Frame {
     /// `NoMemory` where memory for it is refused; then the frame is as it was.
     pub(crate) fn put_link(&mut self, name: Text, to: Option<Place>) -> Result<(), NoMemory>
         ensures put { OnOk result (self.new ≡ with self.old name (Link to)) }
-        ensures named { OnOk result ((other : Name) → named self.new other ≡ cond (bytes_eq name other) (Some (Link to)) (named self.old other)) }
+        ensures named { OnOk result ((other : Name) →
+            named self.new other ≡ cond (bytes_eq name other) (Some (Link to)) (named self.old other)) }
         ensures unchanged { OnErr result (self.new ≡ self.old) }
     {
         self.map.insert(name, Variable::Link(to))?;
@@ -119,11 +126,21 @@ impl Frame {
         index: Option<&Text>,
         missing: VarFault,
     ) -> Result<Found, VarFault>
-        ensures removed { IfOk result (λ found. removed missing self.now name.now (named self.now name.now) (option_copied index.entry) ≡ Ok (removed_at self.now found)) }
-        ensures text { IfOk result (λ found. read missing (named self.now name.now) (option_copied index.entry) ≡ ok_or (text_at self.now found) IsArray) }
-        ensures written { IfOk result (λ found. (old text : List ℕ) → text_at self.now found ≡ Some old → result_of (with self.now name.now) (written (named self.now name.now) (option_copied index.entry) text) ≡ Ok (put_at self.now found text)) }
-        ensures fault { IfErr result (λ fault. removed missing self.now name.now (named self.now name.now) (option_copied index.entry) ≡ Err fault) }
-        ensures no_text { IfErr result (λ fault. read missing (named self.now name.now) (option_copied index.entry) ≡ Err fault) }
+        ensures removed { IfOk result (λ found.
+            removed missing self.now name.now (named self.now name.now) (option_copied index.entry)
+            ≡ Ok (removed_at self.now found)) }
+        ensures text { IfOk result (λ found.
+            read missing (named self.now name.now) (option_copied index.entry)
+            ≡ ok_or (text_at self.now found) IsArray) }
+        ensures written { IfOk result (λ found.
+            (old text : List ℕ) → text_at self.now found ≡ Some old →
+            result_of (with self.now name.now)
+            (written (named self.now name.now) (option_copied index.entry) text)
+            ≡ Ok (put_at self.now found text)) }
+        ensures fault { IfErr result (λ fault.
+            removed missing self.now name.now (named self.now name.now) (option_copied index.entry) ≡ Err fault) }
+        ensures no_text { IfErr result (λ fault.
+            read missing (named self.now name.now) (option_copied index.entry) ≡ Err fault) }
     {
         let (variable, _, named) = self.map.get_full(name).ok_or(missing)?;
         let element = place_in(named, index)?;

@@ -10,7 +10,8 @@ use tt_text::Text;
 /// Following links comes to an end: each name stands for a variable, an element or nothing.
 pub fn each_name_stands_for_something(vars: &Vars, frame: u64, name: &Text, index: Option<&Text>)
     requires { frame < length vars.now }
-    ensures { (stands : Option Place) × StandsFor vars.now (place_of frame name.now (option_copied index.entry)) stands }
+    ensures { (stands : Option Place) ×
+        StandsFor vars.now (place_of frame name.now (option_copied index.entry)) stands }
 {
     let _ = vars.read(frame, name, index);
 }

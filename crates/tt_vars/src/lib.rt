@@ -11,6 +11,3 @@ mod vars;
 
 pub use answers::{Linked, VarFault, Written};
 pub use vars::Vars;
-
-#[cfg(test)]
-mod tests;

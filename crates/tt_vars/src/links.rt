@@ -1,8 +1,8 @@
 ghost use Rattle.std.specs.Prelude.{◌≡◌, ◌<◌, length, IfOk, IfSome};
 ghost use Rattle.std.specs.Option.{option_copied, option_map};
 ghost use Rattle.tt_vars.specs.Links.{StandsFor, frame_at, is_of, is_same, is_variable, missing, onward};
-ghost use Rattle.tt_vars.specs.Ending.{LinksEnd};
-ghost use Rattle.tt_vars.specs.Found.{place_at};
+ghost use Rattle.tt_vars.specs.inside.Ending.{LinksEnd};
+ghost use Rattle.tt_vars.specs.inside.Found.{place_at};
 
 use crate::VarFault;
 use crate::frame::Frame;

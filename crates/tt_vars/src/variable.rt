@@ -1,6 +1,6 @@
 ghost use Rattle.std.specs.Prelude.{◌≡◌, Some, None, Ok, IfOk, OnErr};
 ghost use Rattle.tt_vars.specs.Variables.{leads, written, Puts};
-ghost use Rattle.tt_vars.specs.Found.{after_growing, put_in, text_in, without_at};
+ghost use Rattle.tt_vars.specs.inside.Found.{after_growing, put_in, text_in, without_at};
 ghost use Rattle.std.specs.Option.{option_map};
 ghost use Rattle.tt_lists.specs.Reading.{split_of};
 ghost use Rattle.tt_number.specs.Numerals.{whole_of};
@@ -66,7 +66,8 @@ pub(crate) fn write_to(
     index: Option<Text>,
     value: Value,
 ) -> Result<Written, NoMemory>
-    ensures written { IfOk result (λ answer. Puts (written (Some variable.old) index value) variable.old variable.new answer) }
+    ensures written { IfOk result (λ answer.
+        Puts (written (Some variable.old) index value) variable.old variable.new answer) }
     ensures unchanged { OnErr result (variable.new ≡ variable.old) }
     ensures link { leads (Some variable.new) ≡ leads (Some variable.old) }
 {
@@ -136,8 +137,10 @@ pub(crate) fn grow_in(
     growth: Growth,
     texts: &[Text],
 ) -> Result<Option<ListAnswer>, NoMemory>
-    ensures answer { IfOk result (λ answer. answer ≡ option_map (grown growth texts.now) (text_in (Some variable.old) element)) }
-    ensures grown { IfOk result (λ answer. variable.new ≡ after_growing (put_in variable.old element) variable.old answer) }
+    ensures answer { IfOk result (λ answer.
+        answer ≡ option_map (grown growth texts.now) (text_in (Some variable.old) element)) }
+    ensures grown { IfOk result (λ answer.
+        variable.new ≡ after_growing (put_in variable.old element) variable.old answer) }
     ensures link { leads (Some variable.new) ≡ leads (Some variable.old) }
 {
     match (variable, element) {

@@ -1,12 +1,14 @@
-ghost use Rattle.std.specs.Prelude.{◌≡◌, ◌+◌, ◌-◌, ◌<◌, ◌≤◌, ◌++◌, ◌∷◌, [], None, Some, take, length, IfOk, IfSome, OnOk, OnErr};
+ghost use Rattle.std.specs.Prelude.{◌≡◌, ◌+◌, ◌-◌, ◌<◌, ◌≤◌, ◌++◌, ◌∷◌, [], None, Some, take, length, IfOk, IfSome};
+ghost use Rattle.std.specs.Prelude.{OnOk, OnErr};
 ghost use Rattle.std.specs.Option.{option_copied, option_map};
 ghost use Rattle.tt_lists.specs.Reading.{split_of};
 ghost use Rattle.tt_number.specs.Numerals.{whole_of};
 ghost use Rattle.tt_vars.specs.declared.variable.Variable.TheVariants.{Link};
 ghost use Rattle.tt_vars.specs.Variables.{with, Puts};
-ghost use Rattle.tt_vars.specs.Links.{AreSame, Grows, HasNames, HasSize, Links, Reads, ReadsAs, Removes, Writes, frame_at, lent, link_answer, place_of, read_at, with_frame, written_at};
-ghost use Rattle.tt_vars.specs.Ending.{CanLink, LinksEnd};
-ghost use Rattle.tt_vars.specs.Found.{FindsAt, IsFound, place_at};
+ghost use Rattle.tt_vars.specs.Links.{AreSame, Grows, HasNames, HasSize, Links, Reads, ReadsAs, Removes, Writes};
+ghost use Rattle.tt_vars.specs.Links.{frame_at, lent, link_answer, place_of, read_at, with_frame, written_at};
+ghost use Rattle.tt_vars.specs.inside.Ending.{CanLink, LinksEnd};
+ghost use Rattle.tt_vars.specs.inside.Found.{FindsAt, IsFound, place_at};
 
 use crate::frame::Frame;
 use crate::links::{Spot, follow, frame_in, is_of, is_same, is_variable, missing, owned};
@@ -33,7 +35,7 @@ pub struct Vars {
 impl Model for Vars {
     ghost use Rattle.std.specs.Prelude.{ℕ, List, ◌<◌, length};
     ghost use Rattle.tt_vars.specs.declared.variable.Variable.{Variable as AnyVariable};
-    ghost use Rattle.tt_vars.specs.Ending.{LinksEnd};
+    ghost use Rattle.tt_vars.specs.inside.Ending.{LinksEnd};
 
     ghost Value = { List (List (List ℕ × AnyVariable)) };
 
@@ -102,7 +104,8 @@ impl Vars {
         value: Value,
     ) -> Result<Written, NoMemory>
         requires { frame < length self.old }
-        ensures written { IfOk result (λ answer. Writes self.old (place_of frame name.now (option_copied index.entry)) value self.new answer) }
+        ensures written { IfOk result (λ answer.
+            Writes self.old (place_of frame name.now (option_copied index.entry)) value self.new answer) }
         ensures unchanged { OnErr result (self.new ≡ self.old) }
     {
         let spot = follow(self.frames.as_slice(), Spot { frame, name, index });
@@ -148,7 +151,8 @@ impl Vars {
         index: Option<&Text>,
     ) -> Result<Result<Split, VarFault>, NoMemory>
         requires { frame < length self.old }
-        ensures answer { IfOk result (λ answer. ReadsAs split_of self.old (place_of frame name.now (option_copied index.entry)) answer) }
+        ensures answer { IfOk result (λ answer.
+            ReadsAs split_of self.old (place_of frame name.now (option_copied index.entry)) answer) }
         ensures same { self.new ≡ self.old }
     {
         let (number, found) = match self.find(frame, name, index) {
@@ -172,7 +176,8 @@ impl Vars {
         texts: &[Text],
     ) -> Result<Result<ListAnswer, VarFault>, NoMemory>
         requires { frame < length self.old }
-        ensures grown { IfOk result (λ answer. Grows growth texts.now self.old (place_of frame name.now (option_copied index.entry)) self.new answer) }
+        ensures grown { IfOk result (λ answer.
+            Grows growth texts.now self.old (place_of frame name.now (option_copied index.entry)) self.new answer) }
         ensures frames { length self.new ≡ length self.old }
     {
         let (number, found) = match self.find(frame, name, index) {
@@ -197,7 +202,9 @@ impl Vars {
     ) -> Result<Linked, NoMemory>
         requires there { frame < length self.old }
         requires lower { other ≤ frame }
-        ensures linked { IfOk result (λ answer. Links self.old frame name.now (place_of other other_name.now (option_copied other_index.entry)) self.new answer) }
+        ensures linked { IfOk result (λ answer.
+            Links self.old frame name.now (place_of other other_name.now (option_copied other_index.entry)) self.new
+            answer) }
         ensures unchanged { OnErr result (self.new ≡ self.old) }
     {
         let frames = self.frames.as_slice();
@@ -287,7 +294,8 @@ impl Vars {
         other_index: Option<&Text>,
     ) -> bool
         requires { frame < length self.now }
-        ensures { AreSame self.now (place_of frame name.now (option_copied index.entry)) (place_of 0 other.now (option_copied other_index.entry)) result }
+        ensures { AreSame self.now (place_of frame name.now (option_copied index.entry))
+            (place_of 0 other.now (option_copied other_index.entry)) result }
     {
         let frames = self.frames.as_slice();
         let stands = follow(frames, Spot { frame, name, index });
@@ -354,7 +362,8 @@ fn find_spot(
 fn write_place(frames: &mut [Frame], place: Place, value: Value) -> Result<Written, NoMemory>
     requires there { place.frame < length frames.old }
     requires ends { LinksEnd frames.old }
-    ensures written { IfOk result (λ answer. Puts (written_at frames.old (Some place) value) frames.old frames.new answer) }
+    ensures written { IfOk result (λ answer.
+        Puts (written_at frames.old (Some place) value) frames.old frames.new answer) }
     ensures unchanged { OnErr result (frames.new ≡ frames.old) }
     ensures ends { LinksEnd frames.new }
 {
@@ -371,7 +380,8 @@ fn link_answer(
     stands: Option<Spot>,
 ) -> Linked
     requires { frame < length frames.now }
-    ensures { result ≡ link_answer frames.now frame name.now (option_map place_at whole.entry) (option_map place_at stands.entry) }
+    ensures { result ≡ link_answer frames.now frame name.now (option_map place_at whole.entry)
+        (option_map place_at stands.entry) }
 {
     if is_variable(frame, name, stands) {
         Linked::Itself
@@ -387,7 +397,8 @@ fn put_link(frames: &mut [Frame], frame: u64, name: Text, to: Option<Place>) -> 
     requires there { frame < length frames.old }
     requires ends { LinksEnd frames.old }
     requires free { CanLink frames.old frame name to }
-    ensures put { OnOk result (frames.new ≡ with_frame frames.old frame (with (frame_at frames.old frame) name (Link to))) }
+    ensures put { OnOk result
+        (frames.new ≡ with_frame frames.old frame (with (frame_at frames.old frame) name (Link to))) }
     ensures unchanged { OnErr result (frames.new ≡ frames.old) }
     ensures ends { LinksEnd frames.new }
 {

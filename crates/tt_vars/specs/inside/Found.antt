@@ -1,5 +1,6 @@
 -- What is found by a name, by its place in its frame.
-use Rattle.std.specs.Prelude.{◌≡◌, ℕ, ◌<◌, List, Option, None, Some, Result, Ok, Err, bytes_eq, length, position, slice_get, remove}
+use Rattle.std.specs.Prelude.{◌≡◌, ℕ, ◌<◌, List, Option, None, Some, Result, Ok, Err, bytes_eq, length, position}
+use Rattle.std.specs.Prelude.{slice_get, remove}
 use Rattle.std.specs.Map.{keys_of, values_of}
 use Rattle.std.specs.Option.{ok_or, option_copied}
 use Rattle.indexmap.specs.IndexMap.{set_value_at}

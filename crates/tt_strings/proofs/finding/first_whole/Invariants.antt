@@ -1,5 +1,5 @@
 use Rattle.std.proofs.Common.{ℕ, ◌-◌, ◌<◌, ◌≤◌, length}
-use Rattle.tt_strings.specs.Whole.{IsWholeAt}
+use Rattle.tt_strings.specs.inside.Whole.{IsWholeAt}
 use Rattle.tt_strings.proofs.finding.first_whole.Given as goal
 
 abbrev pub invariant-starts : goal.invariant-starts

@@ -1,7 +1,7 @@
 use Rattle.std.proofs.Common.{◌≡◌, Some, rules}
 use Rattle.tt_vars.specs.Variables.{leads}
 use Rattle.tt_vars.specs.Links.{at, onward, itself, nothing}
-use Rattle.tt_vars.specs.Found.{place_at}
+use Rattle.tt_vars.specs.inside.Found.{place_at}
 use Rattle.tt_vars.proofs.FollowLemmas.{step-within, step-smaller, step-stands}
 use Rattle.tt_vars.proofs.links.follow.Goals as goal
 

@@ -1,7 +1,7 @@
 use Rattle.std.proofs.Common.{◌<◌, length, Option}
 use Rattle.tt_vars.specs.declared.variable.Place.{Place}
 use Rattle.tt_vars.specs.Links.{StandsFor}
-use Rattle.tt_vars.specs.Found.{place_at}
+use Rattle.tt_vars.specs.inside.Found.{place_at}
 use Rattle.tt_vars.proofs.FollowLemmas.{left}
 use Rattle.tt_vars.proofs.links.follow.Given as goal
 

@@ -1,6 +1,6 @@
 use Rattle.std.proofs.Common.{rules}
 use Rattle.std.specs.Option.{option_map}
-use Rattle.tt_vars.specs.Found.{place_at}
+use Rattle.tt_vars.specs.inside.Found.{place_at}
 use Rattle.tt_vars.proofs.FoundLemmas.{found-written}
 use Rattle.tt_vars.proofs.vars.find_spot.Goals as goal
 

@@ -1,5 +1,5 @@
 use Rattle.std.proofs.Common.{subst}
-use Rattle.tt_vars.specs.Ending.{KeepsLinks}
+use Rattle.tt_vars.specs.inside.Ending.{KeepsLinks}
 use Rattle.tt_vars.proofs.LinkLemmas.{keeps-taken}
 use Rattle.tt_vars.proofs.frame.Frame.remove_variable.Goals as goal
 

@@ -1,7 +1,7 @@
 use Rattle.std.proofs.Common.{◌<◌, ◌∙◌, Ok, length, rules, subst, sym}
 use Rattle.std.proofs.lemmas.List.{get_or_default}
 use Rattle.std.specs.Option.{option_copied}
-use Rattle.tt_vars.specs.Found.{FindsAt}
+use Rattle.tt_vars.specs.inside.Found.{FindsAt}
 use Rattle.tt_vars.specs.Links.{Grows, place_of, with_frame}
 use Rattle.tt_vars.proofs.EndLemmas.{ends-kept}
 use Rattle.tt_vars.proofs.GrowLemmas.{grows}

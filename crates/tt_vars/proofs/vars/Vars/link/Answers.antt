@@ -1,6 +1,6 @@
 use Rattle.std.proofs.Common.{rules}
 use Rattle.std.specs.Option.{option_copied, option_map}
-use Rattle.tt_vars.specs.Found.{place_at}
+use Rattle.tt_vars.specs.inside.Found.{place_at}
 use Rattle.tt_vars.specs.Links.{place_of}
 use Rattle.tt_vars.proofs.StandsLemmas.{can-link}
 use Rattle.tt_vars.proofs.vars.Vars.link.Goals as goal
