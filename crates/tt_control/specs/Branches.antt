@@ -1,7 +1,7 @@
 -- The tests and bodies in the words of if(n).
 use Rattle.std.specs.Prelude.{ℕ, Bool, true, false, bytes_eq, List, [], ◌∷◌, codes, Option, Some, None, if◌then◌else◌}
 use Rattle.std.specs.Option.{option_map}
-use Rattle.tt_control.specs.Answers.{Meaning}
+use Rattle.tt_control.specs.Refusals.{Meaning}
 use Rattle.tt_control.specs.declared.branches.Place.{Place}
 use Rattle.tt_control.specs.declared.branches.Place.TheVariants.{Test, ThenOrBody, Body, Later, LastBody, End}
 use Rattle.tt_control.specs.declared.branches.Step.{Step}

@@ -1,6 +1,6 @@
 -- The body that switch(n) chooses.
 use Rattle.std.specs.Prelude.{ℕ, Bool, true, false, ◌||◌, not, bytes_eq, List, [], ◌∷◌, codes, if◌then◌else◌}
-use Rattle.tt_control.specs.Answers.{bad_option, is_meant}
+use Rattle.tt_control.specs.Refusals.{bad_option, is_meant}
 use Rattle.tt_control.specs.declared.choices.Sign.{Sign}
 use Rattle.tt_control.specs.declared.choices.Sign.TheVariants.{Compares, Ends, Unknown, Plain}
 use Rattle.tt_control.specs.declared.control.Control.{Control}

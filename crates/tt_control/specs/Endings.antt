@@ -3,7 +3,7 @@ use Rattle.std.specs.Prelude.{ℕ, Bool, bytes_eq, List, [], ◌∷◌, codes, O
 use Rattle.std.specs.List.{find}
 use Rattle.tt_calls.specs.declared.outcome.Code.{Code}
 use Rattle.tt_calls.specs.declared.outcome.Code.TheVariants as code
-use Rattle.tt_control.specs.Answers.{Meaning, bad_option, bad_value, is_meant}
+use Rattle.tt_control.specs.Refusals.{Meaning, bad_option, bad_value, is_meant}
 use Rattle.tt_control.specs.declared.control.Control.{Control}
 use Rattle.tt_control.specs.declared.control.Control.TheVariants as control
 
@@ -17,15 +17,16 @@ abbrev pub continue_loop : Meaning
 continue_loop wrong [] = control.Continue
 continue_loop wrong (word ∷ words) = wrong
 
--- error(n): an empty info counts as left out
-abbrev pub given : (info : List ℕ) → Option (List ℕ)
-given [] = None
-given (b ∷ info) = Some (b ∷ info)
+-- the info of error(n): an empty one counts as left out
+abbrev pub info_of : (info : List ℕ) → Option (List ℕ)
+info_of [] = None
+info_of (b ∷ info) = Some (b ∷ info)
 
+-- error(n)
 abbrev pub error : Meaning
 error wrong (message ∷ []) = control.Error message None
-error wrong (message ∷ info ∷ []) = control.Error message (given info)
-error wrong (message ∷ info ∷ code ∷ []) = control.Error message (given info)
+error wrong (message ∷ info ∷ []) = control.Error message (info_of info)
+error wrong (message ∷ info ∷ code ∷ []) = control.Error message (info_of info)
 error wrong words = wrong
 
 -- return(n): the codes by their names. The options stand in pairs, so a last word without a partner is the value

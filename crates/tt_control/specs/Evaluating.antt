@@ -1,7 +1,7 @@
 -- What the words of commands mean that evaluate them as they stand (catch(n), expr(n), for(n), while(n)).
 use Rattle.std.specs.Prelude.{[], ◌∷◌, codes, Some, None}
 use Rattle.std.specs.List.{join_by}
-use Rattle.tt_control.specs.Answers.{Meaning}
+use Rattle.tt_control.specs.Refusals.{Meaning}
 use Rattle.tt_control.specs.declared.control.Control.TheVariants as control
 
 -- catch(n)

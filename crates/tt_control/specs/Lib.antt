@@ -1,7 +1,7 @@
-pub mod Answers
 pub mod Branches
 pub mod Choices
 pub mod Endings
 pub mod Evaluating
+pub mod Refusals
 pub mod Table
 pub mod Turns

@@ -1,7 +1,7 @@
 -- The commands that control evaluation: for each its name, its usage, and what the words after its name mean.
 use Rattle.std.specs.Prelude.{ℕ, bytes_eq, List, [], ◌∷◌, codes, Option, Some, None}
 use Rattle.std.specs.List.{find}
-use Rattle.tt_control.specs.Answers.{Meaning, wrong_number}
+use Rattle.tt_control.specs.Refusals.{Meaning, wrong_number}
 use Rattle.tt_control.specs.Branches.{branch}
 use Rattle.tt_control.specs.Choices.{switch}
 use Rattle.tt_control.specs.Endings.{break_loop, continue_loop, error, return_value}

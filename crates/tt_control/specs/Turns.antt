@@ -1,8 +1,9 @@
 -- The variables of foreach(n), and the values that they get turn by turn.
-use Rattle.std.specs.Prelude.{ℕ, zero, suc, ◌-◌, ◌*◌, ◌%◌, ◌==◌, ◌||◌, nat_lt, max, List, [], ◌∷◌, ◌++◌, codes, drop, length, replicate, take, if◌then◌else◌}
+use Rattle.std.specs.Prelude.{ℕ, zero, suc, ◌-◌, ◌*◌, ◌%◌, ◌==◌, ◌||◌, nat_lt, max, List, [], ◌∷◌, ◌++◌, codes, drop}
+use Rattle.std.specs.Prelude.{length, replicate, take, if◌then◌else◌}
 use Rattle.std.specs.Int.{div_ceil}
 use Rattle.std.specs.List.{flat_map, fold}
-use Rattle.tt_control.specs.Answers.{Meaning}
+use Rattle.tt_control.specs.Refusals.{Meaning}
 use Rattle.tt_control.specs.declared.control.Control.{Control}
 use Rattle.tt_control.specs.declared.control.Control.TheVariants as control
 use Rattle.tt_control.specs.declared.turns.Column.{Column}
@@ -23,17 +24,18 @@ abbrev pub most_turns : (columns : List Column) → ℕ
 most_turns columns =
     fold (λ most column. max most (turns_needed (length column.names) (length column.values))) 0 columns
 
--- the values that a list gives its variables in a turn, counted from 0: missing ones are empty
-abbrev pub filled : (width : ℕ) → (left : List (List ℕ)) → List (List ℕ)
-filled width left = take width left ++ replicate (width - length left) []
+-- so many values, the missing ones empty
+abbrev pub filled : (width : ℕ) → (values : List (List ℕ)) → List (List ℕ)
+filled width values = take width values ++ replicate (width - length values) []
 
-abbrev pub given : (turn : ℕ) → Column → List (List ℕ)
-given turn column = filled (length column.names) (drop (turn * length column.names) column.values)
+-- the values that a list gives its variables in a turn, counted from 0
+abbrev pub turn_values : (turn : ℕ) → Column → List (List ℕ)
+turn_values turn column = filled (length column.names) (drop (turn * length column.names) column.values)
 
 -- the values of all variables in the first turns
 abbrev pub first_turns : (columns : List Column) → (count : ℕ) → List (List ℕ)
 first_turns columns zero = []
-first_turns columns (suc turn) = first_turns columns turn ++ flat_map (given turn) columns
+first_turns columns (suc turn) = first_turns columns turn ++ flat_map (turn_values turn) columns
 
 abbrev pub turned : (columns : List Column) → (body : List ℕ) → Control
 turned columns body =

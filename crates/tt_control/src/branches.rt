@@ -1,11 +1,11 @@
 //! if(n): its tests and bodies.
 ghost use Rattle.std.specs.Prelude.{◌≡◌, IfOk};
 ghost use Rattle.std.specs.Option.{option_map};
-ghost use Rattle.tt_control.specs.Answers.{wrong_number};
+ghost use Rattle.tt_control.specs.Refusals.{wrong_number};
 ghost use Rattle.tt_control.specs.Branches as branches;
 
 use crate::Control;
-use crate::answers::wrong_number;
+use crate::refusals::wrong_number;
 use std::alloc::Global;
 use tt_text::{NoMemory, Text, Texts};
 

@@ -1,12 +1,12 @@
 //! switch(n): its options, its patterns, and the body that is chosen.
 ghost use Rattle.std.specs.Prelude.{◌≡◌, IfOk};
-ghost use Rattle.tt_control.specs.Answers.{wrong_number};
+ghost use Rattle.tt_control.specs.Refusals.{wrong_number};
 ghost use Rattle.tt_control.specs.Choices as choices;
 ghost use Rattle.tt_lists.specs.Searching.{is_alike};
 
 use crate::Control;
-use crate::answers::{bad_option, wrong_number};
 use crate::options::is_meant;
+use crate::refusals::{bad_option, wrong_number};
 use std::alloc::Global;
 use tt_lists::{Matching, Split, split};
 use tt_text::{NoMemory, Text, glob};

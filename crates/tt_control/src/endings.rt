@@ -1,12 +1,12 @@
 //! Commands that end what is evaluated around them.
 ghost use Rattle.std.specs.Prelude.{◌≡◌, IfOk, codes};
 ghost use Rattle.std.specs.Option.{option_map};
-ghost use Rattle.tt_control.specs.Answers.{wrong_number};
+ghost use Rattle.tt_control.specs.Refusals.{wrong_number};
 ghost use Rattle.tt_control.specs.Endings as endings;
 
 use crate::Control;
-use crate::answers::{bad_option, bad_value, wrong_number};
 use crate::options::is_meant;
+use crate::refusals::{bad_option, bad_value, wrong_number};
 use std::alloc::Global;
 use tt_calls::Code;
 use tt_text::{NoMemory, Text};
@@ -43,15 +43,15 @@ pub(crate) fn error(alloc: Global, usage: &[u8], words: &[Text]) -> Result<Contr
         }),
         [message, info] | [message, info, _] => Ok(Control::Error {
             message: message.copy()?,
-            info: given(info)?,
+            info: info_of(info)?,
         }),
         _ => wrong_number(alloc, usage),
     }
 }
 
 // An empty text counts as left out.
-fn given(info: &Text) -> Result<Option<Text>, NoMemory>
-    ensures { IfOk result (λ given. given ≡ endings.given info.now) }
+fn info_of(info: &Text) -> Result<Option<Text>, NoMemory>
+    ensures { IfOk result (λ found. found ≡ endings.info_of info.now) }
 {
     if info.is_empty() {
         return Ok(None);

@@ -1,11 +1,11 @@
 //! Commands that evaluate one of their words as it stands.
 ghost use Rattle.std.specs.Prelude.{◌≡◌, ◌++◌, IfOk, OnOk, codes};
 ghost use Rattle.std.specs.List.{flat_map};
-ghost use Rattle.tt_control.specs.Answers.{wrong_number};
+ghost use Rattle.tt_control.specs.Refusals.{wrong_number};
 ghost use Rattle.tt_control.specs.Evaluating as evaluating;
 
 use crate::Control;
-use crate::answers::wrong_number;
+use crate::refusals::wrong_number;
 use std::alloc::Global;
 use tt_text::{NoMemory, Text};
 

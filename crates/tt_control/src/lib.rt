@@ -3,7 +3,6 @@
 //! evaluated.
 #![tactic(auto)]
 
-mod answers;
 mod branches;
 mod choices;
 mod command;
@@ -12,10 +11,8 @@ mod endings;
 mod evaluating;
 mod options;
 mod reading;
+mod refusals;
 mod turns;
 
 pub use control::Control;
 pub use reading::read_control;
-
-#[cfg(test)]
-mod tests;

@@ -1,5 +1,5 @@
 ghost use Rattle.std.specs.Prelude.{◌≡◌, IfOk};
-ghost use Rattle.tt_control.specs.Answers.{wrong_number};
+ghost use Rattle.tt_control.specs.Refusals.{wrong_number};
 ghost use Rattle.tt_control.specs.Table as table;
 
 use crate::Control;
@@ -15,9 +15,9 @@ use tt_text::{NoMemory, Text};
 
 /// What the words of a command mean, its name first. A leading `::` of the name is dropped.
 ///
-/// `Other` comes exactly where the first word is no command of the table, and where there is no word. Errors come in this
-/// order: an option that isn't known, from the left; a wrong number of words; what the words say. `NoMemory` where
-/// memory is refused.
+/// `Other` comes exactly if the first word is no command of the table, or there is no word. Errors come in this order:
+/// an option that isn't known, from the left; a wrong number of words; what the words say. `NoMemory` if memory is
+/// refused.
 pub fn read_control(alloc: Global, words: &[Text]) -> Result<Control, NoMemory>
     ensures control { IfOk result (λ control. control ≡ table.control_of words.now) }
 {

@@ -1,12 +1,12 @@
 //! foreach(n): its variables, and the values that they get turn by turn.
 ghost use Rattle.std.specs.Prelude.{◌≡◌, ◌++◌, ◌*◌, [], drop, length, replicate, take, IfOk, OnOk};
 ghost use Rattle.std.specs.List.{flat_map};
-ghost use Rattle.tt_control.specs.Answers.{wrong_number};
+ghost use Rattle.tt_control.specs.Refusals.{wrong_number};
 ghost use Rattle.tt_control.specs.Turns as turns;
 ghost use Rattle.tt_lists.specs.Reading.{split_of};
 
 use crate::Control;
-use crate::answers::wrong_number;
+use crate::refusals::wrong_number;
 use std::alloc::Global;
 use tt_lists::{Split, split};
 use tt_text::{NoMemory, Text, Texts};
@@ -145,16 +145,16 @@ fn push_turn(
     columns: &[Column],
     turn: usize,
 ) -> Result<(), NoMemory>
-    ensures { OnOk result (all.new ≡ all.old ++ flat_map (turns.given turn) columns.now) }
+    ensures { OnOk result (all.new ≡ all.old ++ flat_map (turns.turn_values turn) columns.now) }
 {
     for column in columns {
-        push_given(alloc, all, column, turn)?;
+        push_values(alloc, all, column, turn)?;
     }
     Ok(())
 }
 
-fn push_given(alloc: Global, all: &mut Texts, column: &Column, turn: usize) -> Result<(), NoMemory>
-    ensures { OnOk result (all.new ≡ all.old ++ turns.given turn column.now) }
+fn push_values(alloc: Global, all: &mut Texts, column: &Column, turn: usize) -> Result<(), NoMemory>
+    ensures { OnOk result (all.new ≡ all.old ++ turns.turn_values turn column.now) }
 {
     let width = column.names.as_slice().len();
     let left = values_from(column.values.as_slice(), turn, width);

@@ -1,5 +1,5 @@
 use Rattle.std.proofs.Common.{length, ◌≡◌}
-use Rattle.tt_control.specs.Answers.{wrong_number}
+use Rattle.tt_control.specs.Refusals.{wrong_number}
 use Rattle.tt_control.specs.Choices.{switch}
 use Rattle.tt_lists.specs.declared.searching.Matching.TheVariants.{Exact}
 use Rattle.tt_control.proofs.choices.switch.Given as goal

@@ -1,5 +1,5 @@
 use Rattle.std.proofs.Common.{◌∙◌, rules}
-use Rattle.tt_control.specs.Answers.{wrong_number}
+use Rattle.tt_control.specs.Refusals.{wrong_number}
 use Rattle.tt_control.proofs.Pairs.{column_read}
 use Rattle.tt_control.proofs.turns.read_from.Goals as goal
 

@@ -1,5 +1,5 @@
 use Rattle.std.proofs.Common.{[], length, ◌≡◌}
-use Rattle.tt_control.specs.Answers.{wrong_number}
+use Rattle.tt_control.specs.Refusals.{wrong_number}
 use Rattle.tt_control.specs.Turns.{read_from}
 use Rattle.tt_control.proofs.turns.read_from.Given as goal
 
