@@ -19,7 +19,7 @@ use row::Row;
 use rows_reader::tell_table;
 use std::fs;
 
-const TABLES: [&str; 1] = ["requests.rows"];
+const TABLES: [&str; 3] = ["requests.rows", "words.rows", "usages.rows"];
 
 fn main(rt: HostRuntime) -> anyhow::Result<()> {
     for name in TABLES {

@@ -9,13 +9,13 @@ use Rattle.tt_calls.specs.declared.reply.Reply.TheVariants as reply
 use Rattle.tt_calls.specs.declared.request.Request.{Request}
 use Rattle.tt_calls.specs.declared.request.Request.TheVariants as ask
 use Rattle.tt_calls.specs.declared.tsv_call.TsvCall.TheVariants as tsv
-use Rattle.tt_commands.specs.declared.call.Call.{Call}
-use Rattle.tt_commands.specs.declared.call.Call.TheVariants as call
-use Rattle.tt_commands.specs.declared.call.Goal.{Goal}
-use Rattle.tt_commands.specs.declared.call.Goal.TheVariants as goal
-use Rattle.tt_commands.specs.declared.call.Here.TheVariants as here
-use Rattle.tt_commands.specs.declared.call.Then.{Then as After}
-use Rattle.tt_commands.specs.declared.call.Then.TheVariants as after
+use Rattle.tt_command_tables.specs.declared.call.Call.{Call}
+use Rattle.tt_command_tables.specs.declared.call.Call.TheVariants as call
+use Rattle.tt_command_tables.specs.declared.call.Goal.{Goal}
+use Rattle.tt_command_tables.specs.declared.call.Goal.TheVariants as goal
+use Rattle.tt_command_tables.specs.declared.call.Here.TheVariants as here
+use Rattle.tt_command_tables.specs.declared.call.Then.{Then as After}
+use Rattle.tt_command_tables.specs.declared.call.Then.TheVariants as after
 use Rattle.tt_outcomes.specs.Endings.{code_of, failed, fine, number_of, of_outcome, text_of}
 use Rattle.tt_outcomes.specs.declared.ending.Ending.{Ending}
 use Rattle.tt_evaluation.specs.Plans.{Asks, Calls, Goes}

@@ -1,0 +1,4 @@
+pub mod Flags
+pub mod Rows
+pub mod Tables
+pub mod Usages

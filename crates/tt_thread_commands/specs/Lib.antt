@@ -1,0 +1,3 @@
+pub mod Configuring
+pub mod Sending
+pub mod Threads
