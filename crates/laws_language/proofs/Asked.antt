@@ -14,7 +14,7 @@ use Rattle.tt_outcomes.specs.declared.got.Got.{Got}
 use Rattle.tt_outcomes.specs.declared.want.Want.{Want}
 use Rattle.tt_outcomes.specs.declared.want.Want.TheVariants.{Ask}
 use Rattle.tt_interp.specs.Answering.{Answers}
-use Rattle.tt_interp.specs.Asking.{AsksNext, Coming, end_of, having, asks, replied, answered, ends}
+use Rattle.tt_interp.specs.Asking.{AsksNext, Coming, end_of, having, asks, after_reply, answered, ends}
 use Rattle.tt_interp.specs.Beginning.{IsNext}
 use Rattle.tt_interp.specs.declared.kept.Kept.{Kept}
 use Rattle.tt_interp.specs.declared.setup.Setup.{Setup}
@@ -47,10 +47,10 @@ asked-once : {coming : Coming} {kept : Kept} {replies : List Reply} {one other :
 asked-once (asks is) (asks its) = one-asked is its
 asked-once {kept = kept} (asks is) (answered {new = new} got its gives rest) = absurd (no-answer kept new got is its gives)
 asked-once (asks is) (ends its) = absurd (stop-end is its)
-asked-once (replied is goes rest) (replied its go more) = asked-once rest more
-asked-once {kept = kept} (replied is goes rest) (answered {new = new} got its gives more) = absurd (no-answer kept new got is its gives)
+asked-once (after_reply is goes rest) (after_reply its go more) = asked-once rest more
+asked-once {kept = kept} (after_reply is goes rest) (answered {new = new} got its gives more) = absurd (no-answer kept new got is its gives)
 asked-once {kept = kept} (answered {new = new} got is gives rest) (asks its) = absurd (no-answer kept new got its is gives)
-asked-once {kept = kept} (answered {new = new} got is gives rest) (replied its go more) = absurd (no-answer kept new got its is gives)
+asked-once {kept = kept} (answered {new = new} got is gives rest) (after_reply its go more) = absurd (no-answer kept new got its is gives)
 asked-once {coming} {kept} {replies} {one} {other} {serving} {during}
     (answered {new = new} {want = want} got is gives rest) (answered {new = next} {want = wants} gets its give more) =
     let wanted = (one-want is its).0 in

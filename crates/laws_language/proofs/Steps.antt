@@ -13,7 +13,7 @@ use Rattle.tt_outcomes.specs.declared.got.Got.{Got}
 use Rattle.tt_outcomes.specs.declared.got.Got.TheVariants as gots
 use Rattle.tt_outcomes.specs.declared.want.Want.{Want}
 use Rattle.tt_outcomes.specs.declared.want.Want.TheVariants.{Ask}
-use Rattle.tt_interp.specs.Asking.{AsksNext, Coming, having, asks, replied, answered, ends}
+use Rattle.tt_interp.specs.Asking.{AsksNext, Coming, having, asks, after_reply, answered, ends}
 use Rattle.tt_interp.specs.declared.kept.Kept.{Kept}
 
 -- another evaluation comes to the same wherever this one doesn't run out of steps
@@ -32,8 +32,8 @@ extends-having got more = record {
 pub asked_again : {one other : Coming} {kept : Kept} {replies : List Reply} {request : Request} {serving : List ℕ}
     → Extends one other → AsksNext one kept replies request serving → AsksNext other kept replies request serving
 asked_again more (asks {request = request} {serving = serving} is) = asks (more.stops [] (Ask request) serving is)
-asked_again more (replied {asked = asked} {during = during} {reply = reply} is goes rest) =
-    replied (more.stops [] (Ask asked) during is) goes (asked_again (extends-having (gots.Reply reply) more) rest)
+asked_again more (after_reply {asked = asked} {during = during} {reply = reply} is goes rest) =
+    after_reply (more.stops [] (Ask asked) during is) goes (asked_again (extends-having (gots.Reply reply) more) rest)
 asked_again more (answered {want = want} got {during = during} is gives rest) =
     answered got (more.stops [] want during is) gives (asked_again (extends-having got more) rest)
 asked_again more (ends {ending = ending} {state = state} {steps = steps} is) =

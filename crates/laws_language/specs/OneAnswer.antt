@@ -5,7 +5,7 @@ use Rattle.tt_calls.specs.declared.reply.Reply.{Reply}
 use Rattle.tt_calls.specs.declared.request.Request.{Request}
 use Rattle.tt_calls.specs.declared.start.Start.{Start}
 use Rattle.tt_interp.specs.Answering.{Answers}
-use Rattle.tt_interp.specs.Beginning.{Begins, IsNext}
+use Rattle.tt_interp.specs.Beginning.{BeginsThread, IsNext}
 use Rattle.tt_interp.specs.Commands.{Runs}
 use Rattle.tt_interp.specs.declared.kept.Kept.{Kept}
 use Rattle.tt_interp.specs.declared.setup.Setup.{Setup}
@@ -42,8 +42,8 @@ AnswersOnceLaw =
 abbrev pub BeginsOnceLaw : Type 0
 BeginsOnceLaw =
     (setup : Setup) (me : ℕ) (one other : Kept) →
-    Begins setup me one →
-    Begins setup me other →
+    BeginsThread setup me one →
+    BeginsThread setup me other →
     one ≡ other
 
 -- a thread asks one request next, and serves the same posts then

@@ -38,7 +38,7 @@ asked_by places number = option_map (λ interp. interps.request_of interp.standi
 pub record StandsIn (interp : Interpreter) (setup : Setup) (number : ℕ) (thread : Thread) : Type 0 where
   pub halted : IsTrue (interps.is_halted interp.standing)
   pub later : (replies : List Reply) (request : Request) (serving : List ℕ) →
-      interps.Asks interp replies request serving →
+      interps.InterpAsks interp replies request serving →
       IsNext setup number thread.start (thread.replies ++ replies) request serving
 
 -- a thread that asks nothing

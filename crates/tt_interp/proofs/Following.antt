@@ -21,8 +21,8 @@ use Rattle.tt_outcomes.specs.declared.got.Got.{Got}
 use Rattle.tt_outcomes.specs.declared.got.Got.TheVariants as gots
 use Rattle.tt_outcomes.specs.declared.want.Want.{Want}
 use Rattle.tt_interp.specs.Answering.{Answers}
-use Rattle.tt_interp.specs.Asking.{AsksNext, Coming, goes_on, having, asks, replied, answered, ends}
-use Rattle.tt_interp.specs.Beginning.{Begins}
+use Rattle.tt_interp.specs.Asking.{AsksNext, Coming, goes_on, having, asks, after_reply, answered, ends}
+use Rattle.tt_interp.specs.Beginning.{BeginsThread}
 use Rattle.tt_interp.specs.Interps.{GoesOnFrom, IsLast, LeadsTo, StandsFor, after_got, coming, halt_of, halted, request_of, serving_of, standing_of}
 use Rattle.tt_interp.specs.declared.interp.Standing.{Standing}
 use Rattle.tt_interp.specs.declared.interp.Standing.TheVariants as standing
@@ -41,8 +41,8 @@ same_after got same gots = same (got ∷ gots)
 pub same_asked : {one other : Coming} {kept : Kept} {replies : List Reply} {request : Request} {serving : List ℕ}
     → AreSame one other → AsksNext one kept replies request serving → AsksNext other kept replies request serving
 same_asked same (asks is) = asks (sym (same []) ∙ is)
-same_asked same (replied {reply = reply} is goes rest) =
-    replied (sym (same []) ∙ is) goes (same_asked (same_after (gots.Reply reply) same) rest)
+same_asked same (after_reply {reply = reply} is goes rest) =
+    after_reply (sym (same []) ∙ is) goes (same_asked (same_after (gots.Reply reply) same) rest)
 same_asked same (answered got is gives rest) =
     answered got (sym (same []) ∙ is) gives (same_asked (same_after got same) rest)
 same_asked same (ends is) = ends (sym (same []) ∙ is)
@@ -95,10 +95,10 @@ pub replied_on : (before : Stack Counts Frame Asking) (asked : Request) (reply :
     → IsTrue (goes_on asked) → LeadsTo next new (after_got before (gots.Reply reply)) kept
     → GoesOnFrom next new (coming (standing.Asks before asked)) kept (Some reply)
 replied_on before asked reply kept new next goes leads replies request serving then =
-    replied refl goes (leads replies request serving then)
+    after_reply refl goes (leads replies request serving then)
 
 pub stands : (setup : Setup) (me : ℕ) (start copy : Start) (kept : Kept)
-    → copy ≡ start → Begins setup me kept
+    → copy ≡ start → BeginsThread setup me kept
     → StandsFor (record { kept = kept; standing = standing.Fresh copy me setup.limit }) setup me start
 stands setup me start copy kept same begins replies request serving asked = record {
   kept = kept;

@@ -45,7 +45,7 @@ pub data AsksNext : Coming → Kept → List Reply → Request → (serving : Li
   asks : {coming : Coming} {kept : Kept} {request : Request} {serving : List ℕ} →
       coming [] ≡ Stop (Ask request) serving →
       AsksNext coming kept [] request serving
-  replied :
+  after_reply :
       {coming : Coming} {kept : Kept} {asked request : Request} {during serving : List ℕ}
       {reply : Reply} {replies : List Reply} →
       coming [] ≡ Stop (Ask asked) during →

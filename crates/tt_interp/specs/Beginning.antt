@@ -30,7 +30,7 @@ globals me setup =
     else []
 
 -- what a thread keeps at its start
-pub record Begins (setup : Setup) (me : ℕ) (kept : Kept) : Type 0 where
+pub record BeginsThread (setup : Setup) (me : ℕ) (kept : Kept) : Type 0 where
   pub variables : AreSet (globals me setup) nothing_held kept.store
   pub procedures : kept.procedures ≡ []
 
@@ -40,5 +40,5 @@ pub record IsNext (setup : Setup) (me : ℕ) (start : Start)
     (replies : List Reply) (request : Request) (serving : List ℕ) : Type 0 where
   pub kept : Kept
   pub steps : ℕ
-  pub begins : Begins setup me kept
+  pub begins : BeginsThread setup me kept
   pub asks : AsksNext (eval plan (job.Start start) (fresh me setup.limit) steps) kept replies request serving

@@ -54,15 +54,15 @@ LeadsTo later kept before held =
     AsksNext before held replies request serving
 
 -- an interpreter asks this after further replies, while it serves these posts
-abbrev pub Asks : Interpreter → List Reply → Request → (serving : List ℕ) → Type 0
-Asks interpreter replies request serving =
+abbrev pub InterpAsks : Interpreter → List Reply → Request → (serving : List ℕ) → Type 0
+InterpAsks interpreter replies request serving =
     AsksNext (coming interpreter.standing) interpreter.kept replies request serving
 
 -- it stands for a thread that has got no reply
 abbrev pub StandsFor : Interpreter → Setup → (me : ℕ) → Start → Type 0
 StandsFor interpreter setup me start =
     (replies : List Reply) (request : Request) (serving : List ℕ) →
-    Asks interpreter replies request serving →
+    InterpAsks interpreter replies request serving →
     IsNext setup me start replies request serving
 
 -- nothing is evaluated

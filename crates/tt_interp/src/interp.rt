@@ -105,7 +105,7 @@ impl Interp {
     /// What the thread asks next: a request, or after its evaluation its end.
     pub fn request(&self) -> &Request
         requires halted { IsTrue (interps.is_halted self.now.standing) }
-        ensures asks { interps.Asks self.now [] result.now (interps.serving_of self.now.standing) }
+        ensures asks { interps.InterpAsks self.now [] result.now (interps.serving_of self.now.standing) }
         ensures is { result.now ≡ interps.request_of self.now.standing }
     {
         match &self.standing {

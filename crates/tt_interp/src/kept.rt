@@ -23,7 +23,7 @@ const MAIN: u32 = 1;
 impl Kept {
     /// What the thread of this number keeps at its start.
     pub(crate) fn new(alloc: Global, me: u32, setup: &Setup) -> Result<Self, NoMemory>
-        ensures { IfOk result (beginning.Begins setup.now me) }
+        ensures { IfOk result (beginning.BeginsThread setup.now me) }
     {
         let mut store = Store::new(alloc)?;
         let arguments = globals(alloc, me, setup)?;

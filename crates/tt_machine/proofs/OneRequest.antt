@@ -9,7 +9,7 @@ use Rattle.tt_frames.specs.Units.{fresh}
 use Rattle.tt_frames.specs.declared.job.Job.TheVariants as job
 use Rattle.tt_frames.specs.declared.state.Counts.{Counts}
 use Rattle.tt_interp.specs.Answering.{Answers}
-use Rattle.tt_interp.specs.Asking.{AsksNext, Coming, asks, replied, answered, ends, goes_on, having}
+use Rattle.tt_interp.specs.Asking.{AsksNext, Coming, asks, after_reply, answered, ends, goes_on, having}
 use Rattle.tt_interp.specs.Beginning.{IsNext}
 use Rattle.tt_interp.specs.declared.kept.Kept.{Kept}
 use Rattle.tt_interp.specs.declared.setup.Setup.{Setup}
@@ -58,15 +58,15 @@ nothing-asked : {coming : Coming} {kept : Kept} {replies all : List Reply} {requ
     → all ≡ replies ++ reply ∷ [] → AsksNext coming kept all other during → ⊥
 nothing-asked {replies = replies} reply first last is (asks its) = some-left replies reply is
 nothing-asked {replies = replies} reply first last is (ends its) = some-left replies reply is
-nothing-asked {request = request} reply (asks is) last all (replied {asked = asked} its goes rest) = goes-not request asked (one-asked is its) last goes
+nothing-asked {request = request} reply (asks is) last all (after_reply {asked = asked} its goes rest) = goes-not request asked (one-asked is its) last goes
 nothing-asked reply (asks is) last all (answered got its gives rest) = absurd (last-answer _ _ _ is its gives)
 nothing-asked {coming = coming} {kept = kept} {other = other} {during = during} reply
-    (replied {reply = told} is goes rest) last all (replied {reply = also} {replies = others} its go more) =
+    (after_reply {reply = told} is goes rest) last all (after_reply {reply = also} {replies = others} its go more) =
     let same : also ≡ told = cc all in
     nothing-asked reply rest last (tail-is all)
     (subst (λ (r : Reply). AsksNext (having (gots.Reply r) coming) kept others other during) same more)
-nothing-asked reply (replied is goes rest) last all (answered got its gives more) = absurd (last-answer _ _ _ is its gives)
-nothing-asked reply (answered got is gives rest) last all (replied its go more) = absurd (last-answer _ _ _ its is gives)
+nothing-asked reply (after_reply is goes rest) last all (answered got its gives more) = absurd (last-answer _ _ _ is its gives)
+nothing-asked reply (answered got is gives rest) last all (after_reply its go more) = absurd (last-answer _ _ _ its is gives)
 nothing-asked {coming = coming} {kept = kept} {all = list} {other = other} {during = during} reply
     (answered {new = new} {want = want} got is gives rest) last all (answered {new = next} {want = wants} gets its give more) =
     let wanted = one-want is its in
@@ -74,7 +74,7 @@ nothing-asked {coming = coming} {kept = kept} {all = list} {other = other} {duri
     nothing-asked reply rest last all
     (subst (λ (g : Got). AsksNext (having g coming) new list other during) (sym same.0)
     (subst (λ (k : Kept). AsksNext (having gets coming) k list other during) (sym same.1) more))
-nothing-asked reply (ends is) last all (replied its go more) = absurd (stop-end its is)
+nothing-asked reply (ends is) last all (after_reply its go more) = absurd (stop-end its is)
 nothing-asked reply (ends is) last all (answered got its gives rest) = absurd (stop-end its is)
 
 more-asked : {kept : Kept} (setup : Setup) (me : ℕ) (start : Start) (replies : List Reply) (request : Request) (serving : List ℕ) (n m : ℕ) → n ≤ m

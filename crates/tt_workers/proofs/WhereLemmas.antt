@@ -26,7 +26,7 @@ use Rattle.tt_workers.specs.declared.place.Place.TheVariants as place
 -- a reply more
 next-told : (setup : Setup) (number : ℕ) (thread : Thread) (interp : Interpreter) (reply : Reply) → StandsIn interp setup number thread
     → (replies : List Reply) (request : Request) (serving : List ℕ)
-    → interps.Asks interp (reply ∷ replies) request serving
+    → interps.InterpAsks interp (reply ∷ replies) request serving
     → IsNext setup number thread.start ((thread.replies ++ reply ∷ []) ++ replies) request serving
 next-told setup number thread interp reply is replies request serving asked =
     subst (λ (all : List Reply). IsNext setup number thread.start all request serving)
@@ -52,7 +52,7 @@ given-fresh setup number thread task is named no_reply fits = record {
   named = named;
   fits = fits;
   later = λ replies request serving asked.
-      let plain = subst (λ (given : Option Reply). interps.Asks task.interp (interps.with_given given replies) request serving) no_reply asked in
+      let plain = subst (λ (given : Option Reply). interps.InterpAsks task.interp (interps.with_given given replies) request serving) no_reply asked in
       subst (λ (before : List Reply). IsNext setup number thread.start (before ++ replies) request serving) (sym is.no_reply)
       (is.stands replies request serving plain);
 }

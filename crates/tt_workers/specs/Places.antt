@@ -44,7 +44,7 @@ pub record IsGiven (task : Task) (setup : Setup) (number : ℕ) (thread : Thread
   pub named : task.thread ≡ number
   pub fits : IsTrue (interps.fits task.interp.standing task.reply)
   pub later : (replies : List Reply) (request : Request) (serving : List ℕ) →
-      interps.Asks task.interp (interps.with_given task.reply replies) request serving →
+      interps.InterpAsks task.interp (interps.with_given task.reply replies) request serving →
       IsNext setup number thread.start (thread.replies ++ replies) request serving
 
 abbrev pub IsGivenBy : Option Task → Setup → (number : ℕ) → Thread → Type 0
