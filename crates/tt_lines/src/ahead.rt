@@ -1,7 +1,7 @@
 ghost use Rattle.std.specs.Prelude.{◌≡◌, ◌≢◌, ◌≤◌, ◌<◌, ◌+◌, ◌++◌, ℕ, List, [], take, drop, length, slice_index, min, MatchOption, IfOk, OnOk, IsErrOf, IsOk, Err, IsTrue, false, ◌↔◌};
 ghost use Rattle.std.specs.Io.KnownBytes.{IsAtEnd, Keeps, prepend_known};
 ghost use Rattle.tt_devices.specs.Faults.{Rises};
-ghost use Rattle.tt_lines.specs.Lines.{IsInLine, IsLine, ReadsKnown};
+ghost use Rattle.tt_lines.specs.Lines.{IsInLine, TakesLine, ReadsKnown};
 ghost use Rattle.tt_shared.specs.declared.applied.Line.TheVariants.{Read};
 
 use crate::LineFault;
@@ -125,7 +125,7 @@ impl Ahead {
     fn take_last(&mut self) -> Result<Line, LineFault>
         requires in_line { IsInLine self.old }
         requires few { length self.old ≤ MOST_BYTES }
-        ensures line { IfOk result (λ line. IsLine self.old line self.new) }
+        ensures line { IfOk result (λ line. TakesLine self.old line self.new) }
         ensures left { OnOk result (self.new ≡ []) }
         ensures no_memory { result ≢ Err LineFault.Failed }
     {
