@@ -1,8 +1,8 @@
 -- Where a newline stands, and what of the known bytes a line is.
-use Rattle.std.proofs.Common.{◌≡◌, ◌≢◌, ◌∙◌, ℕ, zero, suc, ◌+◌, ◌<◌, ◌≤◌, ◌==◌, ◌&&◌, not, Bool, true, false, List, [], ◌∷◌, ◌++◌, length, take, drop, get_or, Option, Some, None, cond, MatchOption, Result, Ok, Err, IfOk, OnOk, ap, refl, sym, arith, append-nil, append_assoc}
+use Rattle.std.proofs.Common.{◌≡◌, ◌≢◌, ◌∙◌, ℕ, zero, suc, ◌+◌, ◌<◌, ◌≤◌, ◌==◌, ◌&&◌, not, Bool, true, false, List, [], ◌∷◌, ◌++◌, length, take, drop, get_or, Option, Some, None, cond, MatchOption, Result, Ok, Err, IfOk, OnOk, ap, refl, subst, sym, arith, append-nil, append_assoc}
 use Rattle.memchr.specs.Find.{NoneBefore, Nowhere, Passes, is_byte}
 use Rattle.std.proofs.Math.Seq.{take-add}
-use Rattle.std.proofs.lemmas.Bool.{and_from, cond-false, cond-true, eqb-true, le-ltb, lt-ltb, ne_eqb}
+use Rattle.std.proofs.lemmas.Bool.{and_from, cond-false, cond-true, eqb-true, le-ltb, lt-ltb, ltb-false, ltb-true, ne_eqb}
 use Rattle.std.proofs.lemmas.List.{drop_all, drop_at, drop_more, get_or-drop, get_or-take, length-append, length-drop, length-take, length-take-le, take-append-drop, take-take, take_all, take_at, take_more}
 use Rattle.std.proofs.lemmas.List.Folds.{list_all-append, list_all_more}
 use Rattle.std.specs.Io.KnownBytes.{IsAtEnd, Keeps, prepend_known}
@@ -83,6 +83,15 @@ front-searched xs front n m e below none = rw (e, take-take n m xs below) none
 
 pub all-searched : (xs front : List ℕ) (m : ℕ) → front ≡ take m xs → IsInLine front → IsInLine (take (length front) xs)
 all-searched xs front m e none = rw (e, front-whole xs m) (rw e at none)
+
+-- while a newline is ahead that was not searched for yet, there are more bytes
+pub more-ahead : (began xs : List ℕ) (n : ℕ) → xs ≡ began → ¬ (IsInLine began) → IsInLine (take n xs) → n < length xs
+more-ahead began xs n same never none = by-test (nat_lt n (length xs)) refl
+  where
+    by-test : (b : Bool) → nat_lt n (length xs) ≡ b → n < length xs
+    by-test true is = ltb-true n (length xs) is
+    by-test false is =
+        absurd (never (subst (λ (bytes : List ℕ). IsInLine bytes) (take_all n xs (ltb-false n (length xs) is) ∙ same) none))
 
 -- ---- what a line is of the known bytes ----
 

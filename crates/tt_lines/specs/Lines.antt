@@ -19,8 +19,8 @@ most_bytes = 16777216
 abbrev pub IsInLine : (bytes : List ℕ) → Type 0
 IsInLine bytes = IsTrue (list_all (λ b. not (b == 10)) bytes)
 
--- What is read of standard input for a line, and what is left of it: a line is taken with its newline; the last one may
--- have none; at the end there is no line; and of one with too many bytes so many are taken as a line may have.
+-- What is read of standard input for a line, and what remains of it (gets(n)): a line is taken with its newline; the last
+-- one may have none; at the end there is no line; of one with too many bytes as many are taken as a line may have.
 pub data TakesLine : (held : List ℕ) → Line → (left : List ℕ) → Type 0 where
   whole : (line left : List ℕ) →
       IsInLine line → length line ≤ most_bytes →
@@ -33,7 +33,7 @@ pub data TakesLine : (held : List ℕ) → Line → (left : List ℕ) → Type 0
       IsInLine part → length part ≡ most_bytes → next ≢ 10 →
       TakesLine (part ++ next ∷ left) TooLong (next ∷ left)
 
--- of the same bytes one line is read, and the same is left
+-- of the same bytes one line is read, and the same remains
 abbrev pub OneLineLaw : Type 0
 OneLineLaw =
     (held left rest : List ℕ) (one other : Line) →
@@ -41,7 +41,7 @@ OneLineLaw =
     TakesLine held other rest →
     (one ≡ other) × (left ≡ rest)
 
--- a line is read, where standard input tells its bytes
+-- a line is read, if standard input tells its bytes
 abbrev pub ReadsKnown : (held left : Option (List ℕ)) → Line → Type 0
 ReadsKnown None left line = ⊤
 ReadsKnown (Some held) None line = ⊥
