@@ -16,7 +16,7 @@ use Rattle.tclthread.specs.Answer.{Answers, AnswersTo, HasRun, IsRun, IsRefusal}
 use Rattle.tclthread.specs.Answer as answer
 use Rattle.tclthread.specs.Asking.{AreThere, AsksFor, IsMissing, generate_setup, kept_of, plain_setup, replay_setup}
 use Rattle.tclthread.specs.Choosing.{Allows, Chooses, Freely, InTurn, Mode, Replaying, TakesTurns, limit_of}
-use Rattle.tt_workers.specs.Turns.{IsFirstPart}
+use Rattle.tt_core.specs.Parts.{IsFirstPart}
 use Rattle.tclthread.specs.Choosing as turn
 use Rattle.tclthread.specs.Ending.{EndsAs, IsFull, IsRefused, IsRunStatus, IsWhole, kept_by}
 use Rattle.tclthread.specs.Keeping.{IsKept}

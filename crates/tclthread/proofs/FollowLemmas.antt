@@ -6,7 +6,7 @@ use Rattle.tt_core.specs.Stage.{OfMachine, SameBeginning, Stage}
 use Rattle.tt_machine.proofs.Steps.{same_run}
 use Rattle.tt_machine.specs.Machine.{IsBarred, Machine, Runs, start_machine}
 use Rattle.tclthread.specs.Choosing.{Replaying}
-use Rattle.tt_workers.specs.Turns.{IsFirstPart}
+use Rattle.tt_core.specs.Parts.{IsFirstPart}
 use Rattle.tclthread.specs.Ending.{IsRefused}
 use Rattle.tclthread.specs.Following.{AtRun}
 

@@ -9,8 +9,8 @@ use Rattle.tt_devices.specs.declared.source.Source.{Ghosts as OfSource}
 use Rattle.tt_interp.specs.declared.setup.Setup.{Setup}
 use Rattle.tt_machine.specs.Machine.{Machine, start_machine}
 use Rattle.tt_schedule.specs.ScheduleText.{most_steps}
-use Rattle.tt_words.specs.Asked.{HasSteps, HasWorkers, Plain, WordsAskFor, plain}
-use Rattle.tt_workers.specs.Ends.{IsEnd, ReadsCount, WritesCount, kept_with}
+use Rattle.tt_words.specs.Asked.{HasSteps, HasWorkers, Plain, Reads, plain}
+use Rattle.tt_workers.specs.Ends.{IsEnd, ReadsCount, WritesCount, end_fault}
 use Rattle.tt_workers.specs.Ran.{IsRan}
 use Rattle.tt_workers.specs.declared.next.RunEnd.{RunEnd}
 use Rattle.tt_workers.specs.declared.next.RunEnd.TheVariants as run
@@ -30,10 +30,10 @@ steps-within : (value : Option (List ℕ)) (steps : ℕ) → HasSteps value step
 steps-within None steps is = (omega (arith, is), omega (arith, is))
 steps-within (Some text) steps is = (is.at_least, is.at_most)
 
-pub plain-workers : (words : List (List ℕ)) (named : Plain) → WordsAskFor words (plain named) → (1 ≤ named.workers) × (named.workers ≤ 64)
+pub plain-workers : (words : List (List ℕ)) (named : Plain) → Reads words (plain named) → (1 ≤ named.workers) × (named.workers ≤ 64)
 plain-workers words named is = workers-within _ named.workers is.asks.workers
 
-pub plain-steps : (words : List (List ℕ)) (named : Plain) → WordsAskFor words (plain named) → (1 ≤ named.steps) × (named.steps ≤ most_steps)
+pub plain-steps : (words : List (List ℕ)) (named : Plain) → Reads words (plain named) → (1 ≤ named.steps) × (named.steps ≤ most_steps)
 plain-steps words named is = steps-within _ named.steps is.asks.steps
 
 -- ---- how it ends
@@ -46,7 +46,7 @@ ran-status run.Read steps = tt
 ran-status run.Write steps = tt
 ran-status run.Memory steps = tt
 
-same-fault : (end : RunEnd) (steps : ℕ) → kept_with end ≡ kept_by (status_of end steps)
+same-fault : (end : RunEnd) (steps : ℕ) → end_fault end ≡ kept_by (status_of end steps)
 same-fault (run.Over code) steps = refl
 same-fault run.Stuck steps = refl
 same-fault run.Limit steps = refl
@@ -114,7 +114,7 @@ module _ {S K E : Type 0} (source : OfSource S) (output : OfSink K) (errors : Of
     allowed = is.within;
     no_output = is.no_output;
     no_errors = is.no_errors;
-    has_run = told-map (source.held in_old) _ _ is.has_run (λ bytes found. record {
+    has_run = told-map (source.held in_old) _ _ is.in_machine (λ bytes found. record {
       machine = found.machine;
       ran = found.runs;
       chosen = tt;

@@ -2,7 +2,7 @@
 use Rattle.std.specs.Prelude.{◌≤◌, ⊤, ℕ, List, [], ◌∷◌, length, Option, Some, None}
 use Rattle.tt_core.specs.Stage.{IsNextAfter}
 use Rattle.tt_machine.specs.Machine.{Machine, Steps}
-use Rattle.tt_workers.specs.Turns.{IsFirstPart}
+use Rattle.tt_core.specs.Parts.{IsFirstPart}
 
 -- a given list, or at most so many steps: of the threads in turn, or of any
 pub data Mode : Type 0 where

@@ -10,14 +10,14 @@ use Rattle.tt_run.specs.declared.fault.StepFault.TheVariants as fault
 use Rattle.tt_devices.proofs.StreamLemmas.{Grows-append, Grows-same}
 use Rattle.tt_devices.specs.Streams.{Grows, GrowsByPart}
 use Rattle.tt_interp.specs.declared.setup.Setup.{Setup}
-use Rattle.tt_lines.specs.Lines.{IsLine, ReadsKnown, reads_line}
+use Rattle.tt_lines.specs.Lines.{TakesLine, ReadsKnown, reads_line}
 use Rattle.std.proofs.lemmas.List.{append_cancel_left, length-append}
 use Rattle.laws_shared.proofs.Drawn.{few_fit}
 use Rattle.tt_machine.proofs.RunActionLemmas.{few_channels, steps_orderly}
 use Rattle.tt_machine.proofs.Steps.{one_more}
 use Rattle.tt_machine.specs.RunActions.{StepsOrderly}
 use Rattle.tt_schedule.specs.ScheduleText.{most_steps}
-use Rattle.tt_machine.specs.Machine.{Asks, CanStep, IsBarred, Machine, Reads, Runs, Steps, after_act, joined, none, replied, start_machine, over, silent, waits}
+use Rattle.tt_machine.specs.Machine.{Asks, CanStep, IsBarred, Machine, ReadsInput, Runs, Steps, after_act, with_new_threads, none, with_reply, start_machine, over, silent, waits}
 use Rattle.tt_shared.specs.Acts.{act}
 use Rattle.tt_shared.specs.Enabled.{enabled}
 use Rattle.tt_shared.specs.State.{State, start_state}
@@ -26,7 +26,7 @@ use Rattle.tt_threads.specs.Rows.{is_living}
 use Rattle.tt_threads.specs.declared.row.Row.{Row}
 use Rattle.tt_core.specs.Faithful.{AsksLine, IsCutShort, IsFaithful, StepWrites, is_cut}
 use Rattle.tt_core.specs.Stage.{Began, OfMachine}
-use Rattle.tt_core.specs.Standing.{IsAt, IsIts, IsStanding, Stands}
+use Rattle.tt_core.specs.inside.Standing.{IsAt, IsIts, IsStanding, Stands}
 
 -- ---- tests ----
 
@@ -82,14 +82,14 @@ could-be desk number request result is kept refused failed other =
 record IsRead (is : Bool) (input : List ℕ) (line : Line) (left : Option (List ℕ)) : Type 0 where
   rest : List ℕ
   told : left ≡ Some rest
-  reads : Reads is input line rest
+  reads : ReadsInput is input line rest
 
 known-read : (old new : Option (List ℕ)) (input : List ℕ) (line : Line) → old ≡ Some input → ReadsKnown old new line → IsRead true input line new
 known-read None new input line is reads = absurd (cc is)
 known-read (Some held) None input line is reads = absurd reads
 known-read (Some held) (Some left) input line is reads =
     let same : held ≡ input = cc is in
-    record { rest = left; told = refl; reads = subst (λ (bytes : List ℕ). IsLine bytes line left) same reads }
+    record { rest = left; told = refl; reads = subst (λ (bytes : List ℕ). TakesLine bytes line left) same reads }
 
 was-read : {S K E : Type 0} (held : S → Option (List ℕ)) (is : Bool) (old new : Devices S K E) (input : List ℕ) (line : Line)
     → unread held old ≡ Some input → ReadsBy is held old new line → IsRead is input line (unread held new)
@@ -128,7 +128,7 @@ pub record Goes {S K E : Type 0} (held : S → Option (List ℕ)) (old new : Gro
   pub setup : next.setup ≡ machine.setup
   pub shared : new.shared ≡ next.shared
   pub left : unread held new.devices ≡ Some next.input
-  pub threads : next.threads ≡ joined (replied machine.threads number (act old.shared number request line).gives.reply) new.shared.rows
+  pub threads : next.threads ≡ with_new_threads (with_reply machine.threads number (act old.shared number request line).gives.reply) new.shared.rows
   pub out : next.out ≡ machine.out ++ (act old.shared number request line).gives.out
   pub err : next.err ≡ machine.err ++ (act old.shared number request line).gives.err
 
@@ -258,7 +258,7 @@ abbrev pub Becomes : Setup → (Old New : Machine → Type 0) → (number : ℕ)
 Becomes setup Old New number reply rows =
     (machine next : Machine)
     → machine.setup ≡ setup → next.setup ≡ setup → Old machine
-    → next.threads ≡ joined (replied machine.threads number reply) rows
+    → next.threads ≡ with_new_threads (with_reply machine.threads number reply) rows
     → New next
 
 module _ {S K E : Type 0} (held : S → Option (List ℕ)) (got_out : K → Option (List ℕ)) (got_err : E → Option (List ℕ)) where

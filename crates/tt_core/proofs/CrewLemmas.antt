@@ -17,24 +17,24 @@ use Rattle.tt_interp.specs.declared.kept.Kept.{Kept}
 use Rattle.tt_interp.specs.declared.setup.Setup.{Setup}
 use Rattle.tt_run.specs.Desk.{Ground}
 use Rattle.tt_outcomes.specs.Endings.{code_of}
-use Rattle.tt_machine.specs.Machine.{Thread, joined, new_thread, replied, thread_of, told, told_at}
+use Rattle.tt_machine.specs.Machine.{Thread, with_new_threads, new_thread, with_reply, thread_of, thread_with_reply, with_reply_at}
 use Rattle.tt_machine.proofs.OneRequest.{nothing_after}
 use Rattle.tt_threads.specs.Rows.{row_of}
 use Rattle.tt_threads.specs.declared.row.Row.{Row}
 use Rattle.tt_core.proofs.PlaceLemmas.{HaveBegun, add-suc, not-zero, sub-one, each-at, each-none, each-set, numbered, one-begun, one-more, told-is}
-use Rattle.tt_core.specs.Crew.{ArePlaced, Begins, GoesOn, IsFirstReady, IsReadyAfter, IsPlaced, IsReplied, IsSilent, Places, StandsIn, interp_of, is_ready, placed}
+use Rattle.tt_core.specs.inside.Crew.{ArePlaced, BeginsThread, GoesOn, IsFirstReady, IsReadyAfter, IsPlaced, IsReplied, AsksNothing, Places, StandsIn, interp_of, is_ready, interp_in}
 
 -- ---- numbers ----
 
 one-plus : (n : ℕ) → 1 + (suc n - 1) ≡ suc n
 one-plus n = omega arith
 
-numbered-place : (places : Places) (n : ℕ) → interp_of places (suc n) ≡ placed (slice_get places n)
+numbered-place : (places : Places) (n : ℕ) → interp_of places (suc n) ≡ interp_in (slice_get places n)
 numbered-place places n = rw (not-zero n, sub-one n) refl
 
 -- ---- by number ----
 
-placed-some : (found : Option (Option Interpreter)) (interp : Interpreter) → placed found ≡ Some interp → found ≡ Some (Some interp)
+placed-some : (found : Option (Option Interpreter)) (interp : Interpreter) → interp_in found ≡ Some interp → found ≡ Some (Some interp)
 placed-some None interp is = absurd (cc is)
 placed-some (Some None) interp is = absurd (cc is)
 placed-some (Some (Some one)) interp is = ap Some is
@@ -61,15 +61,15 @@ none-made : (threads : List Thread) (k : ℕ) (thread : Thread) → slice_get th
 none-made threads k thread none made = none-some none (sym (numbered threads k) ∙ made)
 
 by-place : (setup : Setup) (k : ℕ) (threads : List Thread) (places : Places) (found : Option (Option Interpreter)) (thread : Thread)
-    → ArePlaced setup 1 threads places → slice_get places k ≡ found → placed found ≡ None
-    → thread_of threads (suc k) ≡ Some thread → IsSilent setup (suc k) thread
+    → ArePlaced setup 1 threads places → slice_get places k ≡ found → interp_in found ≡ None
+    → thread_of threads (suc k) ≡ Some thread → AsksNothing setup (suc k) thread
 by-place setup k threads places None thread are at none made =
     absurd (none-made threads k thread (each-none (IsPlaced setup) 1 k threads places are at) made)
 by-place setup k threads places (Some (Some interp)) thread are at none made = absurd (cc none)
 by-place setup k threads places (Some None) thread are at none made =
     let found = each-at (IsPlaced setup) 1 k threads places None are at in
     let same : found.thread ≡ thread = let is = sym found.there ∙ (sym (numbered threads k) ∙ made) in cc is in
-    subst (λ (one : Thread). IsSilent setup (suc k) one) same
+    subst (λ (one : Thread). AsksNothing setup (suc k) one) same
     (subst (λ (n : ℕ). IsPlaced setup n found.thread None) (one-more k) found.placed)
 
 zero-made : (threads : List Thread) (thread : Thread) → thread_of threads 0 ≡ Some thread → ⊥
@@ -77,7 +77,7 @@ zero-made threads thread made = absurd (cc made)
 
 pub silent : (setup : Setup) (number : ℕ) (threads : List Thread) (places : Places) (thread : Thread)
     → ArePlaced setup 1 threads places → interp_of places number ≡ None
-    → thread_of threads number ≡ Some thread → IsSilent setup number thread
+    → thread_of threads number ≡ Some thread → AsksNothing setup number thread
 silent setup zero threads places thread are none made = absurd (zero-made threads thread made)
 silent setup (suc k) threads places thread are none made =
     by-place setup k threads places (slice_get places k) thread are refl (sym (numbered-place places k) ∙ none) made
@@ -114,7 +114,7 @@ stands-asking setup number thread interp is =
     (is.later [] (request_of interp.standing) (serving_of interp.standing) (asks-at interp.kept interp.standing is.halted))
 
 pub goes-placed : (setup : Setup) (number : ℕ) (thread : Thread) (interp : Interpreter) (reply : Reply) (place : Option Interpreter)
-    → StandsIn interp setup number thread → GoesOn interp reply place → IsPlaced setup number (told reply thread) place
+    → StandsIn interp setup number thread → GoesOn interp reply place → IsPlaced setup number (thread_with_reply reply thread) place
 goes-placed setup number thread interp reply (Some later) is goes = record {
   halted = goes.1;
   later = λ replies request serving next.
@@ -133,12 +133,12 @@ number-is (suc k) places interp is = one-plus k
 
 -- a thread gets its reply
 pub replied-placed : (setup : Setup) (number : ℕ) (reply : Reply) (threads : List Thread) (old new : Places)
-    → ArePlaced setup 1 threads old → IsReplied number reply old new → ArePlaced setup 1 (replied threads number reply) new
+    → ArePlaced setup 1 threads old → IsReplied number reply old new → ArePlaced setup 1 (with_reply threads number reply) new
 replied-placed setup number reply threads old new are is =
     let found = stands-for setup number threads old is.interp are is.found in
     let one = goes-placed setup number found.thread is.interp reply is.place found.stands is.goes in
-    let at = subst (λ (k : ℕ). IsPlaced setup k (told reply found.thread) is.place) (sym (number-is number old is.interp is.found)) one in
-    let set = each-set (IsPlaced setup) 1 (number - 1) threads old (told reply found.thread) is.place are at in
+    let at = subst (λ (k : ℕ). IsPlaced setup k (thread_with_reply reply found.thread) is.place) (sym (number-is number old is.interp is.found)) one in
+    let set = each-set (IsPlaced setup) 1 (number - 1) threads old (thread_with_reply reply found.thread) is.place are at in
     rw (told-is threads number reply found.thread found.made, is.put) set
 
 -- ---- threads begin ----
@@ -147,7 +147,7 @@ replied-placed setup number reply threads old new are is =
 pub begins-one : (setup : Setup) (begun : Start) (number : ℕ) (fresh later : Interpreter) (old new : Places)
     → number ≡ length old + 1 → interps.StandsFor fresh setup number begun → interps.GoesOn later fresh None
     → IsTrue (interps.is_halted later.standing) → new ≡ old ++ Some later ∷ []
-    → Begins setup (record { start = begun; replies = [] }) old new
+    → BeginsThread setup (record { start = begun; replies = [] }) old new
 begins-one setup begun number fresh later old new next stands goes halted pushed = record {
   interp = later;
   pushed = pushed;
@@ -161,7 +161,7 @@ begins-one setup begun number fresh later old new next stands goes halted pushed
 pub one-more-begun : (setup : Setup) (rows : List Row) (old mid new : Places) (number : ℕ) (begun : Start)
     → HaveBegun (IsPlaced setup) rows old mid → number ≡ length mid + 1
     → option_map (λ (row : Row). row.start) (row_of rows number) ≡ Some begun
-    → Begins setup (record { start = begun; replies = [] }) mid new
+    → BeginsThread setup (record { start = begun; replies = [] }) mid new
     → HaveBegun (IsPlaced setup) rows old new
 one-more-begun setup rows old mid new number begun have next started one =
     one-begun (IsPlaced setup) rows old mid new number begun (Some one.interp) have next started one.pushed one.stands
@@ -175,7 +175,7 @@ beyond-get (place ∷ places) (suc k) le = beyond-get places k (omega (arith, le
 
 beyond : (places : Places) (number : ℕ) → length places < number → interp_of places number ≡ None
 beyond places zero above = refl
-beyond places (suc k) above = numbered-place places k ∙ ap placed (beyond-get places k (omega (arith, above)))
+beyond places (suc k) above = numbered-place places k ∙ ap interp_in (beyond-get places k (omega (arith, above)))
 
 pub beyond-ready : {S K E : Type 0} (desk : Ground S K E) (places : Places) (number : ℕ) → length places < number → IsFalse (is_ready desk places number)
 beyond-ready desk places number above = rw (beyond places number above) refl

@@ -3,11 +3,11 @@ use Rattle.std.proofs.Common.{◌≡◌, ◌∙◌, ◌+◌, ◌-◌, ◌==◌, 
 use Rattle.std.proofs.lemmas.List.{length-append, length-drop, map-append}
 use Rattle.std.specs.Option.{option_map}
 use Rattle.tt_calls.specs.declared.start.Start.{Start}
-use Rattle.tt_machine.specs.Machine.{Thread, joined, new_thread, replied, thread_of, told}
+use Rattle.tt_machine.specs.Machine.{Thread, with_new_threads, new_thread, with_reply, thread_of, thread_with_reply}
 use Rattle.tt_calls.specs.declared.reply.Reply.{Reply}
 use Rattle.tt_threads.specs.Rows.{row_of}
 use Rattle.tt_threads.specs.declared.row.Row.{Row}
-use Rattle.tt_core.specs.Crew.{AllMade, AreEach}
+use Rattle.tt_core.specs.inside.Crew.{AllMade, AreEach}
 
 -- ---- numbers ----
 
@@ -34,7 +34,7 @@ pub numbered : {X : Type 0} (xs : List X) (n : ℕ) → cond (suc n == 0) None (
 numbered xs n = rw (not-zero n, sub-one n) refl
 
 pub told-is : (threads : List Thread) (number : ℕ) (reply : Reply) (thread : Thread)
-    → thread_of threads number ≡ Some thread → replied threads number reply ≡ slice_set threads (number - 1) (told reply thread)
+    → thread_of threads number ≡ Some thread → with_reply threads number reply ≡ slice_set threads (number - 1) (thread_with_reply reply thread)
 told-is threads number reply thread made = rw made refl
 
 -- ---- lists ----
@@ -148,7 +148,7 @@ module _ {P : Type 0} (Is : ℕ → Thread → P → Type 0) where
 
   -- all have their places that were made
   pub joined-each : (rows : List Row) (threads : List Thread) (old new : List P)
-      → AreEach Is 1 threads old → AllMade Is rows old new → AreEach Is 1 (joined threads rows) new
+      → AreEach Is 1 threads old → AllMade Is rows old new → AreEach Is 1 (with_new_threads threads rows) new
   joined-each rows threads old new are all =
       let more = subst (λ (k : ℕ). AreEach Is (suc (length old)) (map new_thread (drop k rows)) all.more)
       (each-length 1 threads old are) all.placed in

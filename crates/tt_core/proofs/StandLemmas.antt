@@ -15,7 +15,7 @@ use Rattle.tt_interp.specs.declared.setup.Setup.{Setup}
 use Rattle.tt_lines.specs.Lines.{reads_line}
 use Rattle.tt_machine.proofs.Steps.{not_barred}
 use Rattle.tt_machine.specs.RunActions.{StepsOrderly}
-use Rattle.tt_machine.specs.Machine.{Asks, CanStep, IsBarred, IsStuck, Machine, joined, replied, start_machine, silent}
+use Rattle.tt_machine.specs.Machine.{Asks, CanStep, IsBarred, IsStuck, Machine, with_new_threads, with_reply, start_machine, silent}
 use Rattle.tt_schedule.specs.ScheduleText.{most_steps}
 use Rattle.tt_shared.specs.Acts.{act}
 use Rattle.tt_shared.specs.State.{start_state}
@@ -27,10 +27,10 @@ use Rattle.tt_core.proofs.ActionLemmas.{AsksIn, Becomes, Failed, Of, Stood, able
 use Rattle.tt_core.proofs.CrewLemmas as crew
 use Rattle.tt_core.proofs.PlaceLemmas.{joined-each}
 use Rattle.tt_core.proofs.CrewLemmas.{replied-placed, stands-asking, stands-for}
-use Rattle.tt_core.specs.Crew.{AllBegin, AreBusy, AreIdle, ArePlaced, able as can_be, ended as has_ended, IsReadyAfter, IsPlaced, IsReplied, Places, StandsIn, asked_by, can_act_at, interp_of, is_ready}
+use Rattle.tt_core.specs.inside.Crew.{AllBegin, AreBusy, AreIdle, ArePlaced, able as can_be, ended as has_ended, IsReadyAfter, IsPlaced, IsReplied, Places, StandsIn, asked_by, can_act_at, interp_of, is_ready}
 use Rattle.tt_core.specs.Faithful.{AsksLine, StepWrites}
 use Rattle.tt_core.specs.Stage.{Began, IsNextAfter}
-use Rattle.tt_core.specs.Standing.{InPlaces, IsIts}
+use Rattle.tt_core.specs.inside.Standing.{InPlaces, IsIts}
 
 -- ---- tests ----
 
@@ -84,7 +84,7 @@ places-after : (setup : Setup) (number : ℕ) (reply : Reply) (rows : List Row) 
 places-after setup number reply rows old mid new replied_is begin = λ machine next is same are is_joined.
     let here = subst (λ (one : Setup). ArePlaced one 1 machine.threads old) is are in
     let one = replied-placed setup number reply machine.threads old mid here replied_is in
-    let all = joined-each (IsPlaced setup) rows (replied machine.threads number reply) mid new one begin in
+    let all = joined-each (IsPlaced setup) rows (with_reply machine.threads number reply) mid new one begin in
     subst (λ (one : Setup). ArePlaced one 1 next.threads new) (sym same)
     (subst (λ (some : List _). ArePlaced setup 1 some new) (sym is_joined) all)
 

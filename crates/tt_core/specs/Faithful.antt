@@ -4,8 +4,7 @@ use Rattle.tt_run.specs.declared.fault.StepFault.{StepFault}
 use Rattle.tt_run.specs.declared.fault.StepFault.TheVariants as fault
 use Rattle.tt_devices.specs.Streams.{Grows}
 use Rattle.tt_lines.specs.Lines.{reads_line}
-use Rattle.tt_calls.specs.declared.request.Request.{Request}
-use Rattle.tt_machine.specs.Machine.{Asks, Machine, Runs, Steps, start_machine}
+use Rattle.tt_machine.specs.Machine.{CanStep, Machine, Runs, Steps, start_machine}
 use Rattle.tt_core.specs.Stage.{Stage}
 
 -- a failed write may have cut a piece short
@@ -42,7 +41,7 @@ pub record IsFaithful (cut : Bool) (begun : Machine) (schedule : List ℕ)
   pub out : HasWritten cut begun schedule old_out new_out (λ m. m.out) machine
   pub err : HasWritten cut begun schedule old_err new_err (λ m. m.err) machine
 
--- where standard input told its bytes, they got what the machine after the schedule wrote
+-- if standard input told its bytes, they got what the machine after the schedule wrote
 abbrev pub AreFaithful :
     {S K E : Type 0} →
     (held : S → Option (List ℕ)) → (got_out : K → Option (List ℕ)) → (got_err : E → Option (List ℕ)) →
@@ -57,12 +56,10 @@ AreFaithful held got_out got_err stage =
 
 -- ---- what a fault is met at ----
 
--- a thread that asks for a line of standard input
+-- a thread that can take a step, and asks for a line of standard input (gets(n))
 pub record AsksLine (number : ℕ) (machine : Machine) : Type 0 where
-  pub request : Request
-  pub serving : List ℕ
-  pub asks : Asks machine number request serving
-  pub line : reads_line request ≡ true
+  pub can : CanStep machine number
+  pub line : reads_line can.request ≡ true
 
 -- a thread whose step writes something
 pub record StepWrites (number : ℕ) (machine : Machine) : Type 0 where

@@ -1,4 +1,4 @@
-pub mod Crew
 pub mod Faithful
+pub mod inside
+pub mod Parts
 pub mod Stage
-pub mod Standing

@@ -1,7 +1,7 @@
 //! The interpreters of the threads.
 ghost use Rattle.std.specs.Prelude.{◌≡◌, ◌+◌, [], Some, IfOk, IfSome, IsSome, OnOk, OnErr, length};
 ghost use Rattle.std.specs.Option.{option_copied};
-ghost use Rattle.tt_core.specs.Crew.{AllBegin, Begins, GoesOn, IsHalted, IsReplied, Resumes, asked_by, interp_of};
+ghost use Rattle.tt_core.specs.inside.Crew.{AllBegin, BeginsThread, GoesOn, IsHalted, IsReplied, Resumes, asked_by, interp_of};
 
 use std::alloc::Global;
 use std::marker::Model;
@@ -20,7 +20,7 @@ pub(crate) struct Crew {
 impl Model for Crew {
     ghost use Rattle.std.specs.List.{AllByRecursion};
     ghost use Rattle.std.specs.Prelude.{◌≤◌, length};
-    ghost use Rattle.tt_core.specs.Crew.{IsHalted, Places};
+    ghost use Rattle.tt_core.specs.inside.Crew.{IsHalted, Places};
 
     ghost Value = { Places };
 
@@ -55,7 +55,7 @@ impl Crew {
         setup: &Setup,
     ) -> Result<(), NoMemory>
         requires next { number ≡ length self.old + 1 }
-        ensures begins { OnOk result (Begins setup.now (record { start = start.now; replies = [] }) self.old self.new) }
+        ensures begins { OnOk result (BeginsThread setup.now (record { start = start.now; replies = [] }) self.old self.new) }
     {
         let mut interp = Interp::new(alloc, start, number, setup)?;
         interp.resume(None)?;

@@ -1,6 +1,6 @@
 ghost use Rattle.std.specs.Prelude.{◌≡◌, ◌≢◌, ◌<◌, ◌≤◌, ◌+◌, ◌++◌, ◌∷◌, [], ◌⊎◌, ℕ, Option, Some, None, Err, IsSome, IsTrue, IsFalse, IfOk, IfErr, OnOk, IsErrOf, IfSome, length};
 ghost use Rattle.tt_calls.specs.declared.start.Start.TheVariants as start;
-ghost use Rattle.tt_core.specs.Crew.{AllBegin, AreBusy, AreIdle, Begins, IsFirstReady, IsReadyAfter, IsReplied, Places, interp_of, is_ready};
+ghost use Rattle.tt_core.specs.inside.Crew.{AllBegin, AreBusy, AreIdle, BeginsThread, IsFirstReady, IsReadyAfter, IsReplied, Places, interp_of, is_ready};
 ghost use Rattle.tt_devices.specs.Faults.{Rises};
 ghost use Rattle.tt_machine.specs.Machine.{CanStep, IsBarred, IsStuck};
 ghost use Rattle.tt_machine.specs.RunActions.{StepsOrderly};
@@ -29,7 +29,7 @@ pub struct System<S: Source, K: Sink, E: Sink> {
 
 impl<S: Source, K: Sink, E: Sink> Model for System<S, K, E> {
     ghost use Rattle.tt_core.specs.Stage.{Stage};
-    ghost use Rattle.tt_core.specs.Standing.{InPlaces, IsStanding};
+    ghost use Rattle.tt_core.specs.inside.Standing.{InPlaces, IsStanding};
 
     ghost Value = { Stage S K E };
 
@@ -41,6 +41,7 @@ impl<S: Source, K: Sink, E: Sink> Model for System<S, K, E> {
 
 impl<S: Source, K: Sink, E: Sink> System<S, K, E> {
     ghost use Rattle.tt_core.specs.Faithful.{AreFaithful, AsksLine, StepWrites};
+    ghost use Rattle.tt_core.specs.Parts.{HoldsLastPart};
     ghost use Rattle.tt_core.specs.Stage.{IsNextAfter, OfMachine, SameBeginning};
 
     /// A run of this script over these devices, with no step taken.
@@ -199,11 +200,12 @@ impl<S: Source, K: Sink, E: Sink> System<S, K, E> {
         self.desk.schedule()
     }
 
-    /// Gives the schedule and the devices back.
+    /// Gives the schedule and the devices back. The source still holds a last part of what the machine has not read.
     pub fn finish(self) -> (Schedule, S, K, E)
         ensures schedule { result.0.threads ≡ self.desk.schedule }
         ensures devices { (result.1 ≡ self.desk.devices.input) × (result.2 ≡ self.desk.devices.output) × (result.3 ≡ self.desk.devices.errors) }
         ensures faithful { AreFaithful S.held K.got E.got self }
+        ensures left { OfMachine S.held self (λ machine. HoldsLastPart (S.held result.1) machine.input) }
     {
         let System {
             setup: _,
@@ -312,7 +314,7 @@ fn go_on<S: Source, K: Sink, E: Sink>(
 /// The main thread begins.
 fn begun(alloc: Global, setup: &Setup) -> Result<(Crew, Start), NoMemory>
     ensures start { IfOk result (λ begun. begun.1 ≡ start.Script setup.now.script) }
-    ensures begins { IfOk result (λ begun. Begins setup.now (record { start = start.Script setup.now.script; replies = [] }) [] begun.0) }
+    ensures begins { IfOk result (λ begun. BeginsThread setup.now (record { start = start.Script setup.now.script; replies = [] }) [] begun.0) }
 {
     let start = Start::Script(setup.script.copy()?);
     let mut crew = Crew::new(alloc);

@@ -1,15 +1,15 @@
 -- Where a newline stands, and what of the known bytes a line is.
-use Rattle.std.proofs.Common.{◌≡◌, ◌≢◌, ◌∙◌, ℕ, zero, suc, ◌+◌, ◌<◌, ◌≤◌, ◌==◌, ◌&&◌, not, Bool, true, false, List, [], ◌∷◌, ◌++◌, length, take, drop, get_or, Option, Some, None, cond, MatchOption, Result, Ok, Err, IfOk, OnOk, ap, refl, sym, arith, append-nil, append_assoc}
+use Rattle.std.proofs.Common.{◌≡◌, ◌≢◌, ◌∙◌, ℕ, zero, suc, ◌+◌, ◌<◌, ◌≤◌, ◌==◌, ◌&&◌, not, Bool, true, false, List, [], ◌∷◌, ◌++◌, length, take, drop, get_or, Option, Some, None, cond, MatchOption, Result, Ok, Err, IfOk, OnOk, ap, refl, subst, sym, arith, append-nil, append_assoc}
 use Rattle.memchr.specs.Find.{NoneBefore, Nowhere, Passes, is_byte}
 use Rattle.std.proofs.Math.Seq.{take-add}
-use Rattle.std.proofs.lemmas.Bool.{and_from, cond-false, cond-true, eqb-true, le-ltb, lt-ltb, ne_eqb}
+use Rattle.std.proofs.lemmas.Bool.{and_from, cond-false, cond-true, eqb-true, le-ltb, lt-ltb, ltb-false, ltb-true, ne_eqb}
 use Rattle.std.proofs.lemmas.List.{drop_all, drop_at, drop_more, get_or-drop, get_or-take, length-append, length-drop, length-take, length-take-le, take-append-drop, take-take, take_all, take_at, take_more}
 use Rattle.std.proofs.lemmas.List.Folds.{list_all-append, list_all_more}
 use Rattle.std.specs.Io.KnownBytes.{IsAtEnd, Keeps, prepend_known}
 use Rattle.std.specs.List.{list_all, prefix_len}
 use Rattle.std.specs.Prelude.{nat_lt}
 use Rattle.tt_devices.proofs.StreamLemmas.{Stays-trans}
-use Rattle.tt_lines.specs.Lines.{IsInLine, IsLine, ended, last, long, most_bytes, OneLineLaw, ReadsKnown, whole}
+use Rattle.tt_lines.specs.Lines.{IsInLine, TakesLine, ended, last, long, most_bytes, OneLineLaw, ReadsKnown, whole}
 use Rattle.tt_lines.specs.declared.fault.LineFault.{LineFault}
 use Rattle.tt_shared.specs.declared.applied.Line.TheVariants.{End, Read, TooLong}
 use Rattle.tt_shared.specs.declared.applied.Line.{Line}
@@ -84,9 +84,18 @@ front-searched xs front n m e below none = rw (e, take-take n m xs below) none
 pub all-searched : (xs front : List ℕ) (m : ℕ) → front ≡ take m xs → IsInLine front → IsInLine (take (length front) xs)
 all-searched xs front m e none = rw (e, front-whole xs m) (rw e at none)
 
+-- while a newline is ahead that was not searched for yet, there are more bytes
+pub more-ahead : (began xs : List ℕ) (n : ℕ) → xs ≡ began → ¬ (IsInLine began) → IsInLine (take n xs) → n < length xs
+more-ahead began xs n same never none = by-test (nat_lt n (length xs)) refl
+  where
+    by-test : (b : Bool) → nat_lt n (length xs) ≡ b → n < length xs
+    by-test true is = ltb-true n (length xs) is
+    by-test false is =
+        absurd (never (subst (λ (bytes : List ℕ). IsInLine bytes) (take_all n xs (ltb-false n (length xs) is) ∙ same) none))
+
 -- ---- what a line is of the known bytes ----
 
-whole-by : (held line left got : List ℕ) → held ≡ line ++ 10 ∷ left → got ≡ line ++ 10 ∷ [] → IsInLine line → length line ≤ most_bytes → IsLine held (Read got) left
+whole-by : (held line left got : List ℕ) → held ≡ line ++ 10 ∷ left → got ≡ line ++ 10 ∷ [] → IsInLine line → length line ≤ most_bytes → TakesLine held (Read got) left
 whole-by held line left got e f none few = rw (e, f) (whole line left none few)
 
 cut-at : (xs : List ℕ) (n x : ℕ) → n < length xs → get_or xs n 0 ≡ x → xs ≡ take n xs ++ x ∷ drop (n + 1) xs
@@ -113,7 +122,7 @@ whole-line old mid held xs front ys n m (Ok read) few e none within is before ke
     let below = front-within xs front n m e within in
     rw (line, left) (reads-whole old held xs n m few (rw e at none) (rw e at within) (rw e at is) below.1 below.0 (Stays-trans old mid (prepend_known xs held) before keeps))
 
-pub reads-last : (old held : Option (List ℕ)) (xs ys : List ℕ) (line : Line) → IsLine xs line ys → IsAtEnd held → Keeps old (prepend_known xs held) → ReadsKnown old (prepend_known ys held) line
+pub reads-last : (old held : Option (List ℕ)) (xs ys : List ℕ) (line : Line) → TakesLine xs line ys → IsAtEnd held → Keeps old (prepend_known xs held) → ReadsKnown old (prepend_known ys held) line
 reads-last None held xs ys line is end keeps = tt
 reads-last (Some bytes) None xs ys line is end keeps = absurd keeps
 reads-last (Some bytes) (Some more) xs ys line is end keeps =
@@ -121,7 +130,7 @@ reads-last (Some bytes) (Some more) xs ys line is end keeps =
     let left : ys ++ more ≡ ys = ap (λ (one : List ℕ). ys ++ one) end ∙ append-nil ys in
     rw (all, left) is
 
-long-by : (held part left : List ℕ) (next : ℕ) (rest : List ℕ) → held ≡ part ++ next ∷ left → rest ≡ next ∷ left → IsInLine part → length part ≡ most_bytes → next ≢ 10 → IsLine held TooLong rest
+long-by : (held part left : List ℕ) (next : ℕ) (rest : List ℕ) → held ≡ part ++ next ∷ left → rest ≡ next ∷ left → IsInLine part → length part ≡ most_bytes → next ≢ 10 → TakesLine held TooLong rest
 long-by held part left next rest e f none many other = rw (e, f) (long part left next none many other)
 
 both : (a b : Bool) → (a && b) ≡ true → (a ≡ true) × (b ≡ true)
@@ -143,17 +152,17 @@ pub too-long : (old held : Option (List ℕ)) (xs ys : List ℕ) (n : ℕ) → n
 too-long old held xs ys n e none within left keeps =
     rw left (reads-long old held xs (rw e at none) (omega (arith, e, within)) keeps)
 
-pub last-none : (xs : List ℕ) → length xs ≡ 0 → IsLine xs End xs
+pub last-none : (xs : List ℕ) → length xs ≡ 0 → TakesLine xs End xs
 last-none [] none = ended
 last-none (x ∷ xs) none = absurd (omega (arith, none))
 
 not-empty : (xs : List ℕ) → length xs ≢ 0 → xs ≢ []
 not-empty xs some same = some (ap (λ (bytes : List ℕ). length bytes) same)
 
-last-by : (xs got ys : List ℕ) → IsInLine xs → xs ≢ [] → length xs ≤ most_bytes → got ≡ xs → ys ≡ [] → IsLine xs (Read got) ys
+last-by : (xs got ys : List ℕ) → IsInLine xs → xs ≢ [] → length xs ≤ most_bytes → got ≡ xs → ys ≡ [] → TakesLine xs (Read got) ys
 last-by xs got ys none some few e f = rw (e, f) (last xs none some few)
 
-pub last-line : (xs ys : List ℕ) (n : ℕ) (result : Result Line LineFault) → n ≡ length xs → n ≢ 0 → IsInLine xs → length xs ≤ most_bytes → IfOk result (λ line. line ≡ Read (take n xs)) → OnOk result (ys ≡ drop n xs) → IfOk result (λ line. IsLine xs line ys)
+pub last-line : (xs ys : List ℕ) (n : ℕ) (result : Result Line LineFault) → n ≡ length xs → n ≢ 0 → IsInLine xs → length xs ≤ most_bytes → IfOk result (λ line. line ≡ Read (take n xs)) → OnOk result (ys ≡ drop n xs) → IfOk result (λ line. TakesLine xs line ys)
 last-line xs ys n (Err fault) e some none few is left = tt
 last-line xs ys n (Ok line) e some none few is left =
     let some' : length xs ≢ 0 = λ same. some (e ∙ same) in
@@ -203,7 +212,7 @@ some-joined : (xs ys : List ℕ) (x : ℕ) → xs ++ x ∷ ys ≢ []
 some-joined [] ys x = λ same. cc same
 some-joined (one ∷ xs) ys x = λ same. cc same
 
-is-by : (held left : List ℕ) (line : Line) → IsLine held line left → (line, left) ≡ line_by (before_newline held) held
+is-by : (held left : List ℕ) (line : Line) → TakesLine held line left → (line, left) ≡ line_by (before_newline held) held
 is-by held left line (whole bytes rest none few) =
     let e : before_newline (bytes ++ 10 ∷ left) ≡ length bytes = before-joined bytes (10 ∷ left) none ∙ omega (arith, before-none left) in
     let again : (bytes ++ 10 ∷ []) ++ left ≡ bytes ++ 10 ∷ left = append_assoc bytes (10 ∷ []) left in

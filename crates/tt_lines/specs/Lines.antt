@@ -19,30 +19,30 @@ most_bytes = 16777216
 abbrev pub IsInLine : (bytes : List ℕ) → Type 0
 IsInLine bytes = IsTrue (list_all (λ b. not (b == 10)) bytes)
 
--- What is read of standard input for a line, and what is left of it: a line is taken with its newline; the last one may
--- have none; at the end there is no line; and of one with too many bytes so many are taken as a line may have.
-pub data IsLine : (held : List ℕ) → Line → (left : List ℕ) → Type 0 where
+-- What is read of standard input for a line, and what remains of it (gets(n)): a line is taken with its newline; the last
+-- one may have none; at the end there is no line; of one with too many bytes as many are taken as a line may have.
+pub data TakesLine : (held : List ℕ) → Line → (left : List ℕ) → Type 0 where
   whole : (line left : List ℕ) →
       IsInLine line → length line ≤ most_bytes →
-      IsLine (line ++ 10 ∷ left) (Read (line ++ 10 ∷ [])) left
+      TakesLine (line ++ 10 ∷ left) (Read (line ++ 10 ∷ [])) left
   last : (line : List ℕ) →
       IsInLine line → line ≢ [] → length line ≤ most_bytes →
-      IsLine line (Read line) []
-  ended : IsLine [] End []
+      TakesLine line (Read line) []
+  ended : TakesLine [] End []
   long : (part left : List ℕ) (next : ℕ) →
       IsInLine part → length part ≡ most_bytes → next ≢ 10 →
-      IsLine (part ++ next ∷ left) TooLong (next ∷ left)
+      TakesLine (part ++ next ∷ left) TooLong (next ∷ left)
 
--- of the same bytes one line is read, and the same is left
+-- of the same bytes one line is read, and the same remains
 abbrev pub OneLineLaw : Type 0
 OneLineLaw =
     (held left rest : List ℕ) (one other : Line) →
-    IsLine held one left →
-    IsLine held other rest →
+    TakesLine held one left →
+    TakesLine held other rest →
     (one ≡ other) × (left ≡ rest)
 
--- a line is read, where standard input tells its bytes
+-- a line is read, if standard input tells its bytes
 abbrev pub ReadsKnown : (held left : Option (List ℕ)) → Line → Type 0
 ReadsKnown None left line = ⊤
 ReadsKnown (Some held) None line = ⊥
-ReadsKnown (Some held) (Some left) line = IsLine held line left
+ReadsKnown (Some held) (Some left) line = TakesLine held line left

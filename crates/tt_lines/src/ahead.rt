@@ -1,7 +1,8 @@
-ghost use Rattle.std.specs.Prelude.{◌≡◌, ◌≢◌, ◌≤◌, ◌<◌, ◌+◌, ◌++◌, ℕ, List, [], take, drop, length, slice_index, min, MatchOption, IfOk, OnOk, IsErrOf, IsOk, Err, IsTrue, false, ◌↔◌};
+ghost use Rattle.std.specs.Prelude.{◌≡◌, ◌≢◌, ◌≤◌, ◌<◌, ◌+◌, ◌++◌, ℕ, List, [], take, drop, length, slice_index, min, MatchOption, IfOk, OnOk, IsErrOf, IsOk, Ok, Err, IsTrue, true, false, ◌↔◌};
 ghost use Rattle.std.specs.Io.KnownBytes.{IsAtEnd, Keeps, prepend_known};
 ghost use Rattle.tt_devices.specs.Faults.{Rises};
-ghost use Rattle.tt_lines.specs.Lines.{IsInLine, IsLine, ReadsKnown};
+ghost use Rattle.tt_devices.specs.Streams.{LosesPart};
+ghost use Rattle.tt_lines.specs.Lines.{IsInLine, TakesLine, ReadsKnown};
 ghost use Rattle.tt_shared.specs.declared.applied.Line.TheVariants.{Read};
 
 use crate::LineFault;
@@ -54,7 +55,9 @@ impl Ahead {
     /// The next line of standard input: of the bytes that were read ahead, and then of those that the source gives
     /// (gets(n)). A line of more than 16,777,216 bytes without its newline is too long; of it so many are used.
     ///
-    /// `Failed` only where the source's count of faults rose; then no byte is lost. `NoMemory` where memory is refused.
+    /// Nothing is read of the source if a newline was read ahead.
+    ///
+    /// `Failed` only if the source's count of faults rose; then no byte is lost. `NoMemory` if memory is refused.
     pub fn next_line<S: Source>(&mut self, source: &mut S) -> Result<Line, LineFault>
         ensures line { IfOk result (λ line. ReadsKnown
             (prepend_known self.old (S.held source.old)) (prepend_known self.new (S.held source.new)) line) }
@@ -62,6 +65,8 @@ impl Ahead {
         ensures cause { IsErrOf result LineFault.Failed → Rises (S.fault_count source.old) (S.fault_count source.new) }
         ensures nothing_lost { IsErrOf result LineFault.Failed →
             Keeps (prepend_known self.old (S.held source.old)) (prepend_known self.new (S.held source.new)) }
+        ensures taken { LosesPart (S.held source.old) (S.held source.new) }
+        ensures read_ahead { ¬ (IsInLine self.old) → (source.new ≡ source.old) × (result ≢ Err LineFault.Failed) }
     {
         let mut searched = 0;
         while searched < MOST_SEARCHED {
@@ -125,7 +130,7 @@ impl Ahead {
     fn take_last(&mut self) -> Result<Line, LineFault>
         requires in_line { IsInLine self.old }
         requires few { length self.old ≤ MOST_BYTES }
-        ensures line { IfOk result (λ line. IsLine self.old line self.new) }
+        ensures line { IfOk result (λ line. TakesLine self.old line self.new) }
         ensures left { OnOk result (self.new ≡ []) }
         ensures no_memory { result ≢ Err LineFault.Failed }
     {
@@ -136,7 +141,8 @@ impl Ahead {
         self.take_line(count)
     }
 
-    // Whether there are more bytes than were searched. There are none more only at the end of input.
+    // Whether there are more bytes than were searched. There are none more only at the end of input. The source is read only
+    // if all that were read ahead were searched.
     fn has_more<S: Source>(&mut self, source: &mut S, searched: usize) -> Result<bool, LineFault>
         requires within { searched ≤ length self.old }
         ensures same { take searched self.new ≡ take searched self.old }
@@ -147,6 +153,8 @@ impl Ahead {
         ensures end { IfOk result (λ more. (more ≡ false) → IsAtEnd (S.held source.new)) }
         ensures steady { (result ≢ Err LineFault.Failed) → S.fault_count source.new ≡ S.fault_count source.old }
         ensures cause { IsErrOf result LineFault.Failed → Rises (S.fault_count source.old) (S.fault_count source.new) }
+        ensures taken { LosesPart (S.held source.old) (S.held source.new) }
+        ensures not_read { searched < length self.old → (source.new ≡ source.old) × (self.new ≡ self.old) × (result ≡ Ok true) }
     {
         if searched < self.unused().len() {
             return Ok(true);
@@ -164,6 +172,7 @@ impl Ahead {
         ensures end { IfOk result (λ count. count ≡ 0 → IsAtEnd (S.held source.new)) }
         ensures steady { (result ≢ Err LineFault.Failed) → S.fault_count source.new ≡ S.fault_count source.old }
         ensures cause { IsErrOf result LineFault.Failed → Rises (S.fault_count source.old) (S.fault_count source.new) }
+        ensures taken { LosesPart (S.held source.old) (S.held source.new) }
     {
         self.let_go();
         // With the room made first, no byte that was read is lost for want of memory.
@@ -180,7 +189,7 @@ impl Ahead {
         }
     }
 
-    // Lets the bytes go that were used. Where none were, nothing is moved, so that a long line is not moved again for
+    // Lets the bytes go that were used. If none were, nothing is moved, so that a long line is not moved again for
     // each piece of it.
     fn let_go(&mut self)
         ensures { self.new ≡ self.old }
@@ -195,7 +204,7 @@ impl Ahead {
     }
 }
 
-// The first newline, where none stands among the bytes that were searched.
+// The first newline, if none stands among the bytes that were searched.
 fn first_newline(bytes: &[u8], searched: usize) -> Option<usize>
     requires within { searched ≤ length bytes.now }
     requires searched { IsInLine (take searched bytes.now) }

@@ -7,6 +7,3 @@ pub mod laws;
 
 pub use ahead::Ahead;
 pub use fault::LineFault;
-
-#[cfg(test)]
-mod tests;

@@ -3,7 +3,7 @@ use Rattle.std.proofs.Common.{◌≡◌, ◌∙◌, ℕ, Bool, true, false, IsTr
 use Rattle.tt_calls.specs.declared.request.Request.{Request}
 use Rattle.tt_lines.proofs.LineLemmas.{one-line}
 use Rattle.tt_machine.proofs.OneRequest.{one_request}
-use Rattle.tt_machine.specs.Machine.{Asks, CanStep, IsBarred, Machine, Reads, Runs, Steps, Thread, over, silent, waits, none, more, thread_of}
+use Rattle.tt_machine.specs.Machine.{Asks, CanStep, IsBarred, Machine, ReadsInput, Runs, Steps, Thread, over, silent, waits, none, more, thread_of}
 use Rattle.tt_lines.specs.Lines.{reads_line}
 use Rattle.tt_interp.specs.Beginning.{IsNext}
 use Rattle.tt_shared.specs.Enabled.{enabled}
@@ -22,15 +22,15 @@ same_request machine number one other serving during a b =
     (one_request machine.setup number a.thread.start a.thread.replies one other serving during a.next next).0
 
 same_read : (is : Bool) (held left rest : List ℕ) (line also : Line)
-    → Reads is held line left → Reads is held also rest → (line ≡ also) × (left ≡ rest)
+    → ReadsInput is held line left → ReadsInput is held also rest → (line ≡ also) × (left ≡ rest)
 same_read true held left rest line also a b = one-line held left rest line also a b
 same_read false held left rest line also a b = ((a.0 ∙ sym b.0), (a.1 ∙ sym b.1))
 
 pub same_step : (old one other : Machine) (number : ℕ) → Steps old number one → Steps old number other → one ≡ other
 same_step old one other number a b =
     let asks : a.can.request ≡ b.can.request = same_request old number a.can.request b.can.request a.can.serving b.can.serving a.can.asks b.can.asks in
-    let read : Reads (reads_line a.can.request) old.input b.line b.left =
-    subst (λ (request : Request). Reads (reads_line request) old.input b.line b.left) (sym asks) b.read in
+    let read : ReadsInput (reads_line a.can.request) old.input b.line b.left =
+    subst (λ (request : Request). ReadsInput (reads_line request) old.input b.line b.left) (sym asks) b.read in
     let same = same_read (reads_line a.can.request) old.input a.left b.left a.line b.line a.read read in
     let line : a.line ≡ b.line = same.0 in
     let left : a.left ≡ b.left = same.1 in

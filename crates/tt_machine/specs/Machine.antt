@@ -6,7 +6,7 @@ use Rattle.tt_calls.specs.declared.start.Start.{Start}
 use Rattle.tt_calls.specs.declared.start.Start.TheVariants as start
 use Rattle.tt_interp.specs.Beginning.{IsNext}
 use Rattle.tt_interp.specs.declared.setup.Setup.{Setup}
-use Rattle.tt_lines.specs.Lines.{IsLine, reads_line}
+use Rattle.tt_lines.specs.Lines.{TakesLine, reads_line}
 use Rattle.tt_shared.specs.Acts.{act}
 use Rattle.tt_shared.specs.Enabled.{enabled}
 use Rattle.tt_shared.specs.State.{Acted, State, start_state}
@@ -61,34 +61,34 @@ pub record Asks (machine : Machine) (number : ℕ) (request : Request) (serving 
 -- ---- a step ----
 
 -- the reply is added to those of the thread
-abbrev pub told : Reply → Thread → Thread
-told reply thread = record thread { replies = thread.replies ++ reply ∷ [] }
+abbrev pub thread_with_reply : Reply → Thread → Thread
+thread_with_reply reply thread = record thread { replies = thread.replies ++ reply ∷ [] }
 
-abbrev pub told_at : List Thread → ℕ → Reply → Option Thread → List Thread
-told_at threads number reply None = threads
-told_at threads number reply (Some thread) = slice_set threads (number - 1) (told reply thread)
+abbrev pub with_reply_at : List Thread → ℕ → Reply → Option Thread → List Thread
+with_reply_at threads number reply None = threads
+with_reply_at threads number reply (Some thread) = slice_set threads (number - 1) (thread_with_reply reply thread)
 
-abbrev pub replied : List Thread → ℕ → Reply → List Thread
-replied threads number reply = told_at threads number reply (thread_of threads number)
+abbrev pub with_reply : List Thread → ℕ → Reply → List Thread
+with_reply threads number reply = with_reply_at threads number reply (thread_of threads number)
 
 -- threads that were made begin
-abbrev pub joined : List Thread → List Row → List Thread
-joined threads rows = threads ++ map new_thread (drop (length threads) rows)
+abbrev pub with_new_threads : List Thread → List Row → List Thread
+with_new_threads threads rows = threads ++ map new_thread (drop (length threads) rows)
 
 -- the machine after a request was answered, when standard input has this left
 abbrev pub after_act : Machine → ℕ → Acted → (left : List ℕ) → Machine
 after_act machine number acted left = record machine {
   shared = acted.state;
-  threads = joined (replied machine.threads number acted.gives.reply) acted.state.rows;
+  threads = with_new_threads (with_reply machine.threads number acted.gives.reply) acted.state.rows;
   input = left;
   out = machine.out ++ acted.gives.out;
   err = machine.err ++ acted.gives.err;
 }
 
 -- what is read for a request
-abbrev pub Reads : Bool → (held : List ℕ) → Line → (left : List ℕ) → Type 0
-Reads true held line left = IsLine held line left
-Reads false held line left = (line ≡ NotRead) × (left ≡ held)
+abbrev pub ReadsInput : Bool → (held : List ℕ) → Line → (left : List ℕ) → Type 0
+ReadsInput true held line left = TakesLine held line left
+ReadsInput false held line left = (line ≡ NotRead) × (left ≡ held)
 
 -- a thread can take a step: what it asks next can be answered, and the run is not over
 pub record CanStep (machine : Machine) (number : ℕ) : Type 0 where
@@ -103,7 +103,7 @@ pub record Steps (old : Machine) (number : ℕ) (new : Machine) : Type 0 where
   pub can : CanStep old number
   pub line : Line
   pub left : List ℕ
-  pub read : Reads (reads_line can.request) old.input line left
+  pub read : ReadsInput (reads_line can.request) old.input line left
   pub becomes : new ≡ after_act old number (act old.shared number can.request line) left
 
 -- a thread can take none: the run is over; it asks nothing, for it has ended or was never made; or it has to wait

@@ -10,26 +10,49 @@ use Rattle.tt_shared.specs.State.{State}
 use Rattle.tt_shared.specs.declared.applied.Applied.{Applied}
 use Rattle.tt_shared.specs.declared.applied.Line.{Line}
 
--- what was read stays read where standard input stays
-reads-same : {S K E : Type 0} (reads : Bool) (held : S → Option (List ℕ)) (old mid new : Devices S K E) (line : Line) → ReadsBy reads held old mid line → new.input ≡ mid.input → new.ahead ≡ mid.ahead → ReadsBy reads held old new line
+-- what was read stays read if standard input stays
+reads-same : {S K E : Type 0} (reads : Bool) (held : S → Option (List ℕ)) (old mid new : Devices S K E) (line : Line)
+    → ReadsBy reads held old mid line → new.input ≡ mid.input → new.ahead ≡ mid.ahead → ReadsBy reads held old new line
 reads-same true held old mid new line read input ahead = rw (input, ahead) read
 reads-same false held old mid new line read input ahead = (read.0, input ∙ read.1, ahead ∙ read.2)
 
-pub happens : {S K E : Type 0} (held : S → Option (List ℕ)) (got_out : K → Option (List ℕ)) (got_err : E → Option (List ℕ)) (grows : Growth) (old new : Ground S K E) (mid : Devices S K E) (thread : ℕ) (request : Request) (line : Line) (out err : List ℕ) → ReadsBy (reads_line request) held old.devices mid line → (new.devices.input ≡ mid.input) × (new.devices.ahead ≡ mid.ahead) → (mid.output ≡ old.devices.output) × (mid.errors ≡ old.devices.errors) → new.shared ≡ (act old.shared thread request line).state → new.schedule ≡ old.schedule ++ thread ∷ [] → out ≡ (act old.shared thread request line).gives.out → err ≡ (act old.shared thread request line).gives.err → grows (got_out mid.output) (got_out new.devices.output) out → grows (got_err mid.errors) (got_err new.devices.errors) err → Happens held got_out got_err grows old thread request line new
-happens held got_out got_err grows old new mid thread request line out err read input others shared entry is_out is_err put_out put_err = record {
-  read = reads-same (reads_line request) held old.devices mid new.devices line read input.0 input.1;
-  shared = shared;
-  entry = entry;
-  out = rw (← is_out, ← others.0) put_out;
-  err = rw (← is_err, ← others.1) put_err;
-}
+module _ {S K E : Type 0} (held : S → Option (List ℕ)) (got_out : K → Option (List ℕ)) (got_err : E → Option (List ℕ)) (grows : Growth)
+    (old new : Ground S K E) (thread : ℕ) (request : Request) (line : Line) where
+  -- what the parts of an action did: a line was read, which left the devices so, and then these pieces were put
+  pub record Parts (mid : Devices S K E) (out err : List ℕ) : Type 0 where
+    pub read : ReadsBy (reads_line request) held old.devices mid line
+    pub input : (new.devices.input ≡ mid.input) × (new.devices.ahead ≡ mid.ahead)
+    pub others : (mid.output ≡ old.devices.output) × (mid.errors ≡ old.devices.errors)
+    pub shared : new.shared ≡ (act old.shared thread request line).state
+    pub entry : new.schedule ≡ old.schedule ++ thread ∷ []
+    pub is_out : out ≡ (act old.shared thread request line).gives.out
+    pub is_err : err ≡ (act old.shared thread request line).gives.err
+    pub put_out : grows (got_out mid.output) (got_out new.devices.output) out
+    pub put_err : grows (got_err mid.errors) (got_err new.devices.errors) err
+
+  pub happens : (mid : Devices S K E) (out err : List ℕ) → Parts mid out err
+      → Happens held got_out got_err grows old thread request line new
+  happens mid out err parts = record {
+    read = reads-same (reads_line request) held old.devices mid new.devices line parts.read parts.input.0 parts.input.1;
+    shared = parts.shared;
+    entry = parts.entry;
+    out = rw (← parts.is_out, ← parts.others.0) parts.put_out;
+    err = rw (← parts.is_err, ← parts.others.1) parts.put_err;
+  }
 
 pub writes-of : (gives : Applied) (out err : List ℕ) → out ≡ gives.out → err ≡ gives.err → (out ≢ []) ⊎ (err ≢ []) → Writes gives
 writes-of gives out err is_out is_err (inl some) = inl (λ none. some (is_out ∙ none))
 writes-of gives out err is_out is_err (inr some) = inr (λ none. some (is_err ∙ none))
 
--- a fault that is kept changes nothing else
-pub kept-too : {S K E : Type 0} (held : S → Option (List ℕ)) (got_out : K → Option (List ℕ)) (got_err : E → Option (List ℕ)) (grows : Growth) (old new : Ground S K E) (thread : ℕ) (request : Request) (line : Line) (shared : State) (schedule : List ℕ) (devices : Devices S K E) (kept later : Option StepFault) → record { shared = shared; schedule = schedule; devices = devices; kept = kept } ≡ new → Happens held got_out got_err grows old thread request line new → Happens held got_out got_err grows old thread request line (record { shared = shared; schedule = schedule; devices = devices; kept = later })
-kept-too held got_out got_err grows old new thread request line shared schedule devices kept later same happened =
-    let is : Happens held got_out got_err grows old thread request line (record { shared = shared; schedule = schedule; devices = devices; kept = kept }) = rw same happened in
+-- a fault that is recorded changes nothing else
+pub kept-too : {S K E : Type 0} (held : S → Option (List ℕ)) (got_out : K → Option (List ℕ)) (got_err : E → Option (List ℕ)) (grows : Growth)
+    (old new : Ground S K E) (thread : ℕ) (request : Request) (line : Line)
+    (shared : State) (schedule : List ℕ) (devices : Devices S K E) (kept later : Option StepFault)
+    → record { shared = shared; schedule = schedule; devices = devices; kept = kept } ≡ new
+    → Happens held got_out got_err grows old thread request line new
+    → Happens held got_out got_err grows old thread request line
+    (record { shared = shared; schedule = schedule; devices = devices; kept = later })
+kept-too {S = S} {K = K} {E = E} held got_out got_err grows old new thread request line shared schedule devices kept later same happened =
+    let desk : Ground S K E = record { shared = shared; schedule = schedule; devices = devices; kept = kept } in
+    let is : Happens held got_out got_err grows old thread request line desk = rw same happened in
     record { read = is.read; shared = is.shared; entry = is.entry; out = is.out; err = is.err }

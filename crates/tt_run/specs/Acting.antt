@@ -31,7 +31,7 @@ pub record Happens {S K E : Type 0}
   pub err :
       grows (got_err old.devices.errors) (got_err new.devices.errors) (act old.shared thread request line).gives.err
 
--- the answer: the thread's reply, how many threads were made, and the exit code of the run where it is over
+-- the answer: the thread's reply, how many threads were made, and the exit code of the run if it is over
 pub record IsAnswer (acted : Acted) (gives : Applied) : Type 0 where
   pub reply : acted.reply ≡ gives.reply
   pub made : acted.made ≡ gives.made
@@ -41,7 +41,7 @@ pub record IsAnswer (acted : Acted) (gives : Applied) : Type 0 where
 abbrev pub Writes : Applied → Type 0
 Writes gives = (gives.out ≢ []) ⊎ (gives.err ≢ [])
 
--- a read that failed changed nothing but how much is read ahead: standard input still has what it had
+-- a failed read changed nothing but how much is read ahead: standard input still has what it had
 pub record ReadsNothing {S K E : Type 0} (held : S → Option (List ℕ)) (old new : Ground S K E) : Type 0 where
   pub shared : new.shared ≡ old.shared
   pub schedule : new.schedule ≡ old.schedule

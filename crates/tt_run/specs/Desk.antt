@@ -21,11 +21,11 @@ pub record Ground (S K E : Type 0) : Type 0 where
   pub devices : Devices S K E
   pub kept : Option StepFault
 
--- what standard input still has, where it tells that
+-- what standard input still has, if it tells that
 abbrev pub unread : {S K E : Type 0} → (held : S → Option (List ℕ)) → Devices S K E → Option (List ℕ)
 unread held devices = prepend_known devices.ahead (held devices.input)
 
--- a thread that lives can be answered its request, where the run is not over and nothing was met
+-- a thread that lives can be answered its request, if the run is not over and nothing was met
 abbrev pub can_act : {S K E : Type 0} → Ground S K E → (thread : ℕ) → Request → Bool
 can_act desk thread request =
     is_none desk.kept

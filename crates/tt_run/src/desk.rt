@@ -2,8 +2,8 @@ ghost use Rattle.std.specs.Prelude.{◌≡◌, ◌≢◌, ◌⊎◌, ◌<◌, �
 ghost use Rattle.tt_run.specs.Acting.{Happens, IsAnswer, ReadsNothing, Writes};
 ghost use Rattle.tt_run.specs.Desk.{can_act};
 ghost use Rattle.tt_devices.specs.Faults.{Rises};
-ghost use Rattle.tt_devices.specs.Streams.{Grows, GrowsByPart};
-ghost use Rattle.tt_lines.specs.Lines.{reads_line};
+ghost use Rattle.tt_devices.specs.Streams.{Grows, GrowsByPart, LosesPart};
+ghost use Rattle.tt_lines.specs.Lines.{IsInLine, reads_line};
 ghost use Rattle.tt_schedule.specs.ScheduleText.{most_steps};
 ghost use Rattle.tt_shared.specs.Acts.{act};
 ghost use Rattle.tt_shared.specs.State.{start_state};
@@ -30,7 +30,7 @@ pub struct Acted {
     pub reply: Reply,
     /// How many threads were made.
     pub made: u32,
-    /// The exit code of the run, from 0 to 255, where it is over.
+    /// The exit code of the run, from 0 to 255, if it is over.
     pub over: Option<u8>,
 }
 
@@ -64,7 +64,7 @@ impl<S: Source, K: Sink, E: Sink> Model for Desk<S, K, E> {
 impl<S: Source, K: Sink, E: Sink> Desk<S, K, E> {
     /// Main alone, thread 1, which begins with this, over these devices, with no step taken.
     ///
-    /// `NewFault` where memory is refused, with the devices as they were given.
+    /// `NewFault` if memory is refused, with the devices as they were given.
     pub fn new(
         alloc: Global,
         main: Start,
@@ -106,14 +106,15 @@ impl<S: Source, K: Sink, E: Sink> Desk<S, K, E> {
             && self.shared.enabled(thread, request)
     }
 
-    /// Answers the thread's request: reads a line where the request asks for one, adds the thread to the schedule, and
+    /// Answers the thread's request: reads a line if the request asks for one, adds the thread to the schedule, and
     /// puts what the request writes.
     ///
-    /// `NotEnabled` exactly where the thread can't be answered this request and no fault is kept; then nothing changes.
-    /// `ReadFault` only where the source's count of faults rose; then no byte of standard input is lost and all else
-    /// stays. `WriteFault` only where a sink's count of faults rose; then the request was answered and the entry added,
-    /// and first parts of the pieces were put. `NoMemory` where memory is refused; then no entry was added and nothing
-    /// was put. After these three the desk does nothing more, and each later action answers the same.
+    /// `NotEnabled` exactly if the thread can't be answered this request and no fault is kept; then nothing changes.
+    /// `ReadFault` only if the request reads a line, none was read ahead, and the source's count of faults rose; then no
+    /// byte of standard input is lost and all else stays. `WriteFault` only if a sink's count of faults rose; then the
+    /// request was answered, the entry added, and first parts of the pieces were put. `NoMemory` if memory is refused; then
+    /// no entry was added and nothing was put. After these three the desk does nothing more, and each later action answers
+    /// the same.
     pub fn act(&mut self, thread: u32, request: &Request) -> Result<Acted, StepFault>
         requires room { length self.old.schedule < most_steps }
 
@@ -127,7 +128,7 @@ impl<S: Source, K: Sink, E: Sink> Desk<S, K, E> {
             IsErrOf result StepFault.NotEnabled }
         ensures unchanged { IsErrOf result StepFault.NotEnabled → self.new ≡ self.old }
 
-        // Faults and want of memory are kept.
+        // Faults and want of memory stay.
         ensures again { IfSome self.old.kept (λ fault. (result ≡ Err fault) × (self.new ≡ self.old)) }
         ensures kept { IfErr result (λ fault. (fault ≡ StepFault.NotEnabled) ⊎ (self.new.kept ≡ Some fault)) }
         ensures read_fault { IsErrOf result StepFault.ReadFault → self.old.kept ≡ None →
@@ -140,6 +141,9 @@ impl<S: Source, K: Sink, E: Sink> Desk<S, K, E> {
         ensures write_fault { IsErrOf result StepFault.WriteFault → self.old.kept ≡ None →
             Rises (K.fault_count self.old.devices.output) (K.fault_count self.new.devices.output)
             ⊎ Rises (E.fault_count self.old.devices.errors) (E.fault_count self.new.devices.errors) }
+        ensures taken { LosesPart (S.held self.old.devices.input) (S.held self.new.devices.input) }
+        ensures read_ahead { ¬ (IsInLine self.old.devices.ahead) → self.old.kept ≡ None →
+            (self.new.devices.input ≡ self.old.devices.input) × (result ≢ Err StepFault.ReadFault) }
         ensures no_entry { IsErrOf result StepFault.NoMemory → self.new.schedule ≡ self.old.schedule }
         ensures no_piece { IsErrOf result StepFault.NoMemory →
             (self.new.devices.output ≡ self.old.devices.output) × (self.new.devices.errors ≡ self.old.devices.errors) }
@@ -185,6 +189,9 @@ impl<S: Source, K: Sink, E: Sink> Desk<S, K, E> {
         ensures write_fault { IsErrOf result StepFault.WriteFault →
             Rises (K.fault_count self.old.devices.output) (K.fault_count self.new.devices.output)
             ⊎ Rises (E.fault_count self.old.devices.errors) (E.fault_count self.new.devices.errors) }
+        ensures taken { LosesPart (S.held self.old.devices.input) (S.held self.new.devices.input) }
+        ensures read_ahead { ¬ (IsInLine self.old.devices.ahead) →
+            (self.new.devices.input ≡ self.old.devices.input) × (result ≢ Err StepFault.ReadFault) }
         ensures no_entry { IsErrOf result StepFault.NoMemory → self.new.schedule ≡ self.old.schedule }
         ensures no_piece { IsErrOf result StepFault.NoMemory →
             (self.new.devices.output ≡ self.old.devices.output) × (self.new.devices.errors ≡ self.old.devices.errors) }
@@ -212,7 +219,7 @@ impl<S: Source, K: Sink, E: Sink> Desk<S, K, E> {
         Ok(Acted { reply, made, over })
     }
 
-    /// Keeps want of memory that was met elsewhere. It takes no memory.
+    /// Records that memory was refused elsewhere. It takes no memory.
     pub fn run_out(&mut self)
         requires going { self.old.kept ≡ None }
         ensures kept { self.new ≡ record self.old { kept = Some StepFault.NoMemory } }
@@ -228,7 +235,7 @@ impl<S: Source, K: Sink, E: Sink> Desk<S, K, E> {
         self.kept
     }
 
-    /// The exit code of the run, from 0 to 255, where it is over. It takes no memory.
+    /// The exit code of the run, from 0 to 255, if it is over. It takes no memory.
     pub fn over(&self) -> Option<u8>
         ensures over { result ≡ self.now.shared.over }
     {

@@ -3,8 +3,8 @@ ghost use Rattle.std.specs.Io.KnownBytes.{Keeps};
 ghost use Rattle.tt_run.specs.Acting.{ReadsBy};
 ghost use Rattle.tt_run.specs.Desk.{unread};
 ghost use Rattle.tt_devices.specs.Faults.{Rises};
-ghost use Rattle.tt_devices.specs.Streams.{Grows, GrowsByPart};
-ghost use Rattle.tt_lines.specs.Lines.{reads_line};
+ghost use Rattle.tt_devices.specs.Streams.{Grows, GrowsByPart, LosesPart};
+ghost use Rattle.tt_lines.specs.Lines.{IsInLine, reads_line};
 
 use crate::StepFault;
 use std::alloc::Global;
@@ -58,6 +58,9 @@ impl<S: Source, K: Sink, E: Sink> Devices<S, K, E> {
         ensures steady { (result ≢ Err StepFault.ReadFault) → S.fault_count self.new.input ≡ S.fault_count self.old.input }
         ensures others { (self.new.output ≡ self.old.output) × (self.new.errors ≡ self.old.errors) }
         ensures faults { IfErr result (λ fault. (fault ≡ StepFault.ReadFault) ⊎ (fault ≡ StepFault.NoMemory)) }
+        ensures taken { LosesPart (S.held self.old.input) (S.held self.new.input) }
+        ensures read_ahead { ¬ (IsInLine self.old.ahead) →
+            (self.new.input ≡ self.old.input) × (result ≢ Err StepFault.ReadFault) }
     {
         if !reads_line(request) {
             return Ok(Line::NotRead);

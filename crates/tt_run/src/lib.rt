@@ -7,6 +7,3 @@ mod fault;
 
 pub use desk::{Acted, Desk};
 pub use fault::{NewFault, StepFault};
-
-#[cfg(test)]
-mod tests;

@@ -21,12 +21,13 @@ use Rattle.tt_workers.proofs.Lists.{at-number, from-one, get-append, get-set-sam
 use Rattle.tt_workers.proofs.TieLemmas.{FailsBy, IsParked, Steady, can-act, of-none, stuck, tied-acted, tied-back, tied-back-empty, tied-ended, tied-fault, tied-fresh, tied-out-of-memory, tied-stop, to-none}
 use Rattle.tt_workers.proofs.WhereLemmas.{asks-parked}
 use Rattle.tt_workers.proofs.TurnLemmas.{not-ended, part-same, stays-same, tied-quiet, whole-part}
-use Rattle.tt_workers.specs.Ends.{kept_by, kept_with}
-use Rattle.tt_workers.specs.Places.{Beginning, Note, can_go, noted_in, place_of}
-use Rattle.tt_workers.specs.Rosters.{HandsOutFresh, is_elsewhere_at, parked_at}
-use Rattle.tt_workers.specs.Rounds.{IsVacant, KeepsVacant, Replies, Rounds, TakesBack}
-use Rattle.tt_workers.specs.Turns.{IsFirstPart}
-use Rattle.tt_workers.specs.World.{IsTied, Realm}
+use Rattle.tt_workers.specs.Ends.{fault_so_far, end_fault}
+use Rattle.tt_workers.specs.Ran.{Beginning}
+use Rattle.tt_workers.specs.inside.Places.{Note, can_go, noted_in, place_of}
+use Rattle.tt_workers.specs.inside.Rosters.{HandsOutFresh, is_elsewhere_at, parked_at}
+use Rattle.tt_workers.specs.inside.Rounds.{IsVacant, KeepsVacant, Replies, Rounds, TakesBack}
+use Rattle.tt_core.specs.Parts.{IsFirstPart}
+use Rattle.tt_workers.specs.inside.World.{IsTied, Realm}
 use Rattle.tt_workers.specs.declared.next.Done.{Done}
 use Rattle.tt_workers.specs.declared.next.Next.TheVariants as next
 use Rattle.tt_workers.specs.declared.next.RunEnd.{RunEnd}
@@ -73,7 +74,7 @@ nobody notes pass vacant = ap noted_in vacant.noted ∙ vacant.empty
 
 module _ {S K E : Type 0} where
   -- an end is kept already
-  pub rounds-ended : (pass : ℕ) (world : Realm S K E) → IsTrue (is_some world.end) → world.desk.kept ≡ kept_by world.end → length world.desk.schedule ≤ world.begun.steps
+  pub rounds-ended : (pass : ℕ) (world : Realm S K E) → IsTrue (is_some world.end) → world.desk.kept ≡ fault_so_far world.end → length world.desk.schedule ≤ world.begun.steps
       → Rounds pass world world (Some next.Over)
   rounds-ended pass world some kept within = record {
     begun = refl;
@@ -90,7 +91,7 @@ module _ {S K E : Type 0} where
 
   -- an end is kept from now on
   pub rounds-end : (pass : ℕ) (begun : Beginning S K E) (old new : Ground S K E) (places later : List Place) (was : Option RunEnd) (end : RunEnd)
-      → was ≡ None → new.kept ≡ kept_with end → IsFirstPart old.schedule new.schedule → length new.schedule ≤ begun.steps
+      → was ≡ None → new.kept ≡ end_fault end → IsFirstPart old.schedule new.schedule → length new.schedule ≤ begun.steps
       → Rounds pass (record { begun = begun; desk = old; places = places; end = was }) (record { begun = begun; desk = new; places = later; end = Some end }) (Some next.Over)
   rounds-end pass begun old new places later was end none kept longer within = record {
     begun = refl;
@@ -110,7 +111,7 @@ module _ {S K E : Type 0} where
       let found = elsewhere world.places pass number (place_of world.places number) refl there in
       record {
         begun = refl;
-        kept = kept ∙ ap kept_by (sym none);
+        kept = kept ∙ ap fault_so_far (sym none);
         longer = whole-part world.desk.schedule;
         within = within;
         ended = λ is. stays-same world;
@@ -134,7 +135,7 @@ module _ {S K E : Type 0} where
       → Rounds pass (record { begun = begun; desk = desk; places = places; end = end }) (record { begun = begun; desk = desk; places = later; end = end }) (Some (next.Run task))
   rounds-fresh pass number begun desk places later end task none kept within out = record {
     begun = refl;
-    kept = kept ∙ ap kept_by (sym none);
+    kept = kept ∙ ap fault_so_far (sym none);
     longer = whole-part desk.schedule;
     within = within;
     ended = λ is. not-ended end _ none is;
@@ -154,7 +155,7 @@ module _ {S K E : Type 0} where
       let stays = get-append replies.mid replies.made.more (number - 1) (place.Out pass) at in
       record {
         begun = refl;
-        kept = kept ∙ ap kept_by (sym none);
+        kept = kept ∙ ap fault_so_far (sym none);
         longer = part-by old.schedule new.schedule number entry;
         within = omega (arith, count, room);
         ended = λ is. not-ended end _ none is;
@@ -172,7 +173,7 @@ module _ {S K E : Type 0} where
       let count = longer-by old.schedule new.schedule number entry in
       record {
         begun = refl;
-        kept = kept ∙ ap kept_by (sym none);
+        kept = kept ∙ ap fault_so_far (sym none);
         longer = part-by old.schedule new.schedule number entry;
         within = omega (arith, count, room);
         ended = λ is. not-ended end _ none is;
@@ -268,7 +269,7 @@ module _ {S K E : Type 0} (source : OfSource S) (output : OfSink K) (errors : Of
   pub keeps-fault : {T : Type 0} (pass number : ℕ) (begun : Beginning S K E) (old new : Ground S K E) (places later : List Place) (was : Option RunEnd) (request : Request) (result : Result T StepFault) (is : StepFault) (end : RunEnd)
       → was ≡ None → length old.schedule < begun.steps
       → IsParked places number request
-      → result ≡ Err is → is ≢ fault.NotEnabled → kept_with end ≡ Some is
+      → result ≡ Err is → is ≢ fault.NotEnabled → end_fault end ≡ Some is
       → FailsBy source output errors old new number request result
       → KeepsVacant source output errors (record { begun = begun; desk = old; places = places; end = was }) (record { begun = begun; desk = new; places = later; end = Some end }) pass None
   keeps-fault pass number begun old new places later was request result is end none room at failed other ended f notes tied vacant =
@@ -286,13 +287,13 @@ module _ {S K E : Type 0} (source : OfSource S) (output : OfSink K) (errors : Of
 
   pub rounds-fault : {T : Type 0} (pass number : ℕ) (begun : Beginning S K E) (old new : Ground S K E) (places later : List Place) (was : Option RunEnd) (request : Request) (result : Result T StepFault) (is : StepFault) (end : RunEnd)
       → was ≡ None → length old.schedule < begun.steps
-      → result ≡ Err is → is ≢ fault.NotEnabled → kept_with end ≡ Some is
+      → result ≡ Err is → is ≢ fault.NotEnabled → end_fault end ≡ Some is
       → FailsBy source output errors old new number request result
       → Rounds pass (record { begun = begun; desk = old; places = places; end = was }) (record { begun = begun; desk = new; places = later; end = Some end }) (Some next.Over)
   rounds-fault pass number begun old new places later was request result is end none room failed other ended f =
       by-schedule (fault-schedule old new number request result is failed other f)
     where
-      kept : new.kept ≡ kept_with end
+      kept : new.kept ≡ end_fault end
       kept = met source.held output.got errors.got new result is f.failed.kept failed other ∙ sym ended
 
       by-schedule : (new.schedule ≡ old.schedule) ⊎ (new.schedule ≡ old.schedule ++ number ∷ [])
@@ -306,7 +307,7 @@ module _ {S K E : Type 0} (source : OfSource S) (output : OfSink K) (errors : Of
 
   -- ---- a thread comes back ----
 
-  pub back-ended : (done : Done) (world : Realm S K E) → IsTrue (is_some world.end) → world.desk.kept ≡ kept_by world.end → TakesBack source output errors done world world
+  pub back-ended : (done : Done) (world : Realm S K E) → IsTrue (is_some world.end) → world.desk.kept ≡ fault_so_far world.end → TakesBack source output errors done world world
   back-ended done world some kept = record {
     keeps = λ notes pass tied returns. ended world.end some notes pass tied;
     begun = refl;
@@ -334,7 +335,7 @@ module _ {S K E : Type 0} (source : OfSource S) (output : OfSink K) (errors : Of
   }
 
   pub back-parked : (done : Done) (begun : Beginning S K E) (desk : Ground S K E) (places later : List Place) (end : Option RunEnd)
-      → end ≡ None → desk.kept ≡ kept_by end → IsTrue done.fine → later ≡ parked_at places done.thread done.interp
+      → end ≡ None → desk.kept ≡ fault_so_far end → IsTrue done.fine → later ≡ parked_at places done.thread done.interp
       → TakesBack source output errors done (record { begun = begun; desk = desk; places = places; end = end }) (record { begun = begun; desk = desk; places = later; end = end })
   back-parked done begun desk places later end none kept fine is = record {
     keeps = λ notes pass tied returns.

@@ -12,10 +12,11 @@ use Rattle.tt_devices.specs.declared.source.Source.{Ghosts as OfSource}
 use Rattle.tt_machine.specs.Machine.{Machine, none, start_machine}
 use Rattle.tt_shared.specs.State.{start_state}
 use Rattle.tt_workers.proofs.WhereLemmas.{fresh-placed}
-use Rattle.tt_workers.specs.Ends.{IsEnd, kept_with}
-use Rattle.tt_workers.specs.Places.{AreWhere, Beginning, IsFresh, Note, noted_in}
-use Rattle.tt_workers.specs.Ran.{HasRun, IsRan, told_end}
-use Rattle.tt_workers.specs.World.{IsTied, StandsAs}
+use Rattle.tt_workers.specs.Ends.{IsEnd, end_fault}
+use Rattle.tt_workers.specs.Ran.{Beginning}
+use Rattle.tt_workers.specs.inside.Places.{AreWhere, IsFreshPlace, Note, noted_in}
+use Rattle.tt_workers.specs.Ran.{EndsInMachine, IsRan, end_or_memory}
+use Rattle.tt_workers.specs.inside.World.{IsTied, StandsAs}
 use Rattle.tt_workers.specs.declared.next.RunEnd.{RunEnd}
 use Rattle.tt_workers.specs.declared.next.RunEnd.TheVariants as ends
 use Rattle.tt_workers.specs.declared.place.Place.{Place}
@@ -37,7 +38,7 @@ module _ {S K E : Type 0} (source : OfSource S) (output : OfSink K) (errors : Of
   pub begun-tied : (begun : Beginning S K E) (desk : Ground S K E) (places : List Place) (at : Place) (count : ℕ)
       → desk ≡ record { shared = start_state (start.Script begun.setup.script); schedule = []; devices = record { input = begun.devices.input; ahead = []; output = begun.devices.output; errors = begun.devices.errors }; kept = None }
       → places ≡ at ∷ []
-      → IsFresh begun.setup 1 (record { start = start.Script begun.setup.script; replies = [] }) at
+      → IsFreshPlace begun.setup 1 (record { start = start.Script begun.setup.script; replies = [] }) at
       → IsTied source output errors (record { begun = begun; desk = desk; places = places; end = None }) (replicate count (record { begun = begun; out = None }))
   begun-tied begun desk places at count is are fresh = record {
     same_run = λ index note there. ap (λ (n : Note S K E). n.begun) (get-replicate count (record { begun = begun; out = None }) note index there);
@@ -61,7 +62,7 @@ module _ {S K E : Type 0} (source : OfSource S) (output : OfSink K) (errors : Of
 
   -- the counts of a run whose end is told
   ends-of : (steps : ℕ) (schedule : List ℕ) (notes : List (Note S K E)) (places : List Place) (kept : Option StepFault) (end : RunEnd) (machine : Machine)
-      → kept ≡ kept_with end → (kept ≡ None → StandsAs (Some end) steps schedule notes places machine) → IsEnd steps schedule end machine
+      → kept ≡ end_fault end → (kept ≡ None → StandsAs (Some end) steps schedule notes places machine) → IsEnd steps schedule end machine
   ends-of steps schedule notes places kept (ends.Over code) machine is at = at is
   ends-of steps schedule notes places kept ends.Stuck machine is at = at is
   ends-of steps schedule notes places kept ends.Limit machine is at = at is
@@ -80,7 +81,7 @@ module _ {S K E : Type 0} (source : OfSource S) (output : OfSink K) (errors : Of
     no_errors = λ none. devices.2 ∙ tied.counted.no_errors (sym schedule ∙ none);
     reads = rw (is, devices.0) tied.counted.reads;
     writes = rw (is, devices.1, devices.2) tied.counted.writes;
-    has_run = told-map (source.held begun.devices.input) _ _ tied.standing (λ bytes standing.
+    in_machine = told-map (source.held begun.devices.input) _ _ tied.standing (λ bytes standing.
         let machine = standing.0 in
         record {
           machine = machine;
@@ -103,7 +104,7 @@ module _ {S K E : Type 0} (source : OfSource S) (output : OfSink K) (errors : Of
     no_errors = λ none. devices.2 ∙ tied.counted.no_errors (sym schedule ∙ none);
     reads = rw (is, devices.0) tied.counted.reads;
     writes = rw (is, devices.1, devices.2) tied.counted.writes;
-    has_run = told-map (source.held begun.devices.input) _ _ tied.standing (λ bytes standing.
+    in_machine = told-map (source.held begun.devices.input) _ _ tied.standing (λ bytes standing.
         let machine = standing.0 in
         record {
           machine = machine;
@@ -115,7 +116,7 @@ module _ {S K E : Type 0} (source : OfSource S) (output : OfSink K) (errors : Of
   }
 
   pub finished : (begun : Beginning S K E) (desk : Ground S K E) (places : List Place) (end : Option RunEnd) (notes : List (Note S K E)) (ran : Ran S K E)
-      → ran.end ≡ told_end end → ran.schedule.threads ≡ desk.schedule
+      → ran.end ≡ end_or_memory end → ran.schedule.threads ≡ desk.schedule
       → (ran.input ≡ desk.devices.input) × (ran.output ≡ desk.devices.output) × (ran.errors ≡ desk.devices.errors)
       → IsTied source output errors (record { begun = begun; desk = desk; places = places; end = end }) notes
       → IsRan source output errors begun ran
@@ -133,10 +134,10 @@ module _ {S K E : Type 0} (source : OfSource S) (output : OfSink K) (errors : Of
     no_errors = λ none. devices.2;
     reads = rw (is, devices.0) refl;
     writes = rw (is, devices.1, devices.2) (refl, refl);
-    has_run = by-told (source.held begun.devices.input);
+    in_machine = by-told (source.held begun.devices.input);
   }
     where
-      by-told : (told : Option (List ℕ)) → IfSome told (λ bytes. HasRun source output errors begun bytes ran)
+      by-told : (told : Option (List ℕ)) → IfSome told (λ bytes. EndsInMachine source output errors begun bytes ran)
       by-told None = tt
       by-told (Some bytes) = record {
         machine = start_machine begun.setup bytes;

@@ -6,8 +6,8 @@ use Rattle.tt_calls.specs.declared.request.Request.{Request}
 use Rattle.tt_core.proofs.ActionLemmas as actions
 use Rattle.tt_core.proofs.ActionLemmas.{Failed, Stood, barred-asking, met, restood, restood-kept, some-none}
 use Rattle.tt_core.proofs.PlaceLemmas.{each-at, each-none}
-use Rattle.tt_core.specs.Crew.{IsSilent}
-use Rattle.tt_core.specs.Standing.{IsIts}
+use Rattle.tt_core.specs.inside.Crew.{AsksNothing}
+use Rattle.tt_core.specs.inside.Standing.{IsIts}
 use Rattle.tt_run.specs.Acting.{Happens, IsAnswer}
 use Rattle.tt_run.specs.Desk.{Ground, can_act, unread}
 use Rattle.tt_run.specs.declared.desk.Acted.{Acted}
@@ -24,12 +24,13 @@ use Rattle.tt_shared.specs.Acts.{act}
 use Rattle.tt_shared.specs.declared.applied.Line.{Line}
 use Rattle.tt_workers.proofs.Lists.{at-number, get-set-other, got-set, not-empty, one-and-less, same-or-not}
 use Rattle.tt_workers.proofs.WhereLemmas.{asks-parked, where-answered, where-back, where-fresh, where-vacant}
-use Rattle.tt_workers.specs.Ends.{IsEnd, kept_with}
-use Rattle.tt_workers.specs.Places.{AreWhere, Beginning, IsGivenBy, IsPlaced, Note, asked_at, can_go_at, is_fresh_at, noted_in, place_of}
-use Rattle.tt_workers.specs.Rosters.{HandsOut, HandsOutFresh, is_elsewhere_at, parked_at}
-use Rattle.tt_workers.specs.Rounds.{IsVacant, Replies}
-use Rattle.tt_workers.specs.Turns.{MayReturn, Returns}
-use Rattle.tt_workers.specs.World.{IsCounted, IsTied}
+use Rattle.tt_workers.specs.Ends.{IsEnd, end_fault}
+use Rattle.tt_workers.specs.Ran.{Beginning}
+use Rattle.tt_workers.specs.inside.Places.{AreWhere, IsGivenBy, IsAtPlace, Note, asked_at, can_go_at, is_fresh_at, noted_in, place_of}
+use Rattle.tt_workers.specs.inside.Rosters.{HandsOut, HandsOutFresh, is_elsewhere_at, parked_at}
+use Rattle.tt_workers.specs.inside.Rounds.{IsVacant, Replies}
+use Rattle.tt_workers.specs.inside.Turns.{MayReturn, Returns}
+use Rattle.tt_workers.specs.inside.World.{IsCounted, IsTied}
 use Rattle.tt_workers.specs.declared.next.Done.{Done}
 use Rattle.tt_workers.specs.declared.next.RunEnd.{RunEnd}
 use Rattle.tt_workers.specs.declared.next.RunEnd.TheVariants as ends
@@ -119,19 +120,19 @@ module _ {S K E : Type 0} where
       silent (λ request serving asks. unmade (sym (at-number machine.threads number above) ∙ asks.made))
     where
       unmade : {thread : Thread} → slice_get machine.threads (number - 1) ≡ Some thread → ⊥
-      unmade is = some-none (sym is ∙ each-none (IsPlaced notes machine.setup) 1 (number - 1) machine.threads places are.placed there)
+      unmade is = some-none (sym is ∙ each-none (IsAtPlace notes machine.setup) 1 (number - 1) machine.threads places are.placed there)
   by-place held desk notes places pass number machine (Some (place.Fresh interp)) its are kept nobody above there unready nowhere = absurd (cc unready)
   by-place held desk notes places pass number machine (Some (place.Parked interp)) its are kept nobody above there unready nowhere =
       barred-asking held desk number (request_of interp.standing) (serving_of interp.standing) machine its kept
       (λ lives. asks-parked notes number places interp (at-number places number above ∙ there) machine are lives) unready
   by-place held desk notes places pass number machine (Some (place.Out other)) its are kept nobody above there unready nowhere =
-      let one = each-at (IsPlaced notes machine.setup) 1 (number - 1) machine.threads places (place.Out other) are.placed there in
+      let one = each-at (IsAtPlace notes machine.setup) 1 (number - 1) machine.threads places (place.Out other) are.placed there in
       let same : other ≡ pass = same-pass other pass nowhere in
       absurd (subst (λ (out : Option Task). IsGivenBy out machine.setup (1 + (number - 1)) one.thread)
       (ap (λ (k : ℕ). noted_in (slice_get notes (k - 1))) same ∙ nobody) one.placed)
   by-place held desk notes places pass number machine (Some place.Gone) its are kept nobody above there unready nowhere =
-      let one = each-at (IsPlaced notes machine.setup) 1 (number - 1) machine.threads places place.Gone are.placed there in
-      let quiet = subst (λ (n : ℕ). IsSilent machine.setup n one.thread) (one-and-less number above) one.placed in
+      let one = each-at (IsAtPlace notes machine.setup) 1 (number - 1) machine.threads places place.Gone are.placed there in
+      let quiet = subst (λ (n : ℕ). AsksNothing machine.setup n one.thread) (one-and-less number above) one.placed in
       silent (λ request serving asks.
       let same : one.thread ≡ asks.thread = let is = sym one.there ∙ (sym (at-number machine.threads number above) ∙ asks.made) in cc is in
       quiet request serving (subst (λ (thread : Thread). IsNext machine.setup number thread.start thread.replies request serving) (sym same) asks.next))
@@ -163,7 +164,7 @@ module _ {S K E : Type 0} (source : OfSource S) (output : OfSink K) (errors : Of
   Counted begun desk end = IsCounted source output errors begun desk end
 
   -- an end without a fault
-  counted-plain : (begun : Beginning S K E) (desk : Ground S K E) (end : RunEnd) → kept_with end ≡ None
+  counted-plain : (begun : Beginning S K E) (desk : Ground S K E) (end : RunEnd) → end_fault end ≡ None
       → Counted begun desk None → Counted begun desk (Some end)
   counted-plain begun desk (ends.Over code) plain is = record {
     kept = is.kept;
@@ -237,7 +238,7 @@ module _ {S K E : Type 0} (source : OfSource S) (output : OfSink K) (errors : Of
 
   counted-fault : {T : Type 0} (begun : Beginning S K E) (old new : Ground S K E) (number : ℕ) (request : Request) (result : Result T StepFault) (is : StepFault) (end : RunEnd)
       → length old.schedule < begun.steps
-      → result ≡ Err is → is ≢ fault.NotEnabled → kept_with end ≡ Some is
+      → result ≡ Err is → is ≢ fault.NotEnabled → end_fault end ≡ Some is
       → FailsBy old new number request result
       → Counted begun old None → Counted begun new (Some end)
   counted-fault begun old new number request result is (ends.Over code) room was other ended f counted = absurd (actions.some-none (sym ended))
@@ -318,7 +319,7 @@ module _ {S K E : Type 0} (source : OfSource S) (output : OfSink K) (errors : Of
 
   -- an end that is no fault is kept
   pub tied-stop : (begun : Beginning S K E) (desk : Ground S K E) (places : List Place) (end : RunEnd) (notes : List (Note S K E)) (i : ℕ) (out : Option Task)
-      → kept_with end ≡ None
+      → end_fault end ≡ None
       → ((machine : Machine) → IsIts desk.shared (unread source.held desk.devices) machine → AreWhere notes places machine → IsEnd begun.steps desk.schedule end machine)
       → IsTied source output errors (record { begun = begun; desk = desk; places = places; end = None }) notes
       → IsTied source output errors (record { begun = begun; desk = desk; places = places; end = Some end }) (slice_set notes i (record { begun = begun; out = out }))
@@ -403,7 +404,7 @@ module _ {S K E : Type 0} (source : OfSource S) (output : OfSink K) (errors : Of
   pub tied-fault : {T : Type 0} (begun : Beginning S K E) (old new : Ground S K E) (places later : List Place) (notes : List (Note S K E)) (i number : ℕ) (request : Request) (interp : Interpreter) (result : Result T StepFault) (is : StepFault) (end : RunEnd)
       → length old.schedule < begun.steps
       → place_of places number ≡ Some (place.Parked interp) → request ≡ request_of interp.standing
-      → result ≡ Err is → is ≢ fault.NotEnabled → kept_with end ≡ Some is
+      → result ≡ Err is → is ≢ fault.NotEnabled → end_fault end ≡ Some is
       → FailsBy old new number request result
       → IsTied source output errors (record { begun = begun; desk = old; places = places; end = None }) notes
       → IsTied source output errors (record { begun = begun; desk = new; places = later; end = Some end }) (slice_set notes i (record { begun = begun; out = None }))

@@ -7,10 +7,12 @@ use Rattle.tt_devices.specs.declared.source.Source.{Ghosts as OfSource}
 use Rattle.tt_interp.specs.Interps as interps
 use Rattle.tt_workers.proofs.Lists.{get-set-same, set-set}
 use Rattle.tt_workers.proofs.TieLemmas.{tied-ended, tied-vacant}
-use Rattle.tt_workers.specs.Places.{Beginning, Note}
-use Rattle.tt_workers.specs.Rounds.{IsVacant, KeepsVacant, Rounds, TakesBack, Turning}
-use Rattle.tt_workers.specs.Turns.{IsFirstPart, KeepsTied, MayReturn, Returns, StaysEnded, note_of, out_of}
-use Rattle.tt_workers.specs.World.{IsTied, Realm}
+use Rattle.tt_workers.specs.Ran.{Beginning}
+use Rattle.tt_workers.specs.inside.Places.{Note}
+use Rattle.tt_workers.specs.inside.Rounds.{IsVacant, KeepsVacant, Rounds, TakesBack, Turning}
+use Rattle.tt_core.specs.Parts.{IsFirstPart}
+use Rattle.tt_workers.specs.inside.Turns.{KeepsTied, MayReturn, Returns, StaysEnded, note_after, out_of}
+use Rattle.tt_workers.specs.inside.World.{IsTied, Realm}
 use Rattle.tt_workers.specs.declared.next.Done.{Done}
 use Rattle.tt_workers.specs.declared.next.Next.{Next}
 use Rattle.tt_workers.specs.declared.next.RunEnd.{RunEnd}
@@ -104,11 +106,11 @@ module _ {S K E : Type 0} (source : OfSource S) (output : OfSink K) (errors : Of
   turned : (pass : ℕ) (done : Option Done) (old mid new : Realm S K E) (out : Option Task) → Turning source output errors pass done old mid
       → KeepsVacant source output errors mid new pass out
       → (notes : List (Note S K E)) → IsTied source output errors old notes → Returns notes pass done
-      → IsTied source output errors new (slice_set notes (pass - 1) (note_of new out))
+      → IsTied source output errors new (slice_set notes (pass - 1) (note_after new out))
   turned pass done old mid new out so_far keeps notes tied returns =
       subst (λ (some : List (Note S K E)). IsTied source output errors new some)
-      (set-set notes (pass - 1) (note_of mid None) (note_of new out))
-      (keeps (slice_set notes (pass - 1) (note_of mid None)) (so_far.keeps notes tied returns)
+      (set-set notes (pass - 1) (note_after mid None) (note_after new out))
+      (keeps (slice_set notes (pass - 1) (note_after mid None)) (so_far.keeps notes tied returns)
       (vacant-set notes pass done mid.begun returns))
 
   -- a round more

@@ -5,17 +5,17 @@ use Rattle.tt_calls.specs.declared.request.Request.{Request}
 use Rattle.tt_core.proofs.ActionLemmas.{AsksIn, Becomes}
 use Rattle.tt_core.proofs.CrewLemmas.{goes-placed, stands-asking}
 use Rattle.tt_core.proofs.PlaceLemmas.{each-at, each-map, each-map-at, each-set, joined-each, made-map, not-zero, told-is}
-use Rattle.tt_core.specs.Crew.{AllMade, AreEach, StandsIn}
+use Rattle.tt_core.specs.inside.Crew.{AllMade, AreEach, StandsIn}
 use Rattle.tt_interp.specs.Beginning.{IsNext}
 use Rattle.tt_interp.specs.Interps as interps
 use Rattle.tt_interp.specs.Interps.{Interpreter, request_of, serving_of}
 use Rattle.tt_interp.specs.declared.setup.Setup.{Setup}
-use Rattle.tt_machine.specs.Machine.{Machine, Thread, replied, told}
+use Rattle.tt_machine.specs.Machine.{Machine, Thread, with_reply, thread_with_reply}
 use Rattle.tt_threads.specs.declared.row.Row.{Row}
 use Rattle.tt_workers.proofs.Lists.{at-number, from-one, get-append, get-set-other, get-set-same, less-and-one, one-and-less, same-or-not, set-get}
-use Rattle.tt_workers.specs.Places.{AreWhere, IsFresh, IsGiven, IsGivenBy, IsNew, IsPlaced, Note, noted_in, place_of}
-use Rattle.tt_workers.specs.Rosters.{HandsOut, HandsOutFresh, IsHandedOut, parked_at, place_after}
-use Rattle.tt_workers.specs.Turns.{IsBack}
+use Rattle.tt_workers.specs.inside.Places.{AreWhere, IsFreshPlace, IsGiven, IsGivenBy, IsNew, IsAtPlace, Note, noted_in, place_of}
+use Rattle.tt_workers.specs.inside.Rosters.{HandsOut, HandsOutFresh, IsHandedOut, parked_at, place_after}
+use Rattle.tt_workers.specs.inside.Turns.{IsBack}
 use Rattle.tt_workers.specs.declared.next.Done.{Done}
 use Rattle.tt_workers.specs.declared.next.Task.{Task}
 use Rattle.tt_workers.specs.declared.place.Place.{Place}
@@ -38,9 +38,9 @@ given-told : (setup : Setup) (number : ℕ) (thread : Thread) (interp : Interpre
     → StandsIn interp setup number thread
     → task ≡ record { thread = number; interp = interp; reply = Some reply }
     → IsTrue (interps.fits task.interp.standing task.reply)
-    → IsGiven task setup number (told reply thread)
+    → IsGiven task setup number (thread_with_reply reply thread)
 given-told setup number thread interp reply task is same fits =
-    subst (λ (one : Task). IsTrue (interps.fits one.interp.standing one.reply) → IsGiven one setup number (told reply thread)) (sym same)
+    subst (λ (one : Task). IsTrue (interps.fits one.interp.standing one.reply) → IsGiven one setup number (thread_with_reply reply thread)) (sym same)
     (λ fit. record { named = refl; fits = fit; later = next-told setup number thread interp reply is }) fits
 
 -- a fresh thread was handed out without one
@@ -118,7 +118,7 @@ module _ {S K E : Type 0} where
   -- a thread that is not out by a note stays in its place as the note changes
   placed-anew : (notes : List (Note S K E)) (i : ℕ) (old note : Note S K E) → slice_get notes i ≡ Some old → old.out ≡ None
       → (setup : Setup) (number : ℕ) (thread : Thread) (at : Place)
-      → IsPlaced notes setup number thread at → IsPlaced (slice_set notes i note) setup number thread at
+      → IsAtPlace notes setup number thread at → IsAtPlace (slice_set notes i note) setup number thread at
   placed-anew notes i old note there empty setup number thread (place.Fresh interp) is = is
   placed-anew notes i old note there empty setup number thread (place.Parked interp) is = is
   placed-anew notes i old note there empty setup number thread place.Gone is = is
@@ -153,7 +153,7 @@ module _ {S K E : Type 0} where
       → slice_get notes i ≡ Some old → old.out ≡ None → note.out ≡ None
       → AreWhere notes places machine → AreWhere (slice_set notes i note) places machine
   where-vacant notes i old note places machine there empty none are = record {
-    placed = each-map (IsPlaced notes machine.setup) (IsPlaced (slice_set notes i note) machine.setup)
+    placed = each-map (IsAtPlace notes machine.setup) (IsAtPlace (slice_set notes i note) machine.setup)
         (placed-anew notes i old note there empty machine.setup) 1 machine.threads places are.placed;
     out = outs-after notes i old note places places there are.out
         (λ index at other is. is)
@@ -186,19 +186,19 @@ module _ {S K E : Type 0} where
       found : slice_get places (number - 1) ≡ Some (place.Fresh task.interp)
       found = sym (at-number places number above) ∙ is.found
 
-      placed : AreEach (IsPlaced (slice_set notes (pass - 1) note) machine.setup) 1 machine.threads later
+      placed : AreEach (IsAtPlace (slice_set notes (pass - 1) note) machine.setup) 1 machine.threads later
       placed =
-          let each = each-map (IsPlaced notes machine.setup) (IsPlaced (slice_set notes (pass - 1) note) machine.setup)
+          let each = each-map (IsAtPlace notes machine.setup) (IsAtPlace (slice_set notes (pass - 1) note) machine.setup)
           (placed-anew notes (pass - 1) old note there empty machine.setup) 1 machine.threads places are.placed in
-          let one = each-at (IsPlaced (slice_set notes (pass - 1) note) machine.setup) 1 (number - 1) machine.threads places (place.Fresh task.interp) each found in
+          let one = each-at (IsAtPlace (slice_set notes (pass - 1) note) machine.setup) 1 (number - 1) machine.threads places (place.Fresh task.interp) each found in
           let named = one-and-less number above in
           let new = subst (λ (n : ℕ). IsNew task.interp machine.setup n one.thread) named one.placed in
           let given = given-fresh machine.setup number one.thread task new is.thread is.no_reply is.fits in
           let by_note = subst (λ (some : Option Task). IsGivenBy some machine.setup number one.thread)
           (sym (noted-same notes (pass - 1) old note there ∙ out)) given in
-          let at = subst (λ (n : ℕ). IsPlaced (slice_set notes (pass - 1) note) machine.setup n one.thread (place.Out pass)) (sym named) by_note in
-          let set = each-set (IsPlaced (slice_set notes (pass - 1) note) machine.setup) 1 (number - 1) machine.threads places one.thread (place.Out pass) each at in
-          rw is.put (subst (λ (threads : List Thread). AreEach (IsPlaced (slice_set notes (pass - 1) note) machine.setup) 1 threads (slice_set places (number - 1) (place.Out pass)))
+          let at = subst (λ (n : ℕ). IsAtPlace (slice_set notes (pass - 1) note) machine.setup n one.thread (place.Out pass)) (sym named) by_note in
+          let set = each-set (IsAtPlace (slice_set notes (pass - 1) note) machine.setup) 1 (number - 1) machine.threads places one.thread (place.Out pass) each at in
+          rw is.put (subst (λ (threads : List Thread). AreEach (IsAtPlace (slice_set notes (pass - 1) note) machine.setup) 1 threads (slice_set places (number - 1) (place.Out pass)))
           (set-get machine.threads (number - 1) one.thread one.there) set)
 
   -- ---- a parked thread gets its reply ----
@@ -207,15 +207,15 @@ module _ {S K E : Type 0} where
   answered-place : (notes : List (Note S K E)) (setup : Setup) (pass number : ℕ) (thread : Thread) (interp : Interpreter) (reply : Reply) (task : Option Task)
       → noted_in (slice_get notes (pass - 1)) ≡ task
       → StandsIn interp setup number thread → IsHandedOut number interp reply task
-      → IsPlaced notes setup number (told reply thread) (place_after pass task)
+      → IsAtPlace notes setup number (thread_with_reply reply thread) (place_after pass task)
   answered-place notes setup pass number thread interp reply None noted stands given =
       goes-placed setup number thread interp reply None stands given
   answered-place notes setup pass number thread interp reply (Some task) noted stands given =
-      subst (λ (out : Option Task). IsGivenBy out setup number (told reply thread)) (sym noted)
+      subst (λ (out : Option Task). IsGivenBy out setup number (thread_with_reply reply thread)) (sym noted)
       (given-told setup number thread interp reply task stands given.0 given.1)
 
   pub fresh-placed : (notes : List (Note S K E)) (setup : Setup) (number : ℕ) (thread : Thread) (at : Place)
-      → IsFresh setup number thread at → IsPlaced notes setup number thread at
+      → IsFreshPlace setup number thread at → IsAtPlace notes setup number thread at
   fresh-placed notes setup number thread (place.Fresh interp) is = is
   fresh-placed notes setup number thread (place.Parked interp) is = absurd is
   fresh-placed notes setup number thread (place.Out pass) is = absurd is
@@ -223,15 +223,15 @@ module _ {S K E : Type 0} where
 
   pub where-answered : (setup : Setup) (notes : List (Note S K E)) (pass number : ℕ) (old note : Note S K E) (rows : List Row) (reply : Reply) (places mid later : List Place) (task : Option Task)
       → 1 ≤ pass → slice_get notes (pass - 1) ≡ Some old → old.out ≡ None → note.out ≡ task
-      → HandsOut number pass reply places mid task → AllMade (IsFresh setup) rows mid later
+      → HandsOut number pass reply places mid task → AllMade (IsFreshPlace setup) rows mid later
       → Becomes setup (AreWhere notes places) (AreWhere (slice_set notes (pass - 1) note) later) number reply rows
   where-answered setup notes pass number old note rows reply places mid later task from there empty out is made = λ machine next was_setup same are joined_is. record {
     placed =
-        subst (λ (one : Setup). AreEach (IsPlaced (slice_set notes (pass - 1) note) one) 1 next.threads later) (sym same)
-        (subst (λ (threads : List Thread). AreEach (IsPlaced (slice_set notes (pass - 1) note) setup) 1 threads later) (sym joined_is)
-        (joined-each (IsPlaced (slice_set notes (pass - 1) note) setup) rows (replied machine.threads number reply) mid later
+        subst (λ (one : Setup). AreEach (IsAtPlace (slice_set notes (pass - 1) note) one) 1 next.threads later) (sym same)
+        (subst (λ (threads : List Thread). AreEach (IsAtPlace (slice_set notes (pass - 1) note) setup) 1 threads later) (sym joined_is)
+        (joined-each (IsAtPlace (slice_set notes (pass - 1) note) setup) rows (with_reply machine.threads number reply) mid later
         (replied-each machine was_setup are)
-        (made-map (IsFresh setup) (IsPlaced (slice_set notes (pass - 1) note) setup) (fresh-placed (slice_set notes (pass - 1) note) setup) rows mid later made)));
+        (made-map (IsFreshPlace setup) (IsAtPlace (slice_set notes (pass - 1) note) setup) (fresh-placed (slice_set notes (pass - 1) note) setup) rows mid later made)));
     out = outs-after notes (pass - 1) old note places later there are.out
         (λ index i other was. grown i (place.Out (index + 1)) (rw is.put (kept-out places (number - 1) (place.Parked is.interp) (place_after pass task) index i found (λ same. cc) was)))
         (λ one also.
@@ -251,18 +251,18 @@ module _ {S K E : Type 0} where
       grown i at in_mid = rw made.pushed (get-append mid made.more i at in_mid)
 
       replied-each : (machine : Machine) → machine.setup ≡ setup → AreWhere notes places machine
-          → AreEach (IsPlaced (slice_set notes (pass - 1) note) setup) 1 (replied machine.threads number reply) mid
+          → AreEach (IsAtPlace (slice_set notes (pass - 1) note) setup) 1 (with_reply machine.threads number reply) mid
       replied-each machine was_setup are =
-          let here = subst (λ (one : Setup). AreEach (IsPlaced notes one) 1 machine.threads places) was_setup are.placed in
-          let each = each-map (IsPlaced notes setup) (IsPlaced (slice_set notes (pass - 1) note) setup)
+          let here = subst (λ (one : Setup). AreEach (IsAtPlace notes one) 1 machine.threads places) was_setup are.placed in
+          let each = each-map (IsAtPlace notes setup) (IsAtPlace (slice_set notes (pass - 1) note) setup)
           (placed-anew notes (pass - 1) old note there empty setup) 1 machine.threads places here in
-          let one = each-at (IsPlaced (slice_set notes (pass - 1) note) setup) 1 (number - 1) machine.threads places (place.Parked is.interp) each found in
+          let one = each-at (IsAtPlace (slice_set notes (pass - 1) note) setup) 1 (number - 1) machine.threads places (place.Parked is.interp) each found in
           let named = one-and-less number above in
           let stands = subst (λ (n : ℕ). StandsIn is.interp setup n one.thread) named one.placed in
           let at = answered-place (slice_set notes (pass - 1) note) setup pass number one.thread is.interp reply task
           (noted-same notes (pass - 1) old note there ∙ out) stands is.given in
-          let at_n = subst (λ (n : ℕ). IsPlaced (slice_set notes (pass - 1) note) setup n (told reply one.thread) (place_after pass task)) (sym named) at in
-          let set = each-set (IsPlaced (slice_set notes (pass - 1) note) setup) 1 (number - 1) machine.threads places (told reply one.thread) (place_after pass task) each at_n in
+          let at_n = subst (λ (n : ℕ). IsAtPlace (slice_set notes (pass - 1) note) setup n (thread_with_reply reply one.thread) (place_after pass task)) (sym named) at in
+          let set = each-set (IsAtPlace (slice_set notes (pass - 1) note) setup) 1 (number - 1) machine.threads places (thread_with_reply reply one.thread) (place_after pass task) each at_n in
           rw (told-is machine.threads number reply one.thread (at-number machine.threads number above ∙ one.there), is.put) set
 
   -- what a parked thread asks
@@ -272,7 +272,7 @@ module _ {S K E : Type 0} where
   asks-parked notes number places interp is = λ machine are lives.
       let above = from-one places number (place.Parked interp) is in
       let found = sym (at-number places number above) ∙ is in
-      let one = each-at (IsPlaced notes machine.setup) 1 (number - 1) machine.threads places (place.Parked interp) are.placed found in
+      let one = each-at (IsAtPlace notes machine.setup) 1 (number - 1) machine.threads places (place.Parked interp) are.placed found in
       let stands = subst (λ (n : ℕ). StandsIn interp machine.setup n one.thread) (one-and-less number above) one.placed in
       record {
         thread = one.thread;
@@ -295,7 +295,7 @@ module _ {S K E : Type 0} where
       → noted_in (slice_get notes i) ≡ Some task → AreWhere notes places machine → IsOutBy notes places machine i task
   out-by notes places machine i task noted are =
       let at = are.out i task noted in
-      let one = each-at (IsPlaced notes machine.setup) 1 (task.thread - 1) machine.threads places (place.Out (i + 1)) are.placed at in
+      let one = each-at (IsAtPlace notes machine.setup) 1 (task.thread - 1) machine.threads places (place.Out (i + 1)) are.placed at in
       let index : (i + 1) - 1 ≡ i = omega arith in
       let by_note = subst (λ (k : ℕ). IsGivenBy (noted_in (slice_get notes k)) machine.setup (1 + (task.thread - 1)) one.thread) index one.placed in
       let given = subst (λ (out : Option Task). IsGivenBy out machine.setup (1 + (task.thread - 1)) one.thread) noted by_note in
@@ -317,7 +317,7 @@ module _ {S K E : Type 0} where
       subst (λ (some : List Place). AreWhere (slice_set notes i note) some machine)
       (sym (parked-is places done.thread done.interp above))
       (record {
-        placed = each-map-at (IsPlaced notes machine.setup) (IsPlaced (slice_set notes i note) machine.setup) 1 machine.threads
+        placed = each-map-at (IsAtPlace notes machine.setup) (IsAtPlace (slice_set notes i note) machine.setup) 1 machine.threads
             (slice_set places (done.thread - 1) (place.Parked done.interp)) follows parked;
         out = outs-after notes i old note places (slice_set places (done.thread - 1) (place.Parked done.interp)) there are.out
             (λ index k other was. kept-out places (done.thread - 1) (place.Out (i + 1)) (place.Parked done.interp) index k at (other-out i index other) was)
@@ -339,14 +339,14 @@ module _ {S K E : Type 0} where
       at : slice_get places (done.thread - 1) ≡ Some (place.Out (i + 1))
       at = rw back.thread is_out.at
 
-      parked : AreEach (IsPlaced notes machine.setup) 1 machine.threads (slice_set places (done.thread - 1) (place.Parked done.interp))
+      parked : AreEach (IsAtPlace notes machine.setup) 1 machine.threads (slice_set places (done.thread - 1) (place.Parked done.interp))
       parked =
           let stands = stands-back machine.setup task.thread is_out.thread task done is_out.given back fine in
           let named : task.thread ≡ 1 + (done.thread - 1) = omega (arith, back.thread, above) in
           let at_n = subst (λ (n : ℕ). StandsIn done.interp machine.setup n is_out.thread) named stands in
           let same : slice_get machine.threads (done.thread - 1) ≡ Some is_out.thread = rw back.thread is_out.there in
-          let set = each-set (IsPlaced notes machine.setup) 1 (done.thread - 1) machine.threads places is_out.thread (place.Parked done.interp) are.placed at_n in
-          subst (λ (threads : List Thread). AreEach (IsPlaced notes machine.setup) 1 threads (slice_set places (done.thread - 1) (place.Parked done.interp)))
+          let set = each-set (IsAtPlace notes machine.setup) 1 (done.thread - 1) machine.threads places is_out.thread (place.Parked done.interp) are.placed at_n in
+          subst (λ (threads : List Thread). AreEach (IsAtPlace notes machine.setup) 1 threads (slice_set places (done.thread - 1) (place.Parked done.interp)))
           (set-get machine.threads (done.thread - 1) is_out.thread same) set
 
       -- any other thread that is out is so by another note
@@ -366,7 +366,7 @@ module _ {S K E : Type 0} where
 
       follows : (j : ℕ) (thread : Thread) (at : Place)
           → slice_get (slice_set places (done.thread - 1) (place.Parked done.interp)) j ≡ Some at
-          → IsPlaced notes machine.setup (1 + j) thread at → IsPlaced (slice_set notes i note) machine.setup (1 + j) thread at
+          → IsAtPlace notes machine.setup (1 + j) thread at → IsAtPlace (slice_set notes i note) machine.setup (1 + j) thread at
       follows j thread (place.Fresh interp) here is = is
       follows j thread (place.Parked interp) here is = is
       follows j thread place.Gone here is = is

@@ -2,11 +2,12 @@
 use Rattle.std.proofs.Common.{◌≡◌, ◌∙◌, ◌-◌, ◌≤◌, ℕ, zero, suc, List, Option, Some, None, arith, ap, refl, replicate, slice_get, slice_set, sym, subst}
 use Rattle.tt_devices.specs.declared.sink.Sink.{Ghosts as OfSink}
 use Rattle.tt_devices.specs.declared.source.Source.{Ghosts as OfSource}
-use Rattle.tt_workers.specs.Places.{Beginning, Note}
+use Rattle.tt_workers.specs.Ran.{Beginning}
+use Rattle.tt_workers.specs.inside.Places.{Note}
 use Rattle.tt_workers.specs.Ran.{IsRan}
-use Rattle.tt_workers.specs.Turns.{KeepsTied, MayReturn, Returns, note_of, out_of}
-use Rattle.tt_workers.specs.Workers.{IsNoted, IsNotedNext, IsRound, MayEnter}
-use Rattle.tt_workers.specs.World.{IsTied, Realm}
+use Rattle.tt_workers.specs.inside.Turns.{KeepsTied, MayReturn, Returns, note_after, out_of}
+use Rattle.tt_workers.specs.inside.Workers.{IsNoted, IsNotedNext, IsRound, MayEnter}
+use Rattle.tt_workers.specs.inside.World.{IsTied, Realm}
 use Rattle.tt_workers.specs.declared.carrier.Round.TheVariants as round
 use Rattle.tt_workers.specs.declared.next.Done.{Done}
 use Rattle.tt_workers.specs.declared.next.Next.{Next}
@@ -71,7 +72,7 @@ module _ {S K E : Type 0} (source : OfSource S) (output : OfSink K) (errors : Of
   -- the note of a pass after a turn is of the same run
   pub next-noted : (found later : Option (Note S K E)) (notes : List (Note S K E)) (i : ℕ) (old new : Realm S K E) (then : Next)
       → slice_get notes i ≡ found → IsTied source output errors old notes → new.begun ≡ old.begun
-      → later ≡ Some (note_of new (out_of then)) → IsNotedNext found later then
+      → later ≡ Some (note_after new (out_of then)) → IsNotedNext found later then
   next-noted None later notes i old new then there tied same is = tt
   next-noted (Some note) later notes i old new then there tied same is =
       let begun : new.begun ≡ note.begun = same ∙ sym (tied.same_run i note there) in
@@ -79,7 +80,7 @@ module _ {S K E : Type 0} (source : OfSource S) (output : OfSink K) (errors : Of
 
   -- a turn keeps the notes of all passes fitting, with this pass's new one
   pub turn-fits : (notes : List (Note S K E)) (pass number : ℕ) (old entered new : Realm S K E) (back : Option Done) (then : Next) (found : Option (Note S K E)) (note : Note S K E)
-      → number ≡ pass → entered ≡ old → note ≡ note_of new (out_of then)
+      → number ≡ pass → entered ≡ old → note ≡ note_after new (out_of then)
       → KeepsTied source output errors old new number back then
       → slice_get notes (pass - 1) ≡ found → MayEnter found back
       → IsTied source output errors entered notes
@@ -88,7 +89,7 @@ module _ {S K E : Type 0} (source : OfSource S) (output : OfSink K) (errors : Of
       let at = subst (λ (n : ℕ). slice_get notes (n - 1) ≡ found) (sym numbered) there in
       let before = subst (λ (world : Realm S K E). IsTied source output errors world notes) same tied in
       let after = keeps notes before (returns-of found notes number back at may) in
-      let named = subst (λ (n : ℕ). IsTied source output errors new (slice_set notes (n - 1) (note_of new (out_of then)))) numbered after in
+      let named = subst (λ (n : ℕ). IsTied source output errors new (slice_set notes (n - 1) (note_after new (out_of then)))) numbered after in
       subst (λ (one : Note S K E). IsTied source output errors new (slice_set notes (pass - 1) one)) (sym is) named
 
   -- the notes of all passes being one, the world is of that run

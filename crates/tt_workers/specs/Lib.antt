@@ -1,9 +1,3 @@
 pub mod Ends
-pub mod Places
+pub mod inside
 pub mod Ran
-pub mod Rosters
-pub mod Rounds
-pub mod Slices
-pub mod Turns
-pub mod Workers
-pub mod World

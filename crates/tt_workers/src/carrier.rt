@@ -1,8 +1,8 @@
 //! A worker's rounds.
 ghost use Rattle.std.specs.Prelude.{◌≡◌, None};
 ghost use Rattle.tt_noted.specs.Passes.{IsPassOf, IsSamePass, note_of, turn_of};
-ghost use Rattle.tt_workers.specs.Turns.{IsReady};
-ghost use Rattle.tt_workers.specs.Workers.{IsNoted, IsNotedNext, IsRound, MayEnter};
+ghost use Rattle.tt_workers.specs.inside.Turns.{IsReady};
+ghost use Rattle.tt_workers.specs.inside.Workers.{IsNoted, IsNotedNext, IsRound, MayEnter};
 
 use crate::next::{Done, Next};
 use crate::resuming::resumed;

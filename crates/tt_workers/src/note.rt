@@ -1,6 +1,6 @@
 //! What passes note.
 ghost use Rattle.std.specs.Prelude.{◌≡◌};
-ghost use Rattle.tt_workers.specs.Turns.{out_of};
+ghost use Rattle.tt_workers.specs.inside.Turns.{out_of};
 
 use crate::boxed_interp::BoxedInterp;
 use crate::next::Next;
@@ -52,7 +52,7 @@ pub struct Held<S, K, E> {
 }
 
 impl<S, K, E> Model for Held<S, K, E> {
-    ghost use Rattle.tt_workers.specs.Places.{Note};
+    ghost use Rattle.tt_workers.specs.inside.Places.{Note};
 
     ghost Value = { Note S K E };
 

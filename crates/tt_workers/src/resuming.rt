@@ -1,7 +1,7 @@
 //! A thread as a worker resumes it.
 ghost use Rattle.std.specs.Prelude.{◌≡◌, IsTrue, false};
 ghost use Rattle.tt_interp.specs.Interps as interps;
-ghost use Rattle.tt_workers.specs.Turns.{IsBack};
+ghost use Rattle.tt_workers.specs.inside.Turns.{IsBack};
 
 use crate::boxed_interp::BoxedInterp;
 use crate::next::{Done, Task};
@@ -23,7 +23,7 @@ struct Resuming {
 }
 
 impl Model for Resuming {
-    ghost use Rattle.tt_workers.specs.Slices.{IsResuming, Piece};
+    ghost use Rattle.tt_workers.specs.inside.Slices.{IsResuming, Piece};
 
     ghost Value = { Piece };
 

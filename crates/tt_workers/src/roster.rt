@@ -1,10 +1,10 @@
 //! The places of the threads.
 ghost use Rattle.std.specs.Prelude.{◌≡◌, ◌+◌, ◌≤◌, [], ℕ, Some, IfNone, IfSome, OnOk, IsSome, IsTrue, IsFalse, length};
 ghost use Rattle.std.specs.Option.{option_copied};
-ghost use Rattle.tt_core.specs.Crew.{AllMade};
+ghost use Rattle.tt_core.specs.inside.Crew.{AllMade};
 ghost use Rattle.tt_interp.specs.Interps as interps;
-ghost use Rattle.tt_workers.specs.Places.{IsFit, IsFresh, asked_at, can_go, is_fresh_at, place_of};
-ghost use Rattle.tt_workers.specs.Rosters.{BeginsAt, HandsOut, HandsOutFresh, TakesParked, is_elsewhere_at, parked_at};
+ghost use Rattle.tt_workers.specs.inside.Places.{IsFit, IsFreshPlace, asked_at, can_go, is_fresh_at, place_of};
+ghost use Rattle.tt_workers.specs.inside.Rosters.{BeginsAt, HandsOut, HandsOutFresh, TakesParked, is_elsewhere_at, parked_at};
 
 use crate::boxed_interp::BoxedInterp;
 use crate::next::Task;
@@ -28,7 +28,7 @@ impl Model for Roster {
     ghost use Rattle.std.specs.List.{AllByRecursion};
     ghost use Rattle.std.specs.Prelude.{◌≤◌, List, length};
     ghost use Rattle.tt_workers.specs.declared.place.Place.{Place};
-    ghost use Rattle.tt_workers.specs.Places.{IsFit};
+    ghost use Rattle.tt_workers.specs.inside.Places.{IsFit};
 
     ghost Value = { List Place };
 
@@ -79,7 +79,7 @@ impl Roster {
         desk: &Desk<S, K, E>,
         setup: &Setup,
     ) -> Result<(), NoMemory>
-        ensures begin { OnOk result (AllMade (IsFresh setup.now) desk.now.shared.rows self.old self.new) }
+        ensures begin { OnOk result (AllMade (IsFreshPlace setup.now) desk.now.shared.rows self.old self.new) }
     {
         while self.len() < desk.made() {
             let number = self.len() + 1;

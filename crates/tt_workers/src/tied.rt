@@ -10,7 +10,7 @@ pub struct Tied<S, K, E> {
 }
 
 impl<S: Source + Send, K: Sink + Send, E: Sink + Send> Tie for Tied<S, K, E> {
-    ghost use Rattle.tt_workers.specs.World.{IsTied};
+    ghost use Rattle.tt_workers.specs.inside.World.{IsTied};
 
     // A turn moves the state several times.
     type State = Box<World<S, K, E>>;

@@ -2,14 +2,15 @@
 ghost use Rattle.std.specs.Prelude.{◌≡◌, ◌≢◌, ◌+◌, ◌≤◌, ◌<◌, [], ◌∷◌, ℕ, None, Some, IfOk, IfErr, IfSome, IfNone, IsSome, IsTrue, IsFalse, length, replicate};
 ghost use Rattle.tt_calls.specs.declared.start.Start.TheVariants as start;
 ghost use Rattle.tt_schedule.specs.ScheduleText.{most_steps};
-ghost use Rattle.tt_workers.specs.Ends.{kept_by, kept_with};
+ghost use Rattle.tt_workers.specs.Ends.{fault_so_far, end_fault};
 ghost use Rattle.tt_interp.specs.Interps as interps;
-ghost use Rattle.tt_workers.specs.Places.{asked_at, can_go, place_of};
-ghost use Rattle.tt_workers.specs.Ran.{IsRan, told_end};
-ghost use Rattle.tt_workers.specs.Rosters.{BeginsAt};
-ghost use Rattle.tt_workers.specs.Rounds.{KeepsVacant, Replies, Rounds, TakesBack, Turning, next_of};
-ghost use Rattle.tt_workers.specs.Turns.{IsFirstPart, IsNextAt, IsReady, KeepsTied, Returns, StaysEnded, note_of, out_of};
-ghost use Rattle.tt_workers.specs.World.{IsTied};
+ghost use Rattle.tt_workers.specs.inside.Places.{asked_at, can_go, place_of};
+ghost use Rattle.tt_workers.specs.Ran.{IsRan, end_or_memory};
+ghost use Rattle.tt_workers.specs.inside.Rosters.{BeginsAt};
+ghost use Rattle.tt_workers.specs.inside.Rounds.{KeepsVacant, Replies, Rounds, TakesBack, Turning, next_of};
+ghost use Rattle.tt_core.specs.Parts.{IsFirstPart};
+ghost use Rattle.tt_workers.specs.inside.Turns.{IsNextAt, IsReady, KeepsTied, Returns, StaysEnded, note_after, out_of};
+ghost use Rattle.tt_workers.specs.inside.World.{IsTied};
 
 use crate::next::{Done, Next, RunEnd, Task};
 use crate::note::{Held, Out};
@@ -41,7 +42,7 @@ pub struct World<S: Source, K: Sink, E: Sink> {
 
 impl<S: Source, K: Sink, E: Sink> Model for World<S, K, E> {
     ghost use Rattle.std.specs.Prelude.{◌≤◌};
-    ghost use Rattle.tt_workers.specs.World.{Realm};
+    ghost use Rattle.tt_workers.specs.inside.World.{Realm};
 
     ghost Value = { Realm S K E };
 
@@ -76,7 +77,7 @@ impl<S: Source, K: Sink, E: Sink> World<S, K, E> {
         }) }
         ensures untouched { IfOk result (λ world. world.desk.devices ≡ record { input = input; ahead = []; output = output; errors = errors }) }
         ensures no_step { IfOk result (λ world. (world.desk.schedule ≡ []) × (world.end ≡ None)) }
-        ensures tied { IfOk result (λ world. (count : ℕ) → IsTied S.Source K.Sink E.Sink world (replicate count (note_of world None))) }
+        ensures tied { IfOk result (λ world. (count : ℕ) → IsTied S.Source K.Sink E.Sink world (replicate count (note_after world None))) }
         ensures handed_back { IfErr result (λ fault. fault ≡ record { input = input; output = output; errors = errors }) }
     {
         let devices = Began::of(&input, &output, &errors);
@@ -137,7 +138,7 @@ impl<S: Source, K: Sink, E: Sink> World<S, K, E> {
 
     /// The note of a pass after a turn.
     pub fn note(&self, next: &Next) -> Held<S, K, E>
-        ensures { result ≡ note_of self.now (out_of next.now) }
+        ensures { result ≡ note_after self.now (out_of next.now) }
     {
         Held {
             setup: Snapshot::of(&self.setup),
@@ -149,7 +150,7 @@ impl<S: Source, K: Sink, E: Sink> World<S, K, E> {
 
     /// Ends the run: the end that is kept, or `Memory` where none is, with the schedule and the devices.
     pub fn finish(self) -> Ran<S, K, E>
-        ensures end { result.end ≡ told_end self.end }
+        ensures end { result.end ≡ end_or_memory self.end }
         ensures schedule { result.schedule.threads ≡ self.desk.schedule }
         ensures devices { (result.input ≡ self.desk.devices.input) × (result.output ≡ self.desk.devices.output) × (result.errors ≡ self.desk.devices.errors) }
         ensures ran { (notes : _) → IsTied S.Source K.Sink E.Sink self notes → IsRan S.Source K.Sink E.Sink self.begun result }
@@ -187,7 +188,7 @@ impl<S: Source, K: Sink, E: Sink> World<S, K, E> {
 
     // A thread comes back. Where memory was refused to it, that ends the run.
     fn take_back(&mut self, done: Done)
-        requires kept { self.old.desk.kept ≡ kept_by self.old.end }
+        requires kept { self.old.desk.kept ≡ fault_so_far self.old.end }
         requires halted { IsTrue done.fine → IsTrue (interps.is_halted done.interp.standing) }
         ensures back { TakesBack S.Source K.Sink E.Sink done self.old self.new }
     {
@@ -205,7 +206,7 @@ impl<S: Source, K: Sink, E: Sink> World<S, K, E> {
     // One round of a turn; `None` where its action ended the thread.
     fn go_on(&mut self, pass: u32) -> Option<Next>
         requires pass { 1 ≤ pass }
-        requires kept { self.old.desk.kept ≡ kept_by self.old.end }
+        requires kept { self.old.desk.kept ≡ fault_so_far self.old.end }
         requires within { length self.old.desk.schedule ≤ self.old.begun.steps }
         ensures keeps { KeepsVacant S.Source K.Sink E.Sink self.old self.new pass (next_of result) }
         ensures goes { Rounds pass self.old self.new result }
@@ -304,7 +305,7 @@ impl<S: Source, K: Sink, E: Sink> World<S, K, E> {
 // The end of a run that met a fault or want of memory.
 fn end_by(fault: StepFault) -> RunEnd
     requires known { fault ≢ StepFault.NotEnabled }
-    ensures { kept_with result ≡ Some fault }
+    ensures { end_fault result ≡ Some fault }
 {
     match fault {
         StepFault::ReadFault => RunEnd::Read,

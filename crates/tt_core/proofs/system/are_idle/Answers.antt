@@ -1,5 +1,5 @@
 use Rattle.std.proofs.Common.{◌≡◌, ◌∙◌, IsFalse, true, is_none, is_some, sym}
-use Rattle.tt_core.specs.Crew.{able, ended, is_ready}
+use Rattle.tt_core.specs.inside.Crew.{able, ended, is_ready}
 use Rattle.tt_core.proofs.StandLemmas.{not-not, some-code, some-ready}
 use Rattle.tt_core.proofs.system.are_idle.Goals as goal
 

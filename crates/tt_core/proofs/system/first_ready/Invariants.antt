@@ -1,5 +1,5 @@
 use Rattle.std.proofs.Common.{◌<◌, ◌≤◌, ℕ, IsFalse}
-use Rattle.tt_core.specs.Crew.{is_ready}
+use Rattle.tt_core.specs.inside.Crew.{is_ready}
 use Rattle.tt_core.proofs.system.first_ready.Given as goal
 
 abbrev pub invariant-loop-number : goal.invariant-loop-number

@@ -1,4 +1,4 @@
-use Rattle.tt_core.specs.Crew.{is_ready}
+use Rattle.tt_core.specs.inside.Crew.{is_ready}
 use Rattle.tt_core.proofs.CrewLemmas.{beyond-ready, turn-above, turn-below, zero-ready}
 use Rattle.tt_core.proofs.system.next_ready.Goals as goal
 

@@ -3,7 +3,7 @@ use Rattle.std.proofs.Common.{None, subst, sym}
 use Rattle.tt_noted.specs.Passes.{note_of}
 use Rattle.tt_workers.proofs.Crossing.{state-send}
 use Rattle.tt_workers.proofs.WorkerLemmas.{round-next, round-over}
-use Rattle.tt_workers.specs.Workers.{IsRound}
+use Rattle.tt_workers.specs.inside.Workers.{IsRound}
 use Rattle.tt_workers.specs.declared.carrier.Round.TheVariants as round
 use Rattle.tt_workers.specs.declared.next.Next.TheVariants as next
 use Rattle.tt_workers.proofs.carrier.one_round.Goals as goal

@@ -2,8 +2,8 @@ use denote.Param.{param}
 use Rattle.tt_workers.proofs.Crossing.{state-send}
 use Rattle.std.proofs.Common.{◌-◌, ◌∙◌, Some, ap, slice_get, subst, sym}
 use Rattle.tt_workers.proofs.WorkerLemmas.{next-noted, returns-of, turn-fits}
-use Rattle.tt_workers.specs.Turns.{note_of as note_after, out_of}
-use Rattle.tt_workers.specs.World.{IsTied}
+use Rattle.tt_workers.specs.inside.Turns.{note_after, out_of}
+use Rattle.tt_workers.specs.inside.World.{IsTied}
 use Rattle.tt_workers.proofs.carrier.take_turn.Goals as goal
 
 pub enter-turn-requires-send-T-State : goal.enter-turn-requires-send-T-State

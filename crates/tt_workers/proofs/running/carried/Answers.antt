@@ -3,8 +3,8 @@ use Rattle.std.proofs.Common.{◌≡◌, ◌∙◌, ◌<◌, ℕ, zero, suc, Lis
 use Rattle.tt_noted.specs.Passes.{note_of}
 use Rattle.tt_noted.proofs.Callers.{all_fresh, all_with, all_written, fresh_at, one_note_each}
 use Rattle.tt_workers.proofs.Crossing.{pass-send, state-send, worker-sync}
-use Rattle.tt_workers.specs.Workers.{IsNoted}
-use Rattle.tt_workers.specs.World.{IsTied}
+use Rattle.tt_workers.specs.inside.Workers.{IsNoted}
+use Rattle.tt_workers.specs.inside.World.{IsTied}
 use Rattle.tt_workers.proofs.running.carried.Goals as goal
 
 -- within the list the default doesn't matter

@@ -1,6 +1,6 @@
 use Rattle.std.proofs.Common.{◌-◌, length}
 use Rattle.tt_core.proofs.PlaceLemmas.{HaveBegun}
-use Rattle.tt_core.specs.Crew.{IsPlaced}
+use Rattle.tt_core.specs.inside.Crew.{IsPlaced}
 use Rattle.tt_core.proofs.crew.Crew.begin_all.Given as goal
 
 abbrev pub invariant-loop-alloc : goal.invariant-loop-alloc

@@ -1,5 +1,5 @@
 use Rattle.std.proofs.Common.{IsTrue, IsFalse}
-use Rattle.tt_core.specs.Crew.{is_ready}
+use Rattle.tt_core.specs.inside.Crew.{is_ready}
 use Rattle.tt_core.proofs.StandLemmas.{barred, ready}
 use Rattle.tt_core.proofs.system.System.enabled.Goals as goal
 

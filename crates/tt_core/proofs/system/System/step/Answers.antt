@@ -1,5 +1,5 @@
 use Rattle.std.proofs.Common.{◌≡◌, ◌∙◌, ◌<◌, false, None, Some, Err, ap, is_err, length, subst, sym}
-use Rattle.tt_core.specs.Crew.{AllBegin, IsReplied, Places, asked_by}
+use Rattle.tt_core.specs.inside.Crew.{AllBegin, IsReplied, Places, asked_by}
 use Rattle.tt_core.specs.Stage.{Stage}
 use Rattle.tt_schedule.specs.ScheduleText.{most_steps}
 use Rattle.tt_core.proofs.ActionLemmas.{could-be, on-ok}

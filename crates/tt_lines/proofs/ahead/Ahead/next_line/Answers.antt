@@ -1,6 +1,7 @@
-use Rattle.std.proofs.Common.{◌<◌, arith, length, rules, ◌+◌, ◌≡◌, ◌∙◌}
-use Rattle.tt_devices.proofs.StreamLemmas.{Stays-trans}
-use Rattle.tt_lines.proofs.LineLemmas.{all-searched, front-few, front-holds, front-searched, front-within, too-long, whole-line}
+use Rattle.std.proofs.Common.{◌<◌, arith, length, refl, rules, ◌+◌, ◌≡◌, ◌∙◌}
+use Rattle.tt_devices.proofs.StreamLemmas.{Stays-same, Stays-trans}
+use Rattle.tt_lines.proofs.LineLemmas.{all-searched, front-few, front-holds, front-searched, front-within, more-ahead, too-long, whole-line}
+use Rattle.tt_lines.proofs.SourceLemmas.{loses-none, loses-trans}
 use Rattle.tt_lines.proofs.ahead.Ahead.next_line.Goals as goal
 
 pub first_newline-requires-clause-within : goal.first_newline-requires-clause-within
@@ -38,9 +39,55 @@ loop-searched-preserved g c =
       few.1,
       Stays-trans _ _ _ c.loop-searched.invariant.3 keeps,
       steady ∙ c.loop-searched.invariant.4,
+      loses-trans _ _ _ c.loop-searched.invariant.5 c.has_more.ensures.taken,
+      λ never.
+          let before = c.loop-searched.invariant.6 never in
+          let more = more-ahead _ c.loop-searched.self c.loop-searched.searched before.1 never c.loop-searched.invariant.0 in
+          let stays = c.has_more.ensures.not_read more in
+          (stays.0 ∙ before.0, stays.1 ∙ before.1),
     )
 
 pub returns-clause-line : goal.returns-clause-line
 returns-clause-line g c =
     let all : c.loop-searched.searched ≡ 16777217 = omega (arith, c.loop-searched.invariant.2, c.loop-searched-test.false) in
     too-long _ _ c.loop-searched.self _ c.loop-searched.searched all c.loop-searched.invariant.0 c.loop-searched.invariant.1 c.pass.ensures.left c.loop-searched.invariant.3
+
+pub loop-searched-init : goal.loop-searched-init
+loop-searched-init g c = (refl, omega arith, omega arith, Stays-same _, refl, loses-none _, λ never. (refl, refl))
+
+pub returns-in_err-has_more-clause-taken : goal.returns-in_err-has_more-clause-taken
+returns-in_err-has_more-clause-taken g c = loses-trans _ _ _ c.loop-searched.invariant.5 c.has_more.ensures.taken
+
+pub returns-in_err-has_more-clause-read_ahead : goal.returns-in_err-has_more-clause-read_ahead
+returns-in_err-has_more-clause-read_ahead g c = λ never.
+    let before = c.loop-searched.invariant.6 never in
+    let more = more-ahead _ c.loop-searched.self c.loop-searched.searched before.1 never c.loop-searched.invariant.0 in
+    let stays = c.has_more.ensures.not_read more in
+    let was = c.in_err-has_more.was in
+    absurd (cc (stays.2, was))
+
+pub returns-then-not-branch-clause-taken : goal.returns-then-not-branch-clause-taken
+returns-then-not-branch-clause-taken g c = loses-trans _ _ _ c.loop-searched.invariant.5 c.has_more.ensures.taken
+
+pub returns-then-not-branch-clause-read_ahead : goal.returns-then-not-branch-clause-read_ahead
+returns-then-not-branch-clause-read_ahead g c = λ never.
+    let before = c.loop-searched.invariant.6 never in
+    let more = more-ahead _ c.loop-searched.self c.loop-searched.searched before.1 never c.loop-searched.invariant.0 in
+    let stays = c.has_more.ensures.not_read more in
+    (stays.0 ∙ before.0, c.take_last.ensures.no_memory)
+
+pub returns-in-Some-clause-taken : goal.returns-in-Some-clause-taken
+returns-in-Some-clause-taken g c = loses-trans _ _ _ c.loop-searched.invariant.5 c.has_more.ensures.taken
+
+pub returns-in-Some-clause-read_ahead : goal.returns-in-Some-clause-read_ahead
+returns-in-Some-clause-read_ahead g c = λ never.
+    let before = c.loop-searched.invariant.6 never in
+    let more = more-ahead _ c.loop-searched.self c.loop-searched.searched before.1 never c.loop-searched.invariant.0 in
+    let stays = c.has_more.ensures.not_read more in
+    (stays.0 ∙ before.0, c.take_line.ensures.no_memory)
+
+pub returns-clause-taken : goal.returns-clause-taken
+returns-clause-taken g c = c.loop-searched.invariant.5
+
+pub returns-clause-read_ahead : goal.returns-clause-read_ahead
+returns-clause-read_ahead g c = λ never. ((c.loop-searched.invariant.6 never).0, λ failed. cc failed)

@@ -1,7 +1,7 @@
 use Rattle.std.proofs.Common.{◌≡◌, ◌∙◌, ◌++◌, ◌∷◌, ℕ, [], refl, subst}
 use Rattle.tt_core.proofs.PlaceLemmas.{add-suc}
 use Rattle.std.proofs.Common.{length}
-use Rattle.tt_workers.specs.Places.{IsNew}
+use Rattle.tt_workers.specs.inside.Places.{IsNew}
 use Rattle.tt_workers.specs.declared.place.Place.TheVariants.{Fresh}
 use Rattle.tt_workers.proofs.roster.Roster.begin.Goals as goal
 

@@ -2,7 +2,7 @@ use Rattle.std.proofs.Common.{◌≡◌, ◌<◌, ◌≤◌, ◌⊎◌, ℕ, IsF
 use Rattle.std.proofs.lemmas.Bool.{cases_lt}
 use Rattle.tt_run.specs.Desk.{Ground}
 use Rattle.tt_workers.proofs.Lists.{beyond}
-use Rattle.tt_workers.specs.Places.{can_go, can_go_at}
+use Rattle.tt_workers.specs.inside.Places.{can_go, can_go_at}
 use Rattle.tt_workers.specs.declared.place.Place.{Place}
 use Rattle.tt_workers.proofs.roster.Roster.first_from.Goals as goal
 

@@ -1,5 +1,5 @@
 use Rattle.std.proofs.Common.{◌<◌, ◌≤◌, ℕ, IsFalse}
-use Rattle.tt_workers.specs.Places.{can_go}
+use Rattle.tt_workers.specs.inside.Places.{can_go}
 use Rattle.tt_workers.proofs.roster.Roster.first_from.Given as goal
 
 abbrev pub invariant-loop-number : goal.invariant-loop-number

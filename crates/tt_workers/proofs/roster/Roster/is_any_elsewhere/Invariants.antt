@@ -1,6 +1,6 @@
 use Rattle.std.proofs.Common.{◌<◌, ℕ, IsFalse}
-use Rattle.tt_workers.specs.Places.{place_of}
-use Rattle.tt_workers.specs.Rosters.{is_elsewhere_at}
+use Rattle.tt_workers.specs.inside.Places.{place_of}
+use Rattle.tt_workers.specs.inside.Rosters.{is_elsewhere_at}
 use Rattle.tt_workers.proofs.roster.Roster.is_any_elsewhere.Given as goal
 
 abbrev pub invariant-loop-number : goal.invariant-loop-number

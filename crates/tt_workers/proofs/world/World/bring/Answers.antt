@@ -1,6 +1,6 @@
 use Rattle.std.proofs.Common.{Option, subst, sym}
 use Rattle.tt_workers.proofs.TurnLemmas.{turning-back, turning-none}
-use Rattle.tt_workers.specs.Rounds.{Turning}
+use Rattle.tt_workers.specs.inside.Rounds.{Turning}
 use Rattle.tt_workers.specs.declared.next.Done.{Done}
 use Rattle.tt_workers.proofs.world.World.bring.Goals as goal
 

@@ -3,7 +3,7 @@ use Rattle.std.specs.Option.{option_copied}
 use Rattle.tt_workers.proofs.RoundLemmas.{keeps-fresh, keeps-limit, rounds-end, rounds-fresh}
 use Rattle.tt_workers.proofs.TieLemmas.{asks-some, fresh-at}
 use Rattle.tt_workers.proofs.TurnLemmas.{whole-part}
-use Rattle.tt_workers.specs.Places.{asked_at, place_of}
+use Rattle.tt_workers.specs.inside.Places.{asked_at, place_of}
 use Rattle.tt_workers.specs.declared.next.RunEnd.TheVariants.{Limit}
 use Rattle.tt_workers.proofs.world.World.hand_out.Goals as goal
 

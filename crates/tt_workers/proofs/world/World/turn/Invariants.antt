@@ -1,5 +1,5 @@
 use Rattle.std.proofs.Common.{◌-◌, length}
-use Rattle.tt_workers.specs.Rounds.{Turning}
+use Rattle.tt_workers.specs.inside.Rounds.{Turning}
 use Rattle.tt_workers.proofs.world.World.turn.Given as goal
 
 abbrev pub invariant-rounds : goal.invariant-rounds

@@ -1,7 +1,7 @@
 -- What a worker knows of its pass's note between its turns and its rounds.
 use Rattle.std.specs.Prelude.{◌≡◌, ⊤, Option, Some, None}
-use Rattle.tt_workers.specs.Places.{Note}
-use Rattle.tt_workers.specs.Turns.{MayReturn, out_of}
+use Rattle.tt_workers.specs.inside.Places.{Note}
+use Rattle.tt_workers.specs.inside.Turns.{MayReturn, out_of}
 use Rattle.tt_workers.specs.declared.next.Done.{Done}
 use Rattle.tt_workers.specs.declared.carrier.Round.{Round}
 use Rattle.tt_workers.specs.declared.carrier.Round.TheVariants.{Goes, Over}

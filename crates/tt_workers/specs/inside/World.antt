@@ -1,13 +1,14 @@
 -- A run on workers as contracts see it, and what ties it to the notes of the workers' passes.
 use Rattle.std.specs.Prelude.{◌≡◌, ◌≤◌, ℕ, List, [], length, Option, Some, None, slice_get}
 use Rattle.tt_core.specs.Stage.{Stage}
-use Rattle.tt_core.specs.Standing.{IsStanding}
+use Rattle.tt_core.specs.inside.Standing.{IsStanding}
 use Rattle.tt_run.specs.Desk.{Ground}
 use Rattle.tt_devices.specs.declared.sink.Sink.{Ghosts as OfSink}
 use Rattle.tt_devices.specs.declared.source.Source.{Ghosts as OfSource}
 use Rattle.tt_machine.specs.Machine.{Machine}
-use Rattle.tt_workers.specs.Ends.{IsEnd, ReadsCount, WritesCount, kept_by}
-use Rattle.tt_workers.specs.Places.{AreWhere, Beginning, Note}
+use Rattle.tt_workers.specs.Ends.{IsEnd, ReadsCount, WritesCount, fault_so_far}
+use Rattle.tt_workers.specs.Ran.{Beginning}
+use Rattle.tt_workers.specs.inside.Places.{AreWhere, Note}
 use Rattle.tt_workers.specs.declared.next.RunEnd.{RunEnd}
 use Rattle.tt_workers.specs.declared.place.Place.{Place}
 
@@ -30,7 +31,7 @@ StandsAs (Some end) steps schedule notes places machine = IsEnd steps schedule e
 module _ {S K E : Type 0} (source : OfSource S) (output : OfSink K) (errors : OfSink E) where
   -- what holds of the steps, the devices and the end, whatever the machine is
   pub record IsCounted (begun : Beginning S K E) (desk : Ground S K E) (end : Option RunEnd) : Type 0 where
-    pub kept : desk.kept ≡ kept_by end
+    pub kept : desk.kept ≡ fault_so_far end
     pub within : length desk.schedule ≤ begun.steps
     pub no_output : desk.schedule ≡ [] → desk.devices.output ≡ begun.devices.output
     pub no_errors : desk.schedule ≡ [] → desk.devices.errors ≡ begun.devices.errors

@@ -1,12 +1,13 @@
 -- Where a run stands: what ties its parts to the machine after its schedule.
-use Rattle.std.specs.Prelude.{◌≡◌, ◌≢◌, ℕ, List, Option, Some, None, IfSome}
+use Rattle.std.specs.Prelude.{◌≡◌, ⊤, ℕ, List, Option, Some, None, IfSome}
 use Rattle.tt_run.specs.Desk.{unread}
 use Rattle.tt_run.specs.declared.fault.StepFault.{StepFault}
-use Rattle.tt_run.specs.declared.fault.StepFault.TheVariants.{NotEnabled}
+use Rattle.tt_run.specs.declared.fault.StepFault.TheVariants as fault
 use Rattle.tt_machine.specs.Machine.{Machine, Runs, start_machine}
 use Rattle.tt_shared.specs.State.{State}
-use Rattle.tt_core.specs.Crew.{ArePlaced, Places}
+use Rattle.tt_core.specs.inside.Crew.{ArePlaced, Places}
 use Rattle.tt_core.specs.Faithful.{IsFaithful, is_cut}
+use Rattle.tt_core.specs.Parts.{HoldsLastPart}
 use Rattle.tt_core.specs.Stage.{Stage}
 
 -- what the threads share, and what standard input still has, are the machine's
@@ -14,24 +15,30 @@ pub record IsIts (shared : State) (left : Option (List ℕ)) (machine : Machine)
   pub is_shared : shared ≡ machine.shared
   pub is_left : left ≡ Some machine.input
 
--- they are, and its threads are where this says, until a fault or want of memory
+-- They are, and its threads are where this says; a read that failed changes nothing of it. After a failed write, or
+-- without memory, nothing is said.
 abbrev pub IsAt : Option StepFault → State → Option (List ℕ) → (Where : Machine → Type 0) → Machine → Type 0
 IsAt None shared left Where machine = IsIts shared left machine × Where machine
-IsAt (Some fault) shared left Where machine = fault ≢ NotEnabled
+IsAt (Some fault.ReadFault) shared left Where machine = IsIts shared left machine × Where machine
+IsAt (Some fault.WriteFault) shared left Where machine = ⊤
+IsAt (Some fault.NoMemory) shared left Where machine = ⊤
+IsAt (Some fault.NotEnabled) shared left Where machine = ⊥
 
--- the machine after the steps of the schedule, where its threads are, and what the sinks got of it
+-- the machine after the steps of the schedule, where its threads are, what the source still holds of its input, and
+-- what the sinks got of it
 pub record Stands {S K E : Type 0}
     (held : S → Option (List ℕ)) (got_out : K → Option (List ℕ)) (got_err : E → Option (List ℕ))
     (stage : Stage S K E) (Where : Machine → Type 0) (begun machine : Machine) : Type 0 where
   pub setup : machine.setup ≡ stage.setup
   pub ran : Runs begun stage.desk.schedule machine
   pub at : IsAt stage.desk.kept stage.desk.shared (unread held stage.desk.devices) Where machine
+  pub input : HoldsLastPart (held stage.desk.devices.input) machine.input
   pub faithful :
       IsFaithful (is_cut stage.desk.kept) begun stage.desk.schedule
       (got_out stage.began.output) (got_out stage.desk.devices.output)
       (got_err stage.began.errors) (got_err stage.desk.devices.errors) machine
 
--- where standard input told its bytes
+-- if standard input told its bytes
 abbrev pub IsStanding :
     {S K E : Type 0} →
     (held : S → Option (List ℕ)) → (got_out : K → Option (List ℕ)) → (got_err : E → Option (List ℕ)) →

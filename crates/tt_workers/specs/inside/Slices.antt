@@ -3,7 +3,7 @@ use Rattle.std.specs.Prelude.{◌≡◌, ℕ, Bool, true, false, IsTrue, Option}
 use Rattle.tt_calls.specs.declared.reply.Reply.{Reply}
 use Rattle.tt_interp.specs.Interps as interps
 use Rattle.tt_interp.specs.Interps.{Interpreter}
-use Rattle.tt_workers.specs.Turns.{IsBack}
+use Rattle.tt_workers.specs.inside.Turns.{IsBack}
 use Rattle.tt_workers.specs.declared.next.Done.{Done}
 use Rattle.tt_workers.specs.declared.next.Task.{Task}
 

@@ -17,11 +17,11 @@ Places = List (Option Interpreter)
 
 -- that of a thread
 abbrev pub placed : Option (Option Interpreter) → Option Interpreter
-placed None = None
-placed (Some place) = place
+interp_in None = None
+interp_in (Some place) = place
 
 abbrev pub interp_of : Places → ℕ → Option Interpreter
-interp_of places number = if number == 0 then None else placed (slice_get places (number - 1))
+interp_of places number = if number == 0 then None else interp_in (slice_get places (number - 1))
 
 -- an interpreter in its place halts at what it asks
 abbrev pub IsHalted : Option Interpreter → Type 0
@@ -42,13 +42,13 @@ pub record StandsIn (interp : Interpreter) (setup : Setup) (number : ℕ) (threa
       IsNext setup number thread.start (thread.replies ++ replies) request serving
 
 -- a thread that asks nothing
-abbrev pub IsSilent : Setup → (number : ℕ) → Thread → Type 0
-IsSilent setup number thread =
+abbrev pub AsksNothing : Setup → (number : ℕ) → Thread → Type 0
+AsksNothing setup number thread =
     (request : Request) (serving : List ℕ) → ¬ (IsNext setup number thread.start thread.replies request serving)
 
 abbrev pub IsPlaced : Setup → (number : ℕ) → Thread → Option Interpreter → Type 0
 IsPlaced setup number thread (Some interp) = StandsIn interp setup number thread
-IsPlaced setup number thread None = IsSilent setup number thread
+IsPlaced setup number thread None = AsksNothing setup number thread
 
 -- each thread has its place, from a number on, as this says of a thread and a place
 abbrev pub AreEach : {P : Type 0} → (Is : ℕ → Thread → P → Type 0) → (number : ℕ) → List Thread → List P → Type 0
@@ -63,7 +63,7 @@ ArePlaced setup number threads places = AreEach (IsPlaced setup) number threads 
 -- ---- what becomes of them ----
 
 -- a thread that was made begins
-pub record Begins (setup : Setup) (start : Thread) (old new : Places) : Type 0 where
+pub record BeginsThread (setup : Setup) (start : Thread) (old new : Places) : Type 0 where
   pub interp : Interpreter
   pub pushed : new ≡ old ++ Some interp ∷ []
   pub stands : StandsIn interp setup (suc (length old)) start

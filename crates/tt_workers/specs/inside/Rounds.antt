@@ -1,16 +1,17 @@
 -- What the parts of a turn do.
 use Rattle.std.specs.Prelude.{◌≡◌, ◌≤◌, ◌-◌, ℕ, suc, IsSome, List, length, Option, Some, None, slice_get, slice_set}
 use Rattle.tt_calls.specs.declared.reply.Reply.{Reply}
-use Rattle.tt_core.specs.Crew.{AllMade}
+use Rattle.tt_core.specs.inside.Crew.{AllMade}
 use Rattle.tt_devices.specs.declared.sink.Sink.{Ghosts as OfSink}
 use Rattle.tt_devices.specs.declared.source.Source.{Ghosts as OfSource}
 use Rattle.tt_interp.specs.declared.setup.Setup.{Setup}
 use Rattle.tt_threads.specs.declared.row.Row.{Row}
-use Rattle.tt_workers.specs.Ends.{kept_by}
-use Rattle.tt_workers.specs.Places.{IsFresh, Note}
-use Rattle.tt_workers.specs.Rosters.{HandsOut}
-use Rattle.tt_workers.specs.Turns.{IsFirstPart, IsNextAt, IsReady, Returns, StaysEnded, note_of, out_of}
-use Rattle.tt_workers.specs.World.{IsTied, Realm}
+use Rattle.tt_workers.specs.Ends.{fault_so_far}
+use Rattle.tt_workers.specs.inside.Places.{IsFreshPlace, Note}
+use Rattle.tt_workers.specs.inside.Rosters.{HandsOut}
+use Rattle.tt_core.specs.Parts.{IsFirstPart}
+use Rattle.tt_workers.specs.inside.Turns.{IsNextAt, IsReady, Returns, StaysEnded, note_after, out_of}
+use Rattle.tt_workers.specs.inside.World.{IsTied, Realm}
 use Rattle.tt_workers.specs.declared.next.Done.{Done}
 use Rattle.tt_workers.specs.declared.next.Next.{Next}
 use Rattle.tt_workers.specs.declared.next.Task.{Task}
@@ -27,7 +28,7 @@ pub record Replies (setup : Setup) (rows : List Row) (number pass : ℕ) (reply 
     (task : Option Task) : Type 0 where
   pub mid : List Place
   pub out : HandsOut number pass reply old mid task
-  pub made : AllMade (IsFresh setup) rows mid new
+  pub made : AllMade (IsFreshPlace setup) rows mid new
 
 -- who is handed out in a round
 abbrev pub next_of : Option Next → Option Task
@@ -41,7 +42,7 @@ GoesTo pass old new None = (new.end ≡ None) × (length new.desk.schedule ≡ s
 
 pub record Rounds {S K E : Type 0} (pass : ℕ) (old new : Realm S K E) (next : Option Next) : Type 0 where
   pub begun : new.begun ≡ old.begun
-  pub kept : new.desk.kept ≡ kept_by new.end
+  pub kept : new.desk.kept ≡ fault_so_far new.end
   pub longer : IsFirstPart old.desk.schedule new.desk.schedule
   pub within : length new.desk.schedule ≤ new.begun.steps
   pub ended : IsSome old.end → StaysEnded old new
@@ -54,16 +55,16 @@ module _ {S K E : Type 0} (source : OfSource S) (output : OfSink K) (errors : Of
       (notes : List (Note S K E)) →
       IsTied source output errors old notes →
       IsVacant notes pass →
-      IsTied source output errors new (slice_set notes (pass - 1) (note_of new out))
+      IsTied source output errors new (slice_set notes (pass - 1) (note_after new out))
 
   -- a thread comes back
   pub record TakesBack (done : Done) (old new : Realm S K E) : Type 0 where
     pub keeps : (notes : List (Note S K E)) (pass : ℕ) →
         IsTied source output errors old notes →
         Returns notes pass (Some done) →
-        IsTied source output errors new (slice_set notes (pass - 1) (note_of new None))
+        IsTied source output errors new (slice_set notes (pass - 1) (note_after new None))
     pub begun : new.begun ≡ old.begun
-    pub kept : new.desk.kept ≡ kept_by new.end
+    pub kept : new.desk.kept ≡ fault_so_far new.end
     pub schedule : new.desk.schedule ≡ old.desk.schedule
     pub ended : IsSome old.end → StaysEnded old new
 
@@ -72,9 +73,9 @@ module _ {S K E : Type 0} (source : OfSource S) (output : OfSink K) (errors : Of
     pub keeps : (notes : List (Note S K E)) →
         IsTied source output errors old notes →
         Returns notes pass done →
-        IsTied source output errors mid (slice_set notes (pass - 1) (note_of mid None))
+        IsTied source output errors mid (slice_set notes (pass - 1) (note_after mid None))
     pub begun : mid.begun ≡ old.begun
-    pub kept : mid.desk.kept ≡ kept_by mid.end
+    pub kept : mid.desk.kept ≡ fault_so_far mid.end
     pub within : length mid.desk.schedule ≤ mid.begun.steps
     pub longer : IsFirstPart old.desk.schedule mid.desk.schedule
     pub ended : IsSome old.end → StaysEnded old mid

@@ -5,7 +5,7 @@ use Rattle.tt_calls.specs.declared.start.Start.{Start}
 use Rattle.tt_interp.specs.Interps as interps
 use Rattle.tt_interp.specs.Interps.{Interpreter}
 use Rattle.tt_interp.specs.declared.setup.Setup.{Setup}
-use Rattle.tt_workers.specs.Places.{IsFresh, place_of}
+use Rattle.tt_workers.specs.inside.Places.{IsFreshPlace, place_of}
 use Rattle.tt_workers.specs.declared.next.Task.{Task}
 use Rattle.tt_workers.specs.declared.place.Place.{Place}
 use Rattle.tt_workers.specs.declared.place.Place.TheVariants as place
@@ -14,7 +14,7 @@ use Rattle.tt_workers.specs.declared.place.Place.TheVariants as place
 pub record BeginsAt (setup : Setup) (start : Start) (old new : List Place) : Type 0 where
   pub place : Place
   pub pushed : new ≡ old ++ place ∷ []
-  pub fresh : IsFresh setup (suc (length old)) (record { start = start; replies = [] }) place
+  pub fresh : IsFreshPlace setup (suc (length old)) (record { start = start; replies = [] }) place
 
 -- a fresh thread is handed out
 pub record HandsOutFresh (number pass : ℕ) (old new : List Place) (task : Task) : Type 0 where

@@ -3,8 +3,8 @@ use Rattle.std.specs.Prelude.{◌≡◌, ◌≢◌, ◌-◌, ◌++◌, ⊤, ℕ,
 use Rattle.tt_devices.specs.declared.sink.Sink.{Ghosts as OfSink}
 use Rattle.tt_devices.specs.declared.source.Source.{Ghosts as OfSource}
 use Rattle.tt_interp.specs.Interps as interps
-use Rattle.tt_workers.specs.Places.{Note, can_go, place_of}
-use Rattle.tt_workers.specs.World.{IsTied, Realm}
+use Rattle.tt_workers.specs.inside.Places.{Note, can_go, place_of}
+use Rattle.tt_workers.specs.inside.World.{IsTied, Realm}
 use Rattle.tt_workers.specs.declared.next.Done.{Done}
 use Rattle.tt_workers.specs.declared.next.Next.{Next}
 use Rattle.tt_workers.specs.declared.next.Next.TheVariants.{Run, Rest, Over}
@@ -64,11 +64,6 @@ IsNextAt pass world Over = world.end ≢ None
 
 -- ---- what a turn leaves ----
 
--- a list is the first part of another
-pub record IsFirstPart (part whole : List ℕ) : Type 0 where
-  pub rest : List ℕ
-  pub cut : whole ≡ part ++ rest
-
 -- an end that was kept stays, and so do the steps and the devices
 pub record StaysEnded {S K E : Type 0} (old new : Realm S K E) : Type 0 where
   pub end : new.end ≡ old.end
@@ -76,8 +71,8 @@ pub record StaysEnded {S K E : Type 0} (old new : Realm S K E) : Type 0 where
   pub devices : new.desk.devices ≡ old.desk.devices
 
 -- the note of a pass from then on
-abbrev pub note_of : {S K E : Type 0} → Realm S K E → Option Task → Note S K E
-note_of world out = record { begun = world.begun; out = out }
+abbrev pub note_after : {S K E : Type 0} → Realm S K E → Option Task → Note S K E
+note_after world out = record { begun = world.begun; out = out }
 
 module _ {S K E : Type 0} (source : OfSource S) (output : OfSink K) (errors : OfSink E) where
   -- whatever the notes are: where they fitted, and what was brought is as this pass's note has it, they fit with its
@@ -87,4 +82,4 @@ module _ {S K E : Type 0} (source : OfSource S) (output : OfSink K) (errors : Of
       (notes : List (Note S K E)) →
       IsTied source output errors old notes →
       Returns notes pass done →
-      IsTied source output errors new (slice_set notes (pass - 1) (note_of new (out_of next)))
+      IsTied source output errors new (slice_set notes (pass - 1) (note_after new (out_of next)))

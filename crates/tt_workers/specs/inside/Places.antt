@@ -2,23 +2,17 @@
 use Rattle.std.specs.Prelude.{◌≡◌, ◌+◌, ◌-◌, ◌==◌, ◌++◌, ⊤, ℕ, Bool, true, false, IsTrue, List, [], Option, Some, None, slice_get, if◌then◌else◌}
 use Rattle.tt_calls.specs.declared.reply.Reply.{Reply}
 use Rattle.tt_calls.specs.declared.request.Request.{Request}
-use Rattle.tt_core.specs.Crew.{AreEach, IsSilent, StandsIn}
-use Rattle.tt_core.specs.Stage.{Began}
+use Rattle.tt_core.specs.inside.Crew.{AreEach, AsksNothing, StandsIn}
 use Rattle.tt_run.specs.Desk.{Ground, can_act}
 use Rattle.tt_interp.specs.Beginning.{IsNext}
 use Rattle.tt_interp.specs.Interps as interps
 use Rattle.tt_interp.specs.Interps.{Interpreter}
 use Rattle.tt_interp.specs.declared.setup.Setup.{Setup}
 use Rattle.tt_machine.specs.Machine.{Machine, Thread}
+use Rattle.tt_workers.specs.Ran.{Beginning}
 use Rattle.tt_workers.specs.declared.next.Task.{Task}
 use Rattle.tt_workers.specs.declared.place.Place.{Place}
 use Rattle.tt_workers.specs.declared.place.Place.TheVariants as place
-
--- how a run began: its setup, the most steps that it may take, and its devices as they were given
-pub record Beginning (S K E : Type 0) : Type 0 where
-  pub setup : Setup
-  pub steps : ℕ
-  pub devices : Began S K E
 
 -- a pass's note: how the run began, and the thread that is out at the pass, with its interpreter and the reply as they
 -- were handed out
@@ -52,25 +46,25 @@ IsGivenBy None setup number thread = ⊥
 IsGivenBy (Some task) setup number thread = IsGiven task setup number thread
 
 -- a thread that was just made
-abbrev pub IsFresh : Setup → (number : ℕ) → Thread → Place → Type 0
-IsFresh setup number thread (place.Fresh interp) = IsNew interp setup number thread
-IsFresh setup number thread (place.Parked interp) = ⊥
-IsFresh setup number thread (place.Out pass) = ⊥
-IsFresh setup number thread place.Gone = ⊥
+abbrev pub IsFreshPlace : Setup → (number : ℕ) → Thread → Place → Type 0
+IsFreshPlace setup number thread (place.Fresh interp) = IsNew interp setup number thread
+IsFreshPlace setup number thread (place.Parked interp) = ⊥
+IsFreshPlace setup number thread (place.Out pass) = ⊥
+IsFreshPlace setup number thread place.Gone = ⊥
 
 -- A thread in its place: fresh; parked with an interpreter that halts at what it asks next; out at a pass, as the
 -- pass's note has it; or gone, and then it asks nothing.
-abbrev pub IsPlaced : {S K E : Type 0} → List (Note S K E) → Setup → (number : ℕ) → Thread → Place → Type 0
-IsPlaced notes setup number thread (place.Fresh interp) = IsNew interp setup number thread
-IsPlaced notes setup number thread (place.Parked interp) = StandsIn interp setup number thread
-IsPlaced notes setup number thread (place.Out pass) =
+abbrev pub IsAtPlace : {S K E : Type 0} → List (Note S K E) → Setup → (number : ℕ) → Thread → Place → Type 0
+IsAtPlace notes setup number thread (place.Fresh interp) = IsNew interp setup number thread
+IsAtPlace notes setup number thread (place.Parked interp) = StandsIn interp setup number thread
+IsAtPlace notes setup number thread (place.Out pass) =
     IsGivenBy (noted_in (slice_get notes (pass - 1))) setup number thread
-IsPlaced notes setup number thread place.Gone = IsSilent setup number thread
+IsAtPlace notes setup number thread place.Gone = AsksNothing setup number thread
 
 -- each thread is in its place, and those that notes name are out at the passes of these
 pub record AreWhere {S K E : Type 0} (notes : List (Note S K E)) (places : List Place)
     (machine : Machine) : Type 0 where
-  pub placed : AreEach (IsPlaced notes machine.setup) 1 machine.threads places
+  pub placed : AreEach (IsAtPlace notes machine.setup) 1 machine.threads places
   pub out : (index : ℕ) (task : Task) →
       noted_in (slice_get notes index) ≡ Some task →
       slice_get places (task.thread - 1) ≡ Some (place.Out (index + 1))
