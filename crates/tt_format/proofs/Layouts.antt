@@ -5,7 +5,7 @@ use Rattle.tt_strings.proofs.Ranges.{no_more_characters}
 use Rattle.tt_format.specs.Fields.{is_letter, letters}
 use Rattle.tt_format.specs.Formatting.{longest}
 use Rattle.tt_format.specs.Printing.{layout, missing}
-use Rattle.tt_format.specs.Reading.{IsField, IsPrinted, capped}
+use Rattle.tt_format.specs.inside.Reading.{IsField, IsPrinted, capped}
 use Rattle.tt_format.specs.declared.layout.Field.{Field}
 use Rattle.tt_format.specs.declared.layout.Fill.{Fill}
 use Rattle.tt_format.specs.declared.layout.Fill.TheVariants.{SpacesAfter, Zeros, SpacesBefore}

@@ -1,7 +1,7 @@
 -- Parts of the code are pieces.
 use Rattle.std.proofs.Common.{◌≡◌, ℕ, List, Bor, sym, ap, ap₂}
 use Rattle.tt_format.specs.Fields.{Piece, Printed, Refused}
-use Rattle.tt_format.specs.Reading.{IsField, IsPart}
+use Rattle.tt_format.specs.inside.Reading.{IsField, IsPart}
 use Rattle.tt_format.specs.declared.fields.Part.TheVariants.{Prints, Refuses}
 use Rattle.tt_format.specs.declared.layout.Field.{Field}
 

@@ -5,7 +5,7 @@ use Rattle.std.specs.Prelude.{codes}
 use Rattle.tt_format.specs.Fields.{piece}
 use Rattle.tt_format.specs.Formatting.{IsFormatted, longest, ended, printed, too_long, refused}
 use Rattle.tt_format.specs.Printing.{layout}
-use Rattle.tt_format.specs.Reading.{IsPart, IsPrinted}
+use Rattle.tt_format.specs.inside.Reading.{IsPart, IsPrinted}
 use Rattle.tt_format.specs.declared.Formatted.{Formatted}
 use Rattle.tt_format.specs.declared.Formatted.TheVariants.{Made, Bad}
 use Rattle.tt_format.specs.declared.fields.Part.TheVariants.{Prints, Refuses}

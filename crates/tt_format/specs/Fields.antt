@@ -1,10 +1,12 @@
 -- A template and its values, piece by piece from the left (format(n)).
-use Rattle.std.specs.Prelude.{ℕ, Bool, true, false, not, ◌&&◌, ◌||◌, ◌==◌, if◌then◌else◌, ℤ, pos, negsuc, unsigned_abs, List, [], ◌∷◌, ◌++◌, length, take, drop, take_while, slice_index_or, Option, Some, None, is_some, Ok, Err, codes}
+use Rattle.std.specs.Prelude.{ℕ, Bool, true, false, not, ◌&&◌, ◌||◌, ◌==◌, if◌then◌else◌, ℤ, pos, negsuc}
+use Rattle.std.specs.Prelude.{unsigned_abs, List, [], ◌∷◌, ◌++◌, length, take, drop, take_while, slice_index_or}
+use Rattle.std.specs.Prelude.{Option, Some, None, is_some, Ok, Err, codes}
 use Rattle.tt_text.specs.Backslash.{character_of}
 use Rattle.tt_text.specs.Characters.{characters}
 use Rattle.tt_number.specs.Messages.{number_message}
 use Rattle.tt_number.specs.Numerals.{whole_of}
-use Rattle.tt_strings.specs.Places.{joined}
+use Rattle.tt_strings.specs.Places.{bytes_of}
 use Rattle.tt_format.specs.Printing.{code_point, fill_of, has_flag, kind_of, layout, numeral, sign}
 use Rattle.tt_format.specs.Specifiers.{Specifier, specifier}
 use Rattle.tt_format.specs.declared.kind.Base.{Base}
@@ -33,7 +35,7 @@ with_number (value ∷ later) go =
 -- the first characters of a value, if their number is limited
 abbrev pub at_most : Option ℕ → List ℕ → List ℕ
 at_most None value = value
-at_most (Some n) value = joined (take n (characters value))
+at_most (Some n) value = bytes_of (take n (characters value))
 
 -- a field that prints a number; `left` says that it is filled at its end, and `rest` is the template after it
 abbrev pub number_piece : Base → (flags : List ℕ) (left : Bool) (width : ℕ) (rest : List ℕ) → List (List ℕ) → Piece

@@ -1,5 +1,5 @@
 pub mod Fields
 pub mod Formatting
 pub mod Printing
-pub mod Reading
 pub mod Specifiers
+pub mod inside

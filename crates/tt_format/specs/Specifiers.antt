@@ -1,6 +1,7 @@
 -- Field specifiers (format(n)): what stands between a `%` of a template and the letter of its field. Each part is
 -- the longest one that may stand there.
-use Rattle.std.specs.Prelude.{ℕ, Bool, ◌||◌, ◌==◌, if◌then◌else◌, List, [], ◌∷◌, length, take, drop, take_while, Option, Some, None}
+use Rattle.std.specs.Prelude.{ℕ, Bool, ◌||◌, ◌==◌, if◌then◌else◌, List, [], ◌∷◌, length, take, drop, take_while}
+use Rattle.std.specs.Prelude.{Option, Some, None}
 use Rattle.std.specs.Char.{is_digit}
 use Rattle.tt_number.specs.Numerals.{digit_sum}
 

@@ -1,8 +1,12 @@
 //! Pieces of a template with their values.
 ghost use Rattle.std.specs.Prelude.{◌≡◌, ◌<◌, ◌≤◌, ℕ, Option, drop, length, IfOk};
 ghost use Rattle.std.specs.Option.{option_map};
-ghost use Rattle.tt_format.specs.Fields.{Printed, Refused, at_most, bad_specifier, by_letter, by_width, code_piece, field, is_out_of_place, letters, not_enough, number_piece, of_kind, percent_piece, piece, text_piece};
-ghost use Rattle.tt_format.specs.Reading.{IsAsked, IsGiven, IsNoLonger, IsPart, IsRead, IsShorter, LeavesTemplate, capped};
+ghost use Rattle.tt_format.specs.Fields.{Printed, Refused, at_most, bad_specifier, by_letter, by_width, code_piece};
+ghost use Rattle.tt_format.specs.Fields.{field, is_out_of_place, letters, not_enough, number_piece, of_kind};
+ghost use Rattle.tt_format.specs.Fields.{percent_piece, piece, text_piece};
+ghost use Rattle.tt_format.specs.inside.Reading.{IsAsked, IsGiven, IsNoLonger, IsPart, IsRead, IsShorter};
+ghost use Rattle.tt_format.specs.inside.Reading.{LeavesTemplate};
+ghost use Rattle.tt_format.specs.inside.Reading.{capped};
 ghost use Rattle.tt_format.specs.Specifiers as spec;
 
 use crate::kind::{Base, Kind, kind_of};
@@ -84,7 +88,9 @@ fn number_field<'a>(
     rest: &'a [u8],
     values: &'a [Text],
 ) -> Result<Part<'a>, NoMemory>
-    ensures part { IfOk result (λ part. (width : ℕ) → asked.entry.width ≡ capped width → IsPart part (number_piece base asked.entry.flags.now asked.entry.left width rest.now values.now)) }
+    ensures part { IfOk result (λ part.
+        (width : ℕ) → asked.entry.width ≡ capped width →
+        IsPart part (number_piece base asked.entry.flags.now asked.entry.left width rest.now values.now)) }
     ensures kept { IfOk result (λ part. LeavesTemplate part rest.now) }
 {
     match next_number(alloc, values)? {
@@ -108,7 +114,9 @@ fn code_field<'a>(
     rest: &'a [u8],
     values: &'a [Text],
 ) -> Result<Part<'a>, NoMemory>
-    ensures part { IfOk result (λ part. (width : ℕ) → asked.entry.width ≡ capped width → IsPart part (code_piece asked.entry.left width rest.now values.now)) }
+    ensures part { IfOk result (λ part.
+        (width : ℕ) → asked.entry.width ≡ capped width →
+        IsPart part (code_piece asked.entry.left width rest.now values.now)) }
     ensures kept { IfOk result (λ part. LeavesTemplate part rest.now) }
 {
     match next_number(alloc, values)? {
@@ -132,7 +140,10 @@ fn text_field<'a>(
     rest: &'a [u8],
     values: &'a [Text],
 ) -> Result<Part<'a>, NoMemory>
-    ensures part { IfOk result (λ part. (width : ℕ) (most : Option ℕ) → asked.entry.width ≡ capped width → asked.entry.most ≡ option_map capped most → IsPart part (text_piece asked.entry.left width most rest.now values.now)) }
+    ensures part { IfOk result (λ part.
+        (width : ℕ) (most : Option ℕ) → asked.entry.width ≡ capped width →
+        asked.entry.most ≡ option_map capped most →
+        IsPart part (text_piece asked.entry.left width most rest.now values.now)) }
     ensures kept { IfOk result (λ part. LeavesTemplate part rest.now) }
 {
     let [value, later @ ..] = values else {
@@ -164,7 +175,9 @@ fn percent_field<'a>(
     rest: &'a [u8],
     values: &'a [Text],
 ) -> Result<Part<'a>, NoMemory>
-    ensures part { IfOk result (λ part. (width : ℕ) → asked.entry.width ≡ capped width → IsPart part (percent_piece asked.entry.left width rest.now values.now)) }
+    ensures part { IfOk result (λ part.
+        (width : ℕ) → asked.entry.width ≡ capped width →
+        IsPart part (percent_piece asked.entry.left width rest.now values.now)) }
     ensures kept { IfOk result (λ part. LeavesTemplate part rest.now) }
 {
     let field = Field {
@@ -184,7 +197,9 @@ fn of_kind<'a>(
     rest: &'a [u8],
     values: &'a [Text],
 ) -> Result<Part<'a>, NoMemory>
-    ensures part { IfOk result (λ part. (s : spec.Specifier) (width : ℕ) → IsAsked asked.entry s width → IsPart part (of_kind kind s asked.entry.left width rest.now values.now)) }
+    ensures part { IfOk result (λ part.
+        (s : spec.Specifier) (width : ℕ) → IsAsked asked.entry s width →
+        IsPart part (of_kind kind s asked.entry.left width rest.now values.now)) }
     ensures kept { IfOk result (λ part. LeavesTemplate part rest.now) }
 {
     match kind {
@@ -214,7 +229,9 @@ fn by_letter<'a>(
     asked: Asked<'_>,
     values: &'a [Text],
 ) -> Result<Part<'a>, NoMemory>
-    ensures part { IfOk result (λ part. (s : spec.Specifier) (width : ℕ) → IsAsked asked.entry s width → IsPart part (by_letter text.now s asked.entry.left width values.now)) }
+    ensures part { IfOk result (λ part.
+        (s : spec.Specifier) (width : ℕ) → IsAsked asked.entry s width →
+        IsPart part (by_letter text.now s asked.entry.left width values.now)) }
     ensures no_longer { IfOk result (λ part. IsNoLonger part text.now) }
 {
     let [letter, rest @ ..] = text else {
@@ -249,7 +266,9 @@ fn by_width<'a>(
     width: u64,
     values: &'a [Text],
 ) -> Result<Part<'a>, NoMemory>
-    ensures part { IfOk result (λ part. (s : spec.Specifier) (wide : ℕ) → IsRead read.entry s → width ≡ capped wide → IsPart part (by_width (Some wide) s values.now)) }
+    ensures part { IfOk result (λ part.
+        (s : spec.Specifier) (wide : ℕ) → IsRead read.entry s → width ≡ capped wide →
+        IsPart part (by_width (Some wide) s values.now)) }
     ensures no_longer { IfOk result (λ part. IsNoLonger part read.entry.rest.now) }
 {
     let asked = Asked {
@@ -268,7 +287,8 @@ fn by_given_width<'a>(
     read: Specifier<'a>,
     values: &'a [Text],
 ) -> Result<Part<'a>, NoMemory>
-    ensures part { IfOk result (λ part. (s : spec.Specifier) → IsRead read.entry s → IsPart part (by_width None s values.now)) }
+    ensures part { IfOk result (λ part.
+        (s : spec.Specifier) → IsRead read.entry s → IsPart part (by_width None s values.now)) }
     ensures no_longer { IfOk result (λ part. IsNoLonger part read.entry.rest.now) }
 {
     match next_number(alloc, values)? {
@@ -310,7 +330,8 @@ fn read_letters<'a>(
     template: &'a [u8],
     values: &'a [Text],
 ) -> Result<Part<'a>, NoMemory>
-    ensures part { IfOk result (λ part. IsPart part (Printed (letters template.now) (drop (length (letters template.now)) template.now) values.now)) }
+    ensures part { IfOk result (λ part.
+        IsPart part (Printed (letters template.now) (drop (length (letters template.now)) template.now) values.now)) }
     ensures left { IfOk result (λ part. LeavesTemplate part (drop (length (letters template.now)) template.now)) }
 {
     let (letters, rest) = template.split_at(letter_count(template));

@@ -31,7 +31,7 @@ pub(crate) enum Kind {
     Percent,
 }
 
-/// What a field with this letter prints, or `None` where no field has it.
+/// What a field with this letter prints, or `None` if no field has it.
 pub(crate) fn kind_of(letter: u8) -> Option<Kind>
     ensures { result ≡ kind_of letter }
 {

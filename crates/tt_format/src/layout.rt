@@ -2,7 +2,7 @@
 ghost use Rattle.std.specs.Prelude.{◌≡◌, ◌+◌, ◌-◌, ◌≤◌, ◌++◌, ◌↔◌, IsTrue, length, replicate, OnOk, IfOk};
 ghost use Rattle.tt_format.specs.Formatting.{longest};
 ghost use Rattle.tt_format.specs.Printing.{fill_of, layout, missing};
-ghost use Rattle.tt_format.specs.Reading.{IsPrinted};
+ghost use Rattle.tt_format.specs.inside.Reading.{IsPrinted};
 
 use tt_text::{NoMemory, Text, char_count};
 
@@ -46,10 +46,11 @@ pub(crate) struct Field {
 
 /// Prints a field after what was printed before, if all is no longer than `LONGEST`; else nothing is made.
 ///
-/// `NoMemory` where memory for it is refused.
+/// `NoMemory` if memory for it is refused.
 pub(crate) fn print(made: &mut Vec<u8>, field: Field) -> Result<bool, NoMemory>
     requires short { length made.old.items ≤ longest }
-    ensures printed { IfOk result (λ fits. IsPrinted fits made.old.items made.new.items (layout field.fill field.width field.sign.now field.body)) }
+    ensures printed { IfOk result (λ fits.
+        IsPrinted fits made.old.items made.new.items (layout field.fill field.width field.sign.now field.body)) }
 {
     let lacking = missing(&field);
     if !fits(made.len(), &field, lacking) {
@@ -82,7 +83,8 @@ fn fits(before: usize, field: &Field, lacking: u64) -> bool
 
 fn put(made: &mut Vec<u8>, field: &Field, lacking: u64) -> Result<(), NoMemory>
     requires { lacking ≡ missing field.now.width field.now.sign.now field.now.body }
-    ensures { OnOk result (made.new.items ≡ made.old.items ++ layout field.now.fill field.now.width field.now.sign.now field.now.body) }
+    ensures { OnOk result
+        (made.new.items ≡ made.old.items ++ layout field.now.fill field.now.width field.now.sign.now field.now.body) }
 {
     match field.fill {
         Fill::SpacesAfter => {

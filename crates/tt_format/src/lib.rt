@@ -35,7 +35,7 @@ pub enum Formatted {
 ///
 /// The answer is `Bad` for the first error from the left: no value left, a value that is no whole number, another
 /// letter, `.` before a letter other than `s`, or a text of more than `LONGEST` bytes, of which nothing is made.
-/// `NoMemory` where memory for the text is refused.
+/// `NoMemory` if memory for the text is refused.
 pub fn format(alloc: Global, template: &[u8], values: &[Text]) -> Result<Formatted, NoMemory>
     ensures { IfOk result (λ answer. IsFormat template.now values.now answer) }
 {
@@ -62,6 +62,3 @@ fn too_long(alloc: Global) -> Result<Text, NoMemory>
 {
     Text::from_bytes(alloc, b"result too long")
 }
-
-#[cfg(test)]
-mod tests;

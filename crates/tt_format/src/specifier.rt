@@ -2,8 +2,9 @@
 ghost use Rattle.std.specs.Prelude.{◌≡◌, ◌≤◌, ◌-◌, ◌^◌, min, true, length};
 ghost use Rattle.std.specs.Option.{option_map};
 ghost use Rattle.tt_number.specs.Numerals.{all_digits, digit_sum};
-ghost use Rattle.tt_format.specs.Reading.{IsRead, capped};
-ghost use Rattle.tt_format.specs.Specifiers.{after_digits, after_most, after_size, after_width, decimal_digits, flags, is_flag, is_size, most, specifier, width};
+ghost use Rattle.tt_format.specs.inside.Reading.{IsRead, capped};
+ghost use Rattle.tt_format.specs.Specifiers.{after_digits, after_most, after_size, after_width, decimal_digits};
+ghost use Rattle.tt_format.specs.Specifiers.{flags, is_flag, is_size, most, specifier, width};
 
 use tt_number::digits_of;
 
@@ -11,7 +12,7 @@ use tt_number::digits_of;
 #[derive(Clone, Copy, Debug)]
 pub(crate) struct Specifier<'a> {
     pub flags: &'a [u8],
-    /// The least width; `None` where a value tells it.
+    /// The least width; `None` if a value tells it.
     pub width: Option<u64>,
     /// How many characters are printed at most.
     pub most: Option<u64>,

@@ -1,6 +1,6 @@
 use Rattle.std.proofs.Common.{subst}
 use Rattle.tt_format.specs.Fields.{piece}
-use Rattle.tt_format.specs.Reading.{IsPart}
+use Rattle.tt_format.specs.inside.Reading.{IsPart}
 use Rattle.tt_format.specs.declared.fields.Part.{Part}
 use Rattle.tt_format.proofs.Steps.{printed_on, printed_short, too_long_on, refused_on, ended_on}
 use Rattle.tt_format.proofs.format.Goals as goal
