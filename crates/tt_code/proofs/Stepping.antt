@@ -3,7 +3,8 @@ use Rattle.std.proofs.Common.{◌≡◌, ℕ, zero, suc, ◌+◌, ◌<◌, ◌�
 use Rattle.tt_code.specs.Code.{Next, act, run}
 use Rattle.tt_code.specs.Making.{Instructions}
 use Rattle.tt_code.specs.Needs.{Values}
-use Rattle.tt_code.specs.Running.{halted, stepped}
+use Rattle.tt_code.specs.Running.{halted}
+use Rattle.tt_code.specs.inside.Turns.{stepped}
 use Rattle.tt_code.specs.declared.code.Instruction.{Instruction}
 use Rattle.tt_code.specs.declared.steps.Halt.{Halt}
 use Rattle.tt_code.specs.declared.steps.Step.TheVariants as steps

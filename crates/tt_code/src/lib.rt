@@ -17,6 +17,3 @@ pub use code::Code;
 pub use making::{condition_code, value_code, words_code};
 pub use running::Running;
 pub use steps::Halt;
-
-#[cfg(test)]
-mod tests;

@@ -2,7 +2,8 @@
 ghost use Rattle.std.specs.Prelude.{◌≡◌, ◌<◌, length, IfOk, OnOk};
 ghost use Rattle.std.specs.Arc.{arc_value};
 ghost use Rattle.tt_code.specs.Code.{needs_of, run};
-ghost use Rattle.tt_code.specs.Running.{IsFurther, given, halted, needs, turned};
+ghost use Rattle.tt_code.specs.Running.{halted, needs, with_value};
+ghost use Rattle.tt_code.specs.inside.Turns.{IsFurther, turned};
 
 use crate::code::{Code, Instruction};
 use crate::stack::Stack;
@@ -47,7 +48,7 @@ impl Running {
     /// `NoMemory` where memory is refused; then it is only fit to be restarted.
     #[tactic(auto, using(crate::proofs::Stepping::at_end))]
     pub fn advance(&mut self) -> Result<Halt, NoMemory>
-        ensures halts { IfOk result (λ halt. needs self.old ≡ halted halt (given self.new)) }
+        ensures halts { IfOk result (λ halt. needs self.old ≡ halted halt (with_value self.new)) }
     {
         'steps: while self.place < self.code.instructions.len() {
             let step = turn(
@@ -71,7 +72,7 @@ impl Running {
     ///
     /// `NoMemory` where memory is refused; then it is only fit to be restarted.
     pub fn give(&mut self, value: Text) -> Result<(), NoMemory>
-        ensures given { OnOk result (needs self.new ≡ given self.old value) }
+        ensures given { OnOk result (needs self.new ≡ with_value self.old value) }
     {
         self.values.push(value)?;
         Ok(())

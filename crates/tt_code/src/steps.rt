@@ -2,7 +2,7 @@
 ghost use Rattle.std.specs.Prelude.{◌≡◌, ◌∷◌, ◌++◌, IfOk, List, ℕ, reverse};
 ghost use Rattle.tt_code.specs.Code.{Next, act};
 ghost use Rattle.tt_code.specs.Needs.{expanded, unless_failed};
-ghost use Rattle.tt_code.specs.Running.{stepped};
+ghost use Rattle.tt_code.specs.inside.Turns.{stepped};
 ghost use Rattle.tt_code.specs.declared.code.Instruction.TheVariants as code;
 
 use crate::code::Instruction;

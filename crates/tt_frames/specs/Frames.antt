@@ -1,7 +1,7 @@
 -- What frames and askings mean: the rest of a plan.
 use Rattle.std.specs.Prelude.{ℕ, ◌+◌, List, [], codes, drop}
 use Rattle.std.specs.Arc.{arc_value}
-use Rattle.tt_code.specs.Running.{given, needs}
+use Rattle.tt_code.specs.Running.{needs, with_value}
 use Rattle.tt_code.specs.declared.running.Running.{Running}
 use Rattle.tt_outcomes.specs.declared.ending.Ending.{Ending}
 use Rattle.tt_outcomes.specs.declared.ending.Ending.TheVariants.{Failed, Fine}
@@ -57,12 +57,12 @@ command_needs command =
 abbrev pub command_given : CommandFrame → OnEnding
 command_given command =
     on_fine
-    (λ value. needing (running (command_ended command)) (command_ended command) (given command.running value))
+    (λ value. needing (running (command_ended command)) (command_ended command) (with_value command.running value))
     (command_ended command)
 
 -- an expression goes on with a value
 abbrev pub expression_given : Purpose → Running → OnEnding
-expression_given purpose inside = on_fine (λ value. computed purpose (given inside value)) passed
+expression_given purpose inside = on_fine (λ value. computed purpose (with_value inside value)) passed
 
 -- ---- frames ----
 

@@ -3,7 +3,7 @@ use Rattle.std.specs.Prelude.{ℕ, List, [], codes}
 use Rattle.tt_calls.specs.declared.outcome.Code.{Code}
 use Rattle.tt_calls.specs.declared.outcome.Code.TheVariants as code
 use Rattle.tt_calls.specs.declared.outcome.Outcome.{Outcome}
-use Rattle.tt_trace.specs.Lines.{Told, started, started_within}
+use Rattle.tt_trace.specs.Lines.{TraceText, started, started_within}
 use Rattle.tt_outcomes.specs.declared.ending.Ending.{Ending}
 use Rattle.tt_outcomes.specs.declared.ending.Ending.TheVariants.{Fine, Failed, Raised, Returned, Broke, Continued}
 use Rattle.tt_outcomes.specs.declared.ending.Failure.{Failure}
@@ -13,7 +13,7 @@ abbrev pub fine : (value : List ℕ) → Ending
 fine value = Fine value
 
 -- an error, with a trace, at a line
-abbrev pub failure : (message : List ℕ) → (trace : Told) → (line : ℕ) → Failure
+abbrev pub failure : (message : List ℕ) → (trace : TraceText) → (line : ℕ) → Failure
 failure message trace line = record { message = message; trace = trace; line = line }
 
 -- a new error

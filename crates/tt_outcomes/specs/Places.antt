@@ -30,7 +30,7 @@ in_command text start end (Continued value line) = Continued value (line_at text
 
 -- ---- a procedure ----
 
--- a break or continue where no loop takes it
+-- a break or continue that no loop takes
 abbrev pub outside_message : Code → List ℕ
 outside_message code.Continued = codes "invoked \"continue\" outside of a loop"
 outside_message code = codes "invoked \"break\" outside of a loop"

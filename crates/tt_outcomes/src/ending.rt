@@ -13,7 +13,7 @@ pub struct Failure {
     pub message: Text,
     /// Its trace so far (tclvars(n), errorInfo).
     pub trace: Trace,
-    /// The line of its script that the command stood in that ended with it last, the first being 1; 0 where it came out
+    /// The line of its script that the command stood in that ended with it last, the first being 1; 0 if it came out
     /// of no script.
     pub line: u64,
 }
@@ -45,7 +45,7 @@ impl Ending {
 
     /// A new error of this message.
     ///
-    /// `NoMemory` where the memory for its trace is refused.
+    /// `NoMemory` if memory for its trace is refused.
     pub fn failed(alloc: Global, message: Text) -> Result<Self, NoMemory>
         ensures failed { IfOk result (λ ending. ending ≡ failed message) }
     {
@@ -59,7 +59,7 @@ impl Ending {
 
     /// A new error of this message.
     ///
-    /// `NoMemory` where memory for it is refused.
+    /// `NoMemory` if memory for it is refused.
     pub fn failed_with(alloc: Global, message: &[u8]) -> Result<Self, NoMemory>
         ensures failed { IfOk result (λ ending. ending ≡ failed message.now) }
     {
@@ -70,7 +70,7 @@ impl Ending {
 
     /// An error that goes on with a trace that is there: of another thread or job.
     ///
-    /// `NoMemory` where memory for it is refused.
+    /// `NoMemory` if memory for it is refused.
     pub fn of_outcome(alloc: Global, outcome: Outcome) -> Result<Self, NoMemory>
         ensures same { IfOk result (λ ending. ending ≡ of_outcome outcome) }
     {
@@ -95,7 +95,7 @@ impl Ending {
 
     /// How a command ended that has this answer: an error is a new one.
     ///
-    /// `NoMemory` where memory for it is refused.
+    /// `NoMemory` if memory for it is refused.
     pub fn of_value(alloc: Global, outcome: Outcome) -> Result<Self, NoMemory>
         ensures same { IfOk result (λ ending. ending ≡ of_value outcome) }
     {

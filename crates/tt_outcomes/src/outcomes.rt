@@ -23,7 +23,7 @@ pub fn code_number(code: Code) -> &'static [u8]
 impl Ending {
     /// The trace of an error, as errorInfo of tclvars(n) has it; it is empty of another ending.
     ///
-    /// `NoMemory` where memory for it is refused.
+    /// `NoMemory` if memory for it is refused.
     pub fn trace(&self, alloc: Global) -> Result<Text, NoMemory>
         ensures trace { IfOk result (λ trace. trace ≡ trace_of self.now) }
     {
@@ -48,9 +48,9 @@ impl Ending {
 
     /// The outcome that other threads see.
     ///
-    /// `NoMemory` where memory for it is refused.
+    /// `NoMemory` if memory for it is refused.
     pub fn into_outcome(self, alloc: Global) -> Result<Outcome, NoMemory>
-        ensures told { IfOk result (λ outcome. outcome ≡ outcome_of self) }
+        ensures outcome { IfOk result (λ outcome. outcome ≡ outcome_of self) }
     {
         let code = self.code();
         let kept = self.kept();

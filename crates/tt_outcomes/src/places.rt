@@ -1,6 +1,7 @@
 //! What commands, procedures and scripts make of an ending that goes out of them.
 ghost use Rattle.std.specs.Prelude.{◌≡◌, IfOk};
-ghost use Rattle.tt_outcomes.specs.Places.{command_text, in_command, of_procedure, of_returned, of_script, outside, outside_in, within};
+ghost use Rattle.tt_outcomes.specs.Places.{command_text, in_command, of_procedure, of_returned, of_script, outside};
+ghost use Rattle.tt_outcomes.specs.Places.{outside_in, within};
 
 use crate::{Ending, Failure};
 use std::alloc::Global;
@@ -19,7 +20,7 @@ pub fn command_text(text: &[u8], start: usize, end: usize) -> &[u8]
 
 // An error that a command ended with adds a line for it.
 fn within(failure: Failure, text: &[u8], start: usize, end: usize) -> Result<Failure, NoMemory>
-    ensures { IfOk result (λ told. told ≡ within failure text.now start end) }
+    ensures { IfOk result (λ longer. longer ≡ within failure text.now start end) }
 {
     let Failure {
         message,
@@ -34,7 +35,7 @@ fn within(failure: Failure, text: &[u8], start: usize, end: usize) -> Result<Fai
     })
 }
 
-// A break or continue where no loop takes it.
+// A break or continue that no loop takes.
 fn outside(alloc: Global, code: Code) -> Result<Failure, NoMemory>
     ensures { IfOk result (λ failure. failure ≡ outside code) }
 {
@@ -84,12 +85,12 @@ fn of_returned(alloc: Global, value: Text, kept: Code) -> Result<Ending, NoMemor
 }
 
 impl Ending {
-    /// What a script ends with whose command at these places ended so, where that was no result: an error has a line
+    /// What a script ends with whose command at these places ended so, if that was no result: an error has a line
     /// more in its trace, but for that of error(n) with an info.
     ///
-    /// `NoMemory` where memory for it is refused.
+    /// `NoMemory` if memory for it is refused.
     pub fn in_command(self, text: &[u8], start: usize, end: usize) -> Result<Ending, NoMemory>
-        ensures told { IfOk result (λ ending. ending ≡ in_command text.now start end self) }
+        ensures ended { IfOk result (λ ending. ending ≡ in_command text.now start end self) }
     {
         Ok(match self {
             Ending::Fine(value) => Ending::Fine(value),
@@ -108,7 +109,7 @@ impl Ending {
     /// What the call of a procedure ends with whose body ended so (proc(n), return(n)): a return gives its value with
     /// the code that it kept, an error has the procedure's line in its trace, and a break or continue is an error.
     ///
-    /// `NoMemory` where memory for it is refused.
+    /// `NoMemory` if memory for it is refused.
     pub fn of_procedure(self, alloc: Global, name: &[u8]) -> Result<Ending, NoMemory>
         ensures ended { IfOk result (λ ending. ending ≡ of_procedure name.now self) }
     {
@@ -129,7 +130,7 @@ impl Ending {
     /// What a script that a thread begins with, or that an event brings, comes to: a return is its value, and a break
     /// or continue is an error.
     ///
-    /// `NoMemory` where memory for it is refused.
+    /// `NoMemory` if memory for it is refused.
     pub fn of_script(self, alloc: Global) -> Result<Ending, NoMemory>
         ensures ended { IfOk result (λ ending. ending ≡ of_script self) }
     {

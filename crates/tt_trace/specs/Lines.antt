@@ -7,16 +7,16 @@ use Rattle.tt_trace.specs.declared.trace.Joint.TheVariants.{WhileExecuting, Invo
 use Rattle.tt_trace.specs.declared.trace.TheConstants.{LONGEST}
 
 -- a trace: its text so far, and the line that the next command has over it
-pub record Told : Type 0 where
+pub record TraceText : Type 0 where
   pub text : List ℕ
   pub joint : Joint
 
 -- the trace of a new error (error(n))
-abbrev pub started : (message : List ℕ) → Told
+abbrev pub started : (message : List ℕ) → TraceText
 started message = record { text = message; joint = WhileExecuting }
 
 -- a trace that goes on with one that is there: of another thread or job, or the info of error(n)
-abbrev pub started_within : (trace : List ℕ) → Told
+abbrev pub started_within : (trace : List ℕ) → TraceText
 started_within trace = record { text = trace; joint = InvokedFromWithin }
 
 -- a line more
@@ -38,7 +38,7 @@ abbrev pub quoted : (command : List ℕ) → List ℕ
 quoted command = codes "\"" ++ (shortened command ++ codes "\"")
 
 -- a command that ended with the error: a line over it, and its text in quotes
-abbrev pub with_command : Told → (command : List ℕ) → Told
+abbrev pub with_command : TraceText → (command : List ℕ) → TraceText
 with_command trace command =
     record { text = with_line (with_line trace.text (heading trace.joint)) (quoted command); joint = InvokedFromWithin }
 
@@ -51,7 +51,7 @@ abbrev pub procedure_line : (name : List ℕ) → (line : ℕ) → List ℕ
 procedure_line name line = codes "    (procedure \"" ++ (name ++ place_in_body line)
 
 -- the end of a procedure's body
-abbrev pub with_procedure : Told → (name : List ℕ) → (line : ℕ) → Told
+abbrev pub with_procedure : TraceText → (name : List ℕ) → (line : ℕ) → TraceText
 with_procedure trace name line = record trace { text = with_line trace.text (procedure_line name line) }
 
 -- the line of a body that a place is in, the first being 1: the newlines before it are counted

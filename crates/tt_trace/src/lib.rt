@@ -4,6 +4,3 @@
 mod trace;
 
 pub use trace::{Joint, LONGEST, Trace, line_at};
-
-#[cfg(test)]
-mod tests;

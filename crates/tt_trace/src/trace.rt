@@ -1,5 +1,6 @@
 ghost use Rattle.std.specs.Prelude.{◌≡◌, ◌≤◌, ◌++◌, IfOk, OnOk, length, take};
-ghost use Rattle.tt_trace.specs.Lines.{heading, line_at, place_in_body, procedure_line, shortened, started, started_within, with_command, with_line, with_procedure};
+ghost use Rattle.tt_trace.specs.Lines.{heading, line_at, place_in_body, procedure_line, shortened, started};
+ghost use Rattle.tt_trace.specs.Lines.{started_within, with_command, with_line, with_procedure};
 
 use itoa::Buffer;
 use std::alloc::Global;
@@ -7,7 +8,7 @@ use std::marker::Model;
 use tt_lanes::count_newlines;
 use tt_text::{NoMemory, Text};
 
-/// The most bytes of a command that a trace tells.
+/// The most bytes of a command that a trace shows.
 pub const LONGEST: usize = 150;
 
 /// What joins the next command to a trace: the line over it.
@@ -15,7 +16,7 @@ pub const LONGEST: usize = 150;
 pub enum Joint {
     /// It is the first that ended with the error.
     WhileExecuting,
-    /// It evaluated what is told before it.
+    /// It evaluated what stands before it in the trace.
     InvokedFromWithin,
 }
 
@@ -31,8 +32,8 @@ impl Joint {
     }
 }
 
-/// The trace of an error (tclvars(n), errorInfo): its message, and then, in order outwards, the commands that ended with
-/// it and the procedures that they stood in. Contracts see its text so far, and what joins the next command to it.
+/// The trace of an error (tclvars(n), errorInfo): its message, and then the commands that ended with it and the
+/// procedures that they stood in, in order outwards. Contracts see its text so far, and what joins the next command.
 #[derive(Debug, Drop)]
 pub struct Trace {
     text: Text,
@@ -40,9 +41,9 @@ pub struct Trace {
 }
 
 impl Model for Trace {
-    ghost use Rattle.tt_trace.specs.Lines.{Told};
+    ghost use Rattle.tt_trace.specs.Lines.{TraceText};
 
-    ghost Value = { Told };
+    ghost Value = { TraceText };
 
     ghost view = { λ trace. record { text = trace.text; joint = trace.joint } };
 }
@@ -50,7 +51,7 @@ impl Model for Trace {
 impl Trace {
     /// The trace of a new error with this message.
     ///
-    /// `NoMemory` where the memory for it is refused.
+    /// `NoMemory` if memory for it is refused.
     pub fn start(alloc: Global, message: &[u8]) -> Result<Self, NoMemory>
         ensures started { IfOk result (λ trace. trace ≡ started message.now) }
     {
@@ -60,10 +61,10 @@ impl Trace {
         })
     }
 
-    /// A trace that goes on with this one, of another thread or job, or that the `info` of `error` begins (error(n)): so
-    /// the first command added has the line `invoked from within`.
+    /// A trace that goes on with this one, of another thread or job, or that the `info` of `error` begins (error(n)).
+    /// The first command added has the line `invoked from within`.
     ///
-    /// `NoMemory` where the memory for it is refused.
+    /// `NoMemory` if memory for it is refused.
     pub fn start_within(alloc: Global, trace: &[u8]) -> Result<Self, NoMemory>
         ensures started { IfOk result (λ started. started ≡ started_within trace.now) }
     {
@@ -73,10 +74,10 @@ impl Trace {
         })
     }
 
-    /// Adds a command that ended with the error, by its text from the first word to the last: the line that joins it, and
-    /// the text in quotes, where `...` stands for what is past 150 bytes.
+    /// Adds a command that ended with the error, by its text from the first word to the last: the line that joins it,
+    /// and the text in quotes. `...` stands for what is past 150 bytes.
     ///
-    /// `NoMemory` where the memory for it is refused.
+    /// `NoMemory` if memory for it is refused.
     pub fn add_command(&mut self, text: &[u8]) -> Result<(), NoMemory>
         ensures added { OnOk result (self.new ≡ with_command self.old text.now) }
     {
@@ -90,7 +91,7 @@ impl Trace {
 
     /// Adds the end of a procedure's body (proc(n)), with the line of the body that the command stood in.
     ///
-    /// `NoMemory` where the memory for it is refused.
+    /// `NoMemory` if memory for it is refused.
     pub fn add_procedure(&mut self, name: &[u8], line: u64) -> Result<(), NoMemory>
         ensures added { OnOk result (self.new ≡ with_procedure self.old name.now line) }
     {

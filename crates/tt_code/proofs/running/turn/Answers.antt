@@ -1,5 +1,5 @@
 use Rattle.std.proofs.Common.{◌≡◌, ◌+◌, ◌∙◌, ap, rules}
-use Rattle.tt_code.specs.Running.{stepped}
+use Rattle.tt_code.specs.inside.Turns.{stepped}
 use Rattle.tt_code.specs.declared.steps.Step.{Step}
 use Rattle.tt_code.proofs.Stepping.{goes, halts}
 use Rattle.tt_code.proofs.running.turn.Goals as goal
