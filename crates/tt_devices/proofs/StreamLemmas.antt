@@ -2,8 +2,7 @@ use Rattle.std.proofs.Common.{◌≡◌, ◌+◌, ℕ, List, ◌++◌, take, dro
 use Rattle.std.specs.Bool.{if◌then◌else◌}
 use Rattle.std.specs.Io.KnownBytes.{Consumes, Keeps}
 use Rattle.std.proofs.lemmas.List.{take-append-drop, drop-drop}
-use Rattle.tt_devices.specs.Streams.{Grows, GrowsByPart, Stays}
-use Rattle.tt_devices.specs.inside.Reading.{LosesPart}
+use Rattle.tt_devices.specs.Streams.{Grows, GrowsByPart, Stays, LosesPart}
 
 -- what a sink got grew by nothing where it stayed
 pub Grows-same : (got : Option (List ℕ)) → Grows got got []

@@ -12,6 +12,11 @@ Fills old new room count = Consumes old new (take count room) × (count ≡ 0 �
 abbrev pub Stays : Option (List ℕ) → Option (List ℕ) → Type 0
 Stays old new = Keeps old new
 
+-- some first bytes were taken from a source
+pub record LosesPart (old new : Option (List ℕ)) : Type 0 where
+  pub part : List ℕ
+  pub lost : Consumes old new part
+
 -- what a sink got grew by this piece
 abbrev pub Grows : Option (List ℕ) → Option (List ℕ) → List ℕ → Type 0
 Grows old new piece = Appends old new piece

@@ -2,7 +2,8 @@ ghost use Rattle.std.specs.Prelude.{◌≡◌, ◌≢◌, ◌≤◌, ◌^◌, �
 ghost use Rattle.std.specs.IoError.{error_kind};
 ghost use Rattle.tt_devices.specs.Faults.{Rises};
 ghost use Rattle.tt_devices.specs.Names.{HasName, KeepsOthers, Tells};
-ghost use Rattle.tt_devices.specs.inside.Reading.{Empties, IsLonger, LosesMore, LosesPart};
+ghost use Rattle.tt_devices.specs.Streams.{LosesPart};
+ghost use Rattle.tt_devices.specs.inside.Reading.{Empties, IsLonger, LosesMore};
 
 use crate::{Disk, Failed, Files, ReadAnswer, Sink, Source};
 use std::alloc::Global;

@@ -7,11 +7,6 @@ use Rattle.tt_devices.specs.Names.{Names}
 abbrev pub Empties : Option (List ℕ) → Option (List ℕ) → List ℕ → Type 0
 Empties old new bytes = Consumes old new bytes × IsAtEnd new
 
--- some first bytes were taken from a source
-pub record LosesPart (old new : Option (List ℕ)) : Type 0 where
-  pub part : List ℕ
-  pub lost : Consumes old new part
-
 -- more than so many first bytes were taken from a source
 pub record LosesMore (old new : Option (List ℕ)) (count : ℕ) : Type 0 where
   pub part : List ℕ
