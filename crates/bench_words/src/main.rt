@@ -36,7 +36,7 @@ const DENSE: [(&str, &[u8]); 3] = [
     ("a command of letters", b"a "),
 ];
 
-// How often each text is read; the least times are told.
+// How often each text is read; the least times are printed.
 const ROUNDS: usize = 16;
 
 const KIB: usize = 1 << 10;

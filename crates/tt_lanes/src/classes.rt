@@ -3,7 +3,8 @@ ghost use Rattle.std.specs.Prelude.{◌≡◌, ℕ, ◌+◌, ◌≤◌, Bool, le
 ghost use Rattle.std.specs.Int.{trailing_zeros, w64};
 ghost use Rattle.std.specs.List.{position_or_len};
 ghost use Rattle.std.specs.Simd.Lanes.{chunk};
-ghost use Rattle.tt_lanes.specs.Classes.{begins_character, is_blank, is_brace_or_backslash, is_newline, is_special, is_special_in_index, is_special_in_quotes};
+ghost use Rattle.tt_lanes.specs.Classes.{begins_character, is_blank, is_brace_or_backslash, is_newline, is_special};
+ghost use Rattle.tt_lanes.specs.Classes.{is_special_in_index, is_special_in_quotes};
 
 use std::simd::prelude::*;
 

@@ -1,6 +1,7 @@
 ghost use Rattle.std.specs.Prelude.{◌≡◌, ◌+◌, ◌≤◌, drop, length, not, take_while};
 ghost use Rattle.std.specs.List.{position_or_len};
-ghost use Rattle.tt_lanes.specs.Classes.{is_blank, is_brace_or_backslash, is_special, is_special_in_index, is_special_in_quotes};
+ghost use Rattle.tt_lanes.specs.Classes.{is_blank, is_brace_or_backslash, is_special, is_special_in_index};
+ghost use Rattle.tt_lanes.specs.Classes.{is_special_in_quotes};
 
 use crate::classes::{Brace, Index, LANES, NonBlank, Quoted, Special, Stop};
 

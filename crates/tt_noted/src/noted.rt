@@ -1,5 +1,6 @@
 //! The lock.
-ghost use Rattle.std.specs.Prelude.{◌≡◌, ◌%◌, ◌-◌, ◌<◌, ◌≤◌, [], ◌∷◌, ◌++◌, length, replicate, slice_get, Some, None, IfOk, IfErr, vec_len, vec_capacity};
+ghost use Rattle.std.specs.Prelude.{◌≡◌, ◌%◌, ◌-◌, ◌<◌, ◌≤◌, [], ◌∷◌, ◌++◌, length, replicate, slice_get, Some, None};
+ghost use Rattle.std.specs.Prelude.{IfOk, IfErr, vec_len, vec_capacity};
 ghost use Rattle.std.specs.List.{enumerate_from};
 
 use crate::pass::{Pass, Turn};
@@ -56,7 +57,9 @@ pub struct Noted<T: Tie> {
 
 impl<T: Tie> Noted<T> {
     ghost use Rattle.tt_noted.specs.inside.Rule.{view, holding, leaving, FitsAll, LeavesFit};
-    ghost use Rattle.tt_noted.specs.Passes.{count_of, number_of, note_of, turn_of, entered_of, IsPassOf, IsSamePass, IsFresh, AreFresh, FitsNotes, KeepsFit, AreAllPassesOf, FitsNotesOf, notes_in};
+    ghost use Rattle.tt_noted.specs.Passes.{count_of, number_of, note_of, turn_of, entered_of, IsPassOf, IsSamePass};
+    ghost use Rattle.tt_noted.specs.Passes.{IsFresh, AreFresh, FitsNotes, KeepsFit, AreAllPassesOf, FitsNotesOf};
+    ghost use Rattle.tt_noted.specs.Passes.{notes_in};
 
     // The lock, with the seat that has all notes.
     fn lay(
@@ -66,7 +69,8 @@ impl<T: Tie> Noted<T> {
         note: &T::Note,
     ) -> Result<(Noted<T>, Place<T>), T::State>
         requires { (0 < n) × T.fits state (replicate n note.now) }
-        ensures ok { IfOk result (λ r. (count_of r.0 ≡ n) × (r.1.table_id ≡ r.0.table.shared.table_id) × (r.1.me ≡ (view n (enumerate_from 0 (replicate n note.now)) None, []))) }
+        ensures ok { IfOk result (λ r. (count_of r.0 ≡ n) × (r.1.table_id ≡ r.0.table.shared.table_id)
+            × (r.1.me ≡ (view n (enumerate_from 0 (replicate n note.now)) None, []))) }
         ensures err { IfErr result (λ s. s ≡ state) }
     {
         let Ok(mut slots) = Vec::with_capacity(alloc, 1) else {
@@ -97,7 +101,8 @@ impl<T: Tie> Noted<T> {
 
     // Gives each note a pass of its own.
     fn deal(&self, mut seat: Place<T>, n: u32, note: &T::Note, passes: &mut Vec<Pass<T>>)
-        requires seat { (n ≡ count_of self.now) × (seat.table_id ≡ self.now.table.shared.table_id) × (seat.me ≡ (view n (enumerate_from 0 (replicate n note.now)) None, [])) }
+        requires seat { (n ≡ count_of self.now) × (seat.table_id ≡ self.now.table.shared.table_id)
+            × (seat.me ≡ (view n (enumerate_from 0 (replicate n note.now)) None, [])) }
         requires room { (passes.old.items ≡ []) × (n ≤ vec_capacity passes.old) }
         ensures { AreFresh self.now n note.now passes.new.items }
     {
@@ -147,7 +152,8 @@ impl<T: Tie> Noted<T> {
         requires has_note { (c : _) × (slice_get seat.old.me.0.notes 0 ≡ Some c) }
         requires no_slot { seat.old.me.1 ≡ [] }
         ensures same { (seat.new.table_id ≡ seat.old.table_id) × (seat.new.id ≡ seat.old.id) }
-        ensures took { (state : _) × (seat.new.me ≡ (holding seat.old.me.0 state, (0, Some state) ∷ [])) × FitsAll T.fits seat.old.me.0 state }
+        ensures took { (state : _) × (seat.new.me ≡ (holding seat.old.me.0 state, (0, Some state) ∷ []))
+            × FitsAll T.fits seat.old.me.0 state }
     {
         let shared = &self.table.shared;
         let mut tries = 0;
@@ -251,7 +257,8 @@ impl<T: Tie> Noted<T> {
     }
 
     /// Puts the state back, gives the pass its new note and the lock up, and wakes the passes that rest.
-    /// Whatever the other notes are, the state has to fit with the new note if it fitted with the old one as it was entered.
+    /// Whatever the other notes are, the state has to fit with the new note if it fitted with the old one as it was
+    /// entered.
     #[inline]
     pub fn leave(&self, pass: &mut Pass<T>, turn: Turn<T>, note: T::Note)
         requires own { IsPassOf self.now pass.old }

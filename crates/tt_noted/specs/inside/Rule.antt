@@ -1,6 +1,7 @@
 -- The rule of the table under the lock, and what its steps tell. The table has one word and one slot.
 -- While a pass has its turn word 0 is odd, and the slot is with that pass. Else it is even, and the slot has the state.
-use Rattle.std.specs.Prelude.{◌≡◌, ◌≢◌, ℕ, ◌%◌, ◌<◌, List, [], ◌∷◌, ◌++◌, map, length, take, drop, replicate, slice_get, slice_index, slice_set, Option, Some, None, IfSome}
+use Rattle.std.specs.Prelude.{◌≡◌, ◌≢◌, ℕ, ◌%◌, ◌<◌, List, [], ◌∷◌, ◌++◌, map, length, take, drop, replicate, slice_get}
+use Rattle.std.specs.Prelude.{slice_index, slice_set, Option, Some, None, IfSome}
 use Rattle.std.specs.List.{enumerate_from}
 use mathlib.Core.Option.{some}
 use lib.ListN.{get_elem?}
@@ -108,7 +109,7 @@ module _ {S N : Type 0} where
     pub at : slice_get own.notes (owner place).1 ≡ Some (place, note)
 
   -- `notes` has the notes of all views, each at its place. Where word 0 is even, the slot has a state that fits them.
-  -- Where it is odd, exactly one view is the holder's, and the state as it was taken, which is in that view, fits them
+  -- If it is odd, exactly one view is the holder's, and the state as it was taken, which is in that view, fits them
   pub record IsKept (fits : S → List N → Type 0) (count : ℕ) (s : Board S N) : Type 0 where
     pub notes : List N
     pub owner : ℕ → ℕ × ℕ
