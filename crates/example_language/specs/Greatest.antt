@@ -1,28 +1,32 @@
--- A small language as an example: a loop that asks for numbers and keeps the greatest, and events that it serves.
+-- What the jobs mean: a loop that asks for numbers and keeps the greatest, and events that are served by it.
 use Rattle.std.specs.Prelude.{ℕ, zero, suc, max, [], ◌∷◌, Some, None, ◌≡◌}
 use Rattle.tt_evaluation.specs.Plans.{Plan, Ends, Asks, Calls, Goes, Stop, Fin, Spent}
 use Rattle.tt_evaluation.specs.Evaluation.{eval}
-use Rattle.tt_evaluation.specs.declared.example.Job.{Job}
-use Rattle.tt_evaluation.specs.declared.example.Job.TheVariants as job
-use Rattle.tt_evaluation.specs.declared.example.Want.{Want}
-use Rattle.tt_evaluation.specs.declared.example.Want.TheVariants.{Number, Deliver}
-use Rattle.tt_evaluation.specs.declared.example.Frame.{Frame}
-use Rattle.tt_evaluation.specs.declared.example.Frame.TheVariants as frame
-use Rattle.tt_evaluation.specs.declared.example.Asking.{Asking}
-use Rattle.tt_evaluation.specs.declared.example.Asking.TheVariants as asking
+use Rattle.example_language.specs.declared.language.Job.{Job}
+use Rattle.example_language.specs.declared.language.Job.TheVariants as job
+use Rattle.example_language.specs.declared.language.Want.{Want}
+use Rattle.example_language.specs.declared.language.Want.TheVariants.{Number, Deliver}
+use Rattle.example_language.specs.declared.language.Frame.{Frame}
+use Rattle.example_language.specs.declared.language.Frame.TheVariants as frame
+use Rattle.example_language.specs.declared.language.Asking.{Asking}
+use Rattle.example_language.specs.declared.language.Asking.TheVariants as asking
 
-abbrev pub ExamplePlan : Type 0
-ExamplePlan = Plan Job Want ℕ ℕ ℕ
+-- a plan of the language
+abbrev pub JobPlan : Type 0
+JobPlan = Plan Job Want ℕ ℕ ℕ
 
-abbrev pub on_got : Asking → ℕ → ℕ → ExamplePlan
+-- what an asking means
+abbrev pub on_got : Asking → ℕ → ℕ → JobPlan
 on_got (asking.Counts n) got state = Goes (job.Greatest n) (max state got)
 on_got (asking.Delivers outcome) got state = Ends outcome state
 
-abbrev pub after : Frame → ℕ → ℕ → ExamplePlan
+-- what a frame means
+abbrev pub after : Frame → ℕ → ℕ → JobPlan
 after frame.Same outcome state = Ends outcome state
 after frame.Delivers outcome state = Asks (Deliver outcome) state (on_got (asking.Delivers outcome))
 
-abbrev pub plan : Job → ℕ → ExamplePlan
+-- what a job means
+abbrev pub plan : Job → ℕ → JobPlan
 plan (job.Greatest zero) state = Ends state state
 plan (job.Greatest (suc n)) state = Asks Number state (λ got st. Goes (job.Greatest n) (max st got))
 plan (job.Event post n) state = Calls (Some post) (job.Delivery n) state (λ o st. Ends o st)

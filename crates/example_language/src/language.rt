@@ -1,8 +1,7 @@
-//! A small language as an example: a loop that asks for numbers and keeps the greatest, and events that are served by
-//! it.
+//! The language: a loop that asks for numbers and keeps the greatest, and events that are served by it.
 
-use crate::{Language, Move};
 use std::alloc::Global;
+use tt_evaluation::{Language, Move};
 use tt_text::NoMemory;
 
 /// A job.
@@ -63,7 +62,7 @@ impl Language for Greatest {
 
     type Asking = Asking;
 
-    ghost use Rattle.tt_evaluation.specs.Example.{after, on_got, plan};
+    ghost use Rattle.example_language.specs.Greatest.{after, on_got, plan};
 
     ghost plan = { plan };
 

@@ -62,8 +62,10 @@ pub fn total_of<R: Threads + Wait + Sync>(
     };
     let shared = &lock;
     let work = |_: usize, pass: &mut Pass<Summed>|
-        requires { IsPassOf shared.now pass.now × (turn_of pass.now ≡ None) × (count_of shared.now ≤ 64) × (note_of pass.now ≡ Some 0) }
-        ensures { IsSamePass shared.entry.now pass.entry.now pass.exit.now × (turn_of pass.exit.now ≡ None) × (note_of pass.exit.now ≡ Some rounds) }
+        requires { IsPassOf shared.now pass.now × (turn_of pass.now ≡ None) × (count_of shared.now ≤ 64)
+            × (note_of pass.now ≡ Some 0) }
+        ensures { IsSamePass shared.entry.now pass.entry.now pass.exit.now × (turn_of pass.exit.now ≡ None)
+            × (note_of pass.exit.now ≡ Some rounds) }
     { add_many(rt, shared, pass, rounds) };
     thread::for_each_mut(rt, passes.as_mut_slice(), threads as usize, &work);
     Ok(lock.close(passes))

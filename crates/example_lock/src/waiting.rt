@@ -132,8 +132,8 @@ impl Work<u64> for EnterWhileHeld {
     }
 }
 
-/// Passes add one 10,000 times each, leave with news or quietly, and rest, all at random. The first never rests and adds
-/// nothing, and leaves with news until the others have ended.
+/// Passes add one 10,000 times each, leave with news or quietly, and rest, all at random. The first never rests and
+/// adds nothing, and leaves with news until the others have ended.
 #[derive(Drop)]
 pub struct AtRandom {
     /// How many of the others have ended.

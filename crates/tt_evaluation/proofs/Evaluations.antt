@@ -2,7 +2,7 @@
 use Rattle.std.proofs.Common.{◌≡◌, ◌<◌, ℕ, zero, suc, List, sym, ◌∙◌, arith}
 use Rattle.tt_evaluation.specs.Plans.{Evaluation}
 use Rattle.tt_evaluation.specs.Evaluation.{Meaning, eval, eval_within}
-use Rattle.tt_evaluation.specs.Laws.{FollowsPlans}
+use Rattle.tt_evaluation.specs.EvaluationLaws.{FollowsPlans}
 use Rattle.tt_evaluation.proofs.Agreement.{depths_agree, follow_agree, leaves_within}
 
 pub eval_is : {Job Want Got Outcome State : Type 0} (plan : Meaning Job Want Got Outcome State) → FollowsPlans plan (eval plan)

@@ -3,7 +3,7 @@ use Rattle.std.proofs.Common.{◌≡◌, ◌≤◌, ℕ, zero, suc, ◌+◌, ◌
 use Rattle.std.specs.Prelude.{⊤}
 use Rattle.tt_evaluation.specs.Plans.{Plan, Ends, Asks, Calls, Goes, Course, Stop, Fin, Spent, Evaluation, Rest, then_do, served_by, follow}
 use Rattle.tt_evaluation.specs.Evaluation.{Meaning, eval, eval_within}
-use Rattle.tt_evaluation.specs.Laws.{OneWantLaw}
+use Rattle.tt_evaluation.specs.EvaluationLaws.{OneWantLaw}
 
 -- a course, and that with one step more
 abbrev Extends : {Want Got Outcome State : Type 0} → Course Want Got Outcome State → Course Want Got Outcome State → Type 0

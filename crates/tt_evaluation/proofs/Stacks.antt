@@ -3,7 +3,8 @@ use Rattle.std.proofs.Common.{◌≡◌, ℕ, suc, ◌+◌, List, [], ◌∷◌,
 use Rattle.std.specs.Prelude.{Some}
 use Rattle.tt_evaluation.specs.Plans.{Plan, Ends, Course, Stop, Fin, Evaluation, spend, follow}
 use Rattle.tt_evaluation.specs.Evaluation.{Meaning, eval}
-use Rattle.tt_evaluation.specs.Frames.{After, OnGot, finish, from_halt, from_move, from_standing, plan_of, serving_of, with_answer, within}
+use Rattle.tt_evaluation.specs.Frames.{After, OnGot, finish, from_halt, plan_of, serving_of, with_answer, within}
+use Rattle.tt_evaluation.specs.inside.Moves.{from_move, from_standing}
 use Rattle.tt_evaluation.specs.declared.language.Move.{Move}
 use Rattle.tt_evaluation.specs.declared.language.Move.TheVariants.{Call}
 use Rattle.tt_evaluation.specs.declared.stack.Standing.{Standing}

@@ -1,15 +1,13 @@
 -- Frames: what an interpreter keeps of the plans that are begun. A frame means what comes after an outcome, and an
 -- asking what comes after an answer.
-use Rattle.std.specs.Prelude.{ℕ, ◌+◌, ◌*◌, ◌<◌, Bool, true, false, List, [], ◌∷◌, ◌++◌, length, Option, Some, None, is_some, ⊤}
-use Rattle.tt_evaluation.specs.Plans.{Plan, Ends, Asks, Calls, Goes, Course, Stop, Fin, Spent, Evaluation, then_do, posts_of, served_by, follow}
+use Rattle.std.specs.Prelude.{ℕ, Bool, true, false, List, [], ◌∷◌, ◌++◌, Option, Some, None}
+use Rattle.std.specs.Prelude.{is_some}
+use Rattle.tt_evaluation.specs.Plans.{Plan, Ends, Asks, Calls, Goes, Course, Stop, Fin, Spent, Evaluation, then_do}
+use Rattle.tt_evaluation.specs.Plans.{posts_of, served_by, follow}
 use Rattle.tt_evaluation.specs.Evaluation.{Meaning, eval}
 use Rattle.tt_evaluation.specs.declared.language.Move.{Move}
 use Rattle.tt_evaluation.specs.declared.language.Move.TheVariants.{Done, Ask, Call, Goto}
 use Rattle.tt_evaluation.specs.declared.stack.Pending.{Pending}
-use Rattle.tt_evaluation.specs.declared.stack.Standing.{Standing}
-use Rattle.tt_evaluation.specs.declared.stack.Standing.TheVariants as standing
-use Rattle.tt_evaluation.specs.declared.stack.Next.{Next}
-use Rattle.tt_evaluation.specs.declared.stack.Next.TheVariants.{Moves, Stands}
 use Rattle.tt_evaluation.specs.declared.stack.Halt.{Halt}
 use Rattle.tt_evaluation.specs.declared.stack.Halt.TheVariants.{Wants, Ended}
 use Rattle.tt_evaluation.specs.declared.stack.Stack.{Stack}
@@ -74,7 +72,7 @@ abbrev pub after_answer :
 after_answer plan after on_got stack got answers =
     with_answer plan after on_got stack.asking stack.calls.items stack.state stack.steps got answers
 
--- the course of a stack that halts there, after further answers: where there are none it stops at what it wants
+-- the course of a stack that halts there, after further answers: if there are none it stops at what it wants
 abbrev pub from_halt :
     {Job Want Got Outcome State Frame Asking : Type 0} → Meaning Job Want Got Outcome State
     → After Job Want Got Outcome State Frame → OnGot Job Want Got Outcome State Asking → Halt Want Outcome
@@ -87,52 +85,7 @@ from_halt plan after on_got (Ended outcome) stack answers = Fin outcome stack.st
 abbrev pub is_waiting : {State Frame Asking : Type 0} → Stack State Frame Asking → Bool
 is_waiting stack = is_some stack.asking
 
--- a halt where something is wanted
+-- a halt at which something is wanted
 abbrev pub wants : {Want Outcome : Type 0} → Halt Want Outcome → Bool
 wants (Wants want) = true
 wants (Ended outcome) = false
-
--- inside: the course from where moves come to
-abbrev pub from_standing :
-    {Job Want Got Outcome State Frame Asking : Type 0} → Meaning Job Want Got Outcome State
-    → After Job Want Got Outcome State Frame → OnGot Job Want Got Outcome State Asking
-    → Standing Want Outcome Asking → List (Pending Frame) → State → ℕ → List Got → Course Want Got Outcome State
-from_standing plan after on_got (standing.Asks want asking) calls state n answers =
-    finish (eval plan) after calls (follow (eval plan) (Asks want state (on_got asking)) n answers)
-from_standing plan after on_got (standing.Ends outcome) calls state n answers = Fin outcome state n answers
-
--- inside: the course from a move on
-abbrev pub from_move :
-    {Job Want Got Outcome State Frame Asking : Type 0} → Meaning Job Want Got Outcome State
-    → After Job Want Got Outcome State Frame → OnGot Job Want Got Outcome State Asking
-    → Move Job Want Outcome Frame Asking → List (Pending Frame) → State → ℕ → List Got
-    → Course Want Got Outcome State
-from_move plan after on_got move calls state n answers =
-    finish (eval plan) after calls (follow (eval plan) (plan_of after on_got move state) n answers)
-
--- inside: the course from what comes next
-abbrev pub from_next :
-    {Job Want Got Outcome State Frame Asking : Type 0} → Meaning Job Want Got Outcome State
-    → After Job Want Got Outcome State Frame → OnGot Job Want Got Outcome State Asking
-    → Next Job Want Outcome Frame Asking → List (Pending Frame) → State → ℕ → List Got
-    → Course Want Got Outcome State
-from_next plan after on_got (Moves move) calls state n answers = from_move plan after on_got move calls state n answers
-from_next plan after on_got (Stands standing) calls state n answers =
-    from_standing plan after on_got standing calls state n answers
-
--- inside: what falls with each move
-abbrev pub move_weight : {Job Want Outcome Frame Asking : Type 0} → Move Job Want Outcome Frame Asking → ℕ
-move_weight (Done outcome) = 0
-move_weight (Ask want asking) = 1
-move_weight (Call serves job frame) = 1
-move_weight (Goto job) = 1
-
-abbrev pub weight :
-    {Job Want Outcome Frame Asking : Type 0} → Move Job Want Outcome Frame Asking → List (Pending Frame) → ℕ → ℕ
-weight move calls n = 3 * n + 2 * length calls + move_weight move
-
-abbrev pub Falls :
-    {Job Want Outcome Frame Asking : Type 0} → Next Job Want Outcome Frame Asking → List (Pending Frame) → ℕ
-    → (before : ℕ) → Type 0
-Falls (Moves move) calls n before = weight move calls n < before
-Falls (Stands standing) calls n before = ⊤

@@ -1,6 +1,6 @@
 pub mod Evaluation
-pub mod Example
+pub mod EvaluationLaws
 pub mod Frames
-pub mod Laws
 pub mod Machines
 pub mod Plans
+pub mod inside

@@ -20,7 +20,7 @@ pub data Course (Want Got Outcome State : Type 0) : Type 0 where
   Fin : Outcome → State → (steps : ℕ) → List Got → Course Want Got Outcome State
   Spent : Course Want Got Outcome State
 
--- the course of a job from a state on, with so many steps, where these answers are given
+-- the course of a job from a state on, with so many steps, if these answers are given
 abbrev pub Evaluation : (Job Want Got Outcome State : Type 0) → Type 0
 Evaluation Job Want Got Outcome State = Job → State → ℕ → List Got → Course Want Got Outcome State
 
@@ -28,7 +28,7 @@ Evaluation Job Want Got Outcome State = Job → State → ℕ → List Got → C
 abbrev pub Rest : (Want Got Outcome State : Type 0) → Type 0
 Rest Want Got Outcome State = Outcome → State → ℕ → List Got → Course Want Got Outcome State
 
--- the rest, where there is an outcome
+-- the rest, if there is an outcome
 abbrev pub then_do :
     {Want Got Outcome State : Type 0} → Course Want Got Outcome State → Rest Want Got Outcome State
     → Course Want Got Outcome State
@@ -41,7 +41,7 @@ abbrev pub posts_of : Option ℕ → List ℕ
 posts_of None = []
 posts_of (Some post) = post ∷ []
 
--- a course while a post is served: a stop tells it, behind those that are served further in
+-- a course while a post is served: a stop names it, behind those that are served further in
 abbrev pub served_by :
     {Want Got Outcome State : Type 0} → (serves : Option ℕ) → Course Want Got Outcome State
     → Course Want Got Outcome State

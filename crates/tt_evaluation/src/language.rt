@@ -48,7 +48,7 @@ pub trait Language {
 
     /// Begins a job.
     ///
-    /// `NoMemory` where memory is refused.
+    /// `NoMemory` if memory is refused.
     fn begin(
         alloc: Global,
         job: Self::Job,
@@ -58,7 +58,7 @@ pub trait Language {
 
     /// Goes on with the outcome of the job that was called.
     ///
-    /// `NoMemory` where memory is refused.
+    /// `NoMemory` if memory is refused.
     fn go_on(
         alloc: Global,
         frame: Self::Frame,
@@ -69,7 +69,7 @@ pub trait Language {
 
     /// Goes on with the answer to what was asked.
     ///
-    /// `NoMemory` where memory is refused.
+    /// `NoMemory` if memory is refused.
     fn take(
         alloc: Global,
         asking: Self::Asking,

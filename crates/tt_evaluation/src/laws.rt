@@ -1,6 +1,5 @@
-//! Laws about the definitions, each proved as the contract of a function that does nothing.
-ghost use Rattle.tt_evaluation.specs.Example.{WorkedPlans};
-ghost use Rattle.tt_evaluation.specs.Laws.{EquationLaw, MoreStepsLaw, OneWantLaw};
+//! Laws of evaluation, proved as the contract of a function that does nothing.
+ghost use Rattle.tt_evaluation.specs.EvaluationLaws.{EquationLaw, MoreStepsLaw, OneWantLaw};
 
 use crate::Language;
 
@@ -10,9 +9,4 @@ pub fn evaluation_follows_plans<L: Language>()
     ensures equation { EquationLaw L.plan }
     ensures more { MoreStepsLaw L.plan }
     ensures one { OneWantLaw L.plan }
-{}
-
-/// What jobs of the example come to.
-pub fn worked_plans()
-    ensures { WorkedPlans }
 {}

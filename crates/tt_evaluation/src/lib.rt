@@ -2,7 +2,6 @@
 //! goes on with the answer. The language is a parameter.
 #![tactic(auto)]
 
-pub mod example;
 mod language;
 pub mod laws;
 mod machine;
@@ -11,6 +10,3 @@ mod stack;
 pub use language::{Language, Move};
 pub use machine::{Machine, outcome, request, resume, start};
 pub use stack::{Halt, STEPS, Stack, begin, is_waiting, turn};
-
-#[cfg(test)]
-mod tests;

@@ -7,8 +7,8 @@ use crate::{Halt, Language, STEPS, Stack, begin, is_waiting, turn};
 use std::alloc::Global;
 use tt_text::NoMemory;
 
-/// A stack that keeps where it halted: an interpreter of a language, which stops at each thing that it wants, and goes on
-/// with the answer.
+/// A stack that keeps where it halted: an interpreter of a language. It stops at each thing that it wants, and goes
+/// on with the answer.
 #[derive(Debug, Drop)]
 pub struct Machine<Want, Outcome, State, Frame, Asking> {
     stack: Stack<State, Frame, Asking>,
@@ -17,7 +17,7 @@ pub struct Machine<Want, Outcome, State, Frame, Asking> {
 
 /// A machine that has this job to do, from this state on, at the first thing that it wants.
 ///
-/// `NoMemory` where memory is refused, or all steps are taken.
+/// `NoMemory` if memory is refused, or all steps are taken.
 pub fn start<L: Language>(
     alloc: Global,
     job: L::Job,
@@ -33,7 +33,7 @@ pub fn start<L: Language>(
 
 /// Goes on with the answer, to the next thing that the machine wants or to its end.
 ///
-/// `NoMemory` where memory is refused, or all steps are taken; then the machine is only fit to be dropped.
+/// `NoMemory` if memory is refused, or all steps are taken; then the machine is only fit to be dropped.
 pub fn resume<L: Language>(
     alloc: Global,
     machine: &mut Machine<L::Want, L::Outcome, L::State, L::Frame, L::Asking>,
@@ -48,7 +48,7 @@ pub fn resume<L: Language>(
     Ok(())
 }
 
-/// What the machine wants; `None` exactly where it waits for nothing. It takes no memory.
+/// What the machine wants; `None` exactly if it waits for nothing. It takes no memory.
 pub fn request<L: Language>(
     machine: &Machine<L::Want, L::Outcome, L::State, L::Frame, L::Asking>,
 ) -> Option<&L::Want>
@@ -65,7 +65,7 @@ pub fn request<L: Language>(
     }
 }
 
-/// What all came to; `None` exactly where it isn't evaluated yet. It takes no memory.
+/// What all came to; `None` exactly if it isn't evaluated yet. It takes no memory.
 pub fn outcome<L: Language>(
     machine: &Machine<L::Want, L::Outcome, L::State, L::Frame, L::Asking>,
 ) -> Option<&L::Outcome>

@@ -1,6 +1,9 @@
 ghost use Rattle.std.specs.Prelude.{◌≡◌, ◌+◌, List, IfOk, IsTrue};
 ghost use Rattle.tt_evaluation.specs.Evaluation.{eval};
-ghost use Rattle.tt_evaluation.specs.Frames.{Falls, after_answer, from_halt, from_move, from_next, from_standing, is_waiting, plan_of, wants, weight};
+ghost use Rattle.tt_evaluation.specs.Frames.{after_answer, from_halt};
+ghost use Rattle.tt_evaluation.specs.inside.Moves.{Falls, from_move, from_next, from_standing};
+ghost use Rattle.tt_evaluation.specs.Frames.{is_waiting, plan_of, wants};
+ghost use Rattle.tt_evaluation.specs.inside.Moves.{weight};
 ghost use Rattle.tt_evaluation.specs.Plans.{follow};
 ghost use Rattle.tt_evaluation.specs.declared.language.Move.TheVariants.{Done};
 
@@ -57,7 +60,7 @@ pub struct Stack<State, Frame, Asking> {
 
 /// A stack that has this job to do, from this state on, and where it halts first.
 ///
-/// `NoMemory` where memory is refused, or all steps are taken.
+/// `NoMemory` if memory is refused, or all steps are taken.
 pub fn begin<L: Language>(
     alloc: Global,
     job: L::Job,
@@ -87,7 +90,7 @@ pub fn begin<L: Language>(
 
 /// Goes on with the answer to what the stack wants, and answers where it halts next.
 ///
-/// `NoMemory` where memory is refused, or all steps are taken; then the stack is only fit to be dropped.
+/// `NoMemory` if memory is refused, or all steps are taken; then the stack is only fit to be dropped.
 pub fn turn<L: Language>(
     alloc: Global,
     stack: &mut Stack<L::State, L::Frame, L::Asking>,

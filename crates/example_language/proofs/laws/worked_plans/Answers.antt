@@ -1,6 +1,6 @@
 use Rattle.std.proofs.Common.{refl}
 use Rattle.tt_evaluation.specs.Evaluation.{eval}
-use Rattle.tt_evaluation.proofs.laws.worked_plans.Goals as goal
+use Rattle.example_language.proofs.laws.worked_plans.Goals as goal
 
 -- they are computed
 pub returns : goal.returns

@@ -1,6 +1,6 @@
 use Rattle.std.proofs.Common.{refl}
 use Rattle.std.specs.Prelude.{Some}
-use Rattle.tt_evaluation.specs.Frames.{from_move}
+use Rattle.tt_evaluation.specs.inside.Moves.{from_move}
 use Rattle.tt_evaluation.specs.declared.stack.Stack.{Stack}
 use Rattle.tt_evaluation.proofs.Stacks.{halts}
 use Rattle.tt_evaluation.proofs.stack.run.Goals as goal

@@ -1,5 +1,5 @@
 use Rattle.std.proofs.Common.{◌≡◌}
-use Rattle.tt_evaluation.specs.Frames.{from_move, weight}
+use Rattle.tt_evaluation.specs.inside.Moves.{from_move, weight}
 use Rattle.tt_evaluation.proofs.stack.stand.Given as goal
 
 abbrev pub invariant-moves : goal.invariant-moves
