@@ -3,7 +3,7 @@
 use Rattle.std.specs.Prelude.{ℕ, nat_lt, ℤ, pos, negsuc, remove, slice_index_or, List, [], ◌∷◌, ◌++◌, length, codes, Option, Some, None, Result, Ok, Err, false, if◌then◌else◌}
 use Rattle.std.specs.Fmt.{signed_decimal}
 use Rattle.std.specs.List.{flat_map}
-use Rattle.tt_lists.specs.Answers.{count_answer, insert_answer, item_answer, range_answer, replace_answer}
+use Rattle.tt_lists.specs.Commands.{count_answer, insert_answer, item_answer, range_answer, replace_answer}
 use Rattle.tt_lists.specs.Indices.{index_of}
 use Rattle.tt_lists.specs.Messages.{bad_index_message, list_message}
 use Rattle.tt_lists.specs.Places.{place_in}
