@@ -12,13 +12,14 @@ use Rattle.tt_vars.specs.declared.answers.VarFault.{VarFault}
 use Rattle.tt_vars.specs.Variables.{Name}
 use Rattle.tt_store.specs.declared.answers.Answer.TheVariants as answers
 use Rattle.tt_store.specs.Held.{Drops, Held, IsWritten, Meaning}
-use Rattle.tt_store.specs.Scalars.{ended_by}
+use Rattle.tt_store.specs.Scalars.{outcome_by}
 use Rattle.tt_store.specs.Spots.{spot}
 use Rattle.tt_variable_commands.specs.ArrayChanging as changing
 use Rattle.tt_variable_commands.specs.ArrayChanging.{DropsEach, DropsIf, DropsLike, DropsOne, DropsWhole, SetsEach, SetsIf, SetsItems, SetsOne, SetsPairs, is_paired, message_by, none_set, pairs_in}
 use Rattle.tt_variable_commands.specs.ArrayCommands.{IsSubcommand, Runs, RunsIf, array, first_named, is_array, row_of, subcommands}
 use Rattle.tt_variable_commands.specs.ArrayReading as reading
-use Rattle.tt_variable_commands.specs.ArrayReading.{Counts, Gets, HasIndicesIf, HasSizeIf, Lists, Names, PairsOf, TellsSize, exists_told, is_element, names_like, pair_of, size_told}
+use Rattle.tt_variable_commands.specs.Vocabulary.{is_element}
+use Rattle.tt_variable_commands.specs.ArrayReading.{Counts, Gets, HasIndicesIf, HasSizeIf, Lists, Names, PairsOf, TellsSize, exists_told, names_like, pair_of, size_told}
 use Rattle.laws_language.proofs.Once.{Once, Only, fails-once, find-each, goes-fails, goes-once, once-by, once-made, once-told, only-made, only-told}
 use Rattle.laws_language.proofs.Held.{drops-once, finds-once, indices-once, is_written-once, size_of-once}
 use Rattle.laws_language.proofs.VariableCommands.{fails_with-once, refuses-once}
@@ -110,7 +111,7 @@ sets-same name (changing.fails {index = index} {text = text} sets) (changing.fai
 sets_pairs-once : (element : Bool) (name : Name) (items : List (List ℕ)) (old : Held) → Once (SetsPairs element name items old)
 sets_pairs-once true name items old = once-told (none_set name items) old
 sets_pairs-once false name items old =
-    once-by (λ (message : Option (List ℕ)) (new : Held). SetsEach name (pairs_in items) old message new) ended_by
+    once-by (λ (message : Option (List ℕ)) (new : Held). SetsEach name (pairs_in items) old message new) outcome_by
     (λ one other new next is its. sets-same name is its)
 
 sets_if-once : (paired : Bool) (name : Name) (items : List (List ℕ)) (old : Held) → Once (SetsIf paired name items old)

@@ -12,7 +12,7 @@ use Rattle.tt_procedures.specs.declared.calling.Called.TheVariants as called
 use Rattle.tt_procedures.specs.declared.procedure.Parameter.{Parameter}
 use Rattle.tt_script.specs.Names.{plain_name}
 use Rattle.tt_store.specs.Commands as variables
-use Rattle.tt_store.specs.Held.{Held, ended, entered, is_seen, nothing_held, unwatched, watched}
+use Rattle.tt_store.specs.Held.{Held, after_end, entered, is_seen, nothing_held, unwatched, watched}
 use Rattle.tt_store.specs.declared.answers.Answer.{Answer}
 use Rattle.tt_store.specs.declared.answers.Answer.TheVariants as answers
 use Rattle.tt_outcomes.specs.declared.got.Got.TheVariants as gots
@@ -106,7 +106,7 @@ answers-once (want.RunWords words) old one other new next is its =
     let same = runs-once words old is.0 its.0 new next is.1 its.1 in
     (is.2 ∙ ap (got_of words) same.0 ∙ sym its.2, same.1)
 answers-once want.Enter old one other new next is its = once-told answering.nothing (with_store old (entered old.store)) one other new next is its
-answers-once (want.Leave body) old one other new next is its = once-told answering.nothing (with_store old (ended old.store)) one other new next is its
+answers-once (want.Leave body) old one other new next is its = once-told answering.nothing (with_store old (after_end old.store)) one other new next is its
 answers-once (want.Watch name) old one other new next is its = once-told answering.nothing (with_store old (watched name old.store)) one other new next is its
 answers-once want.Seen old one other new next is its = once-told (truth (is_seen old.store)) old one other new next is its
 answers-once want.Unwatch old one other new next is its = once-told answering.nothing (with_store old (unwatched old.store)) one other new next is its

@@ -9,9 +9,9 @@ use Rattle.tt_vars.specs.declared.answers.Written.TheVariants.{Yes, No}
 use Rattle.tt_vars.specs.declared.variable.Place.{Place}
 use Rattle.tt_vars.specs.Links as variables
 use Rattle.tt_vars.specs.Variables.{Frame, Name}
-use Rattle.tt_store.specs.Held.{AreMarked, AreSet, Calls, Drops, Finds, Gives, HasIndices, HasSize, Held, IsMarked, IsRead, IsThere, IsWritten, LinksTo, Marks, Reads, Sets, is_there, more, none, place, stored, value_of, with_levels}
+use Rattle.tt_store.specs.Held.{AreMarked, AreSet, Calls, Drops, Finds, Gives, HasIndices, HasSize, Held, IsMarked, IsRead, IsThere, IsWritten, LinksTo, Marks, ReadsWord, Sets, is_there, more, none, place, stored, value_of, with_levels}
 use Rattle.tt_store.specs.Levels.{called, with_frames}
-use Rattle.tt_store.specs.Spots.{place_in, spot, spot_of, told}
+use Rattle.tt_store.specs.Spots.{place_in, spot, spot_of, full_name}
 use Rattle.laws_language.proofs.Once.{Once, Only, once-by, only-made, only-told}
 use Rattle.laws_language.proofs.Variables.{links-once, names-once, reads-once, removes-once, same-once, size-once, writes-once}
 
@@ -21,9 +21,9 @@ pub finds-once : (held : Held) (spot : _) → Only (Finds held spot)
 finds-once held spot = reads-once held.levels.frames (place held spot)
 
 pub is_read-once : (held : Held) (name : Name) (index : Option Name) → Only (IsRead held name index)
-is_read-once held name index = only-made (Finds held (spot name index)) (value_of (told name index)) (finds-once held (spot name index))
+is_read-once held name index = only-made (Finds held (spot name index)) (value_of (full_name name index)) (finds-once held (spot name index))
 
-pub reads_word-once : (word : Name) (held : Held) → Only (Reads word held)
+pub reads_word-once : (word : Name) (held : Held) → Only (ReadsWord word held)
 reads_word-once word held = only-made (Finds held (spot_of word)) (value_of word) (finds-once held (spot_of word))
 
 pub is_there-once : (word : Name) (held : Held) → Only (IsThere word held)
@@ -70,7 +70,7 @@ sets-once old spot text one other new next is its =
 
 pub is_written-once : (old : Held) (name : Name) (index : Option Name) (text : List ℕ) → Once (IsWritten old name index text)
 is_written-once old name index text =
-    once-by (λ (written : Written) (new : Held). Sets old (spot name index) text new written) (stored (told name index) text)
+    once-by (λ (written : Written) (new : Held). Sets old (spot name index) text new written) (stored (full_name name index) text)
     (sets-once old (spot name index) text)
 
 pub gives-once : (word : Name) (text : List ℕ) (old : Held) → Once (Gives word text old)

@@ -11,10 +11,11 @@ use Rattle.tt_outcomes.specs.declared.want.Body.TheVariants as body
 use Rattle.tt_store.specs.declared.answers.Answer.TheVariants as answers
 use Rattle.tt_store.specs.Held.{Held, IsThere, LinksTo, begun_at}
 use Rattle.tt_store.specs.Levels.{HasDepth, Levels, above, caller_of}
-use Rattle.tt_variable_commands.specs.Beginning.{Begins, BeginsAt, uplevel}
+use Rattle.tt_variable_commands.specs.Beginning.{BeginsScript, BeginsAt, uplevel}
 use Rattle.tt_variable_commands.specs.LevelCommands.{IsCommand, Runs, commands, first_named, row_of}
 use Rattle.tt_variable_commands.specs.Counting.{IsAlong, IsFrame, IsFrameBy, count_of, frame_below, frame_up, is_numbered}
-use Rattle.tt_variable_commands.specs.Linking.{Each, GlobalBy, LinksFrom, LinksIn, LinksName, LinksOne, LinksPair, UpvarBy, fails, global, message_of, more, none, pairs_of, told, upvar}
+use Rattle.tt_variable_commands.specs.Linking.{Each, GlobalBy, LinksFrom, LinksIn, LinksName, LinksOne, LinksPair, UpvarBy, fails, global, message_of, more, none, pairs_of, upvar}
+use Rattle.tt_store.specs.Scalars.{outcome_by}
 use Rattle.tt_variable_commands.specs.LevelMessages.{bad_level, bad_name}
 use Rattle.tt_variable_commands.specs.Telling.{Tells, bit, exists, info, level, topic_of}
 use Rattle.tt_variable_commands.specs.LevelWords.{is_levelled, is_odd, parted}
@@ -81,7 +82,7 @@ links_name-once word old = links_one-once (is_some (element_of (plain_name word)
 global_by-once : (is_global : Bool) (names : List Name) (old : Held) → Once (GlobalBy is_global names old)
 global_by-once true names old = once-told (fine []) old
 global_by-once false names old =
-    once-by (λ (message : Option (List ℕ)) (new : Held). Each LinksName names old message new) told (each-once LinksName links_name-once names old)
+    once-by (λ (message : Option (List ℕ)) (new : Held). Each LinksName names old message new) outcome_by (each-once LinksName links_name-once names old)
 
 global-once : (usage : List ℕ) (names : List Name) (old : Held) → Once (global usage names old)
 global-once usage names old = global_by-once (old.levels.current == 0) names old
@@ -92,7 +93,7 @@ links_pair-once frame names old = links_one-once (is_some (element_of names.1) |
 links_in-once : (level : Name) (frame : Option ℕ) (names : List Name) (old : Held) → Once (LinksIn level frame names old)
 links_in-once level None names old = fails_with-once (bad_level level) old
 links_in-once level (Some frame) names old =
-    once-by (λ (message : Option (List ℕ)) (new : Held). Each (LinksPair frame) (pairs_of names) old message new) told
+    once-by (λ (message : Option (List ℕ)) (new : Held). Each (LinksPair frame) (pairs_of names) old message new) outcome_by
     (each-once (LinksPair frame) (links_pair-once frame) (pairs_of names) old)
 
 links_from-once : (words : Name × List Name) (old : Held) → Once (LinksFrom words old)
@@ -109,13 +110,13 @@ upvar-once usage words old = upvar_by-once (nat_lt (length words) 2) usage words
 
 -- ---- uplevel(n) ----
 
-begins-once : (level : List ℕ) (frame : Option ℕ) (script : List (List ℕ)) (old : Held) → Once (Begins level frame script old)
+begins-once : (level : List ℕ) (frame : Option ℕ) (script : List (List ℕ)) (old : Held) → Once (BeginsScript level frame script old)
 begins-once level None script old = once-told (answers.Outcome (failed (bad_level level))) old
 begins-once level (Some frame) script old = once-told (answers.Body body.Level (concatenation script)) (begun_at frame old)
 
 begins_at-once : (words : List ℕ × List (List ℕ)) (old : Held) → Once (BeginsAt words old)
 begins_at-once words old =
-    once-then (IsFrame words.0 old.levels) (λ (frame : Option ℕ). Begins words.0 frame words.1 old)
+    once-then (IsFrame words.0 old.levels) (λ (frame : Option ℕ). BeginsScript words.0 frame words.1 old)
     (frame-once words.0 old.levels) (λ frame. begins-once words.0 frame words.1 old)
 
 uplevel-once : (usage : List ℕ) (words : List (List ℕ)) (old : Held) → Once (uplevel usage words old)

@@ -5,7 +5,7 @@ use Rattle.tt_text.specs.Characters.{Character, characters}
 use Rattle.tt_strings.specs.Finding.{IsFirstPlace, IsLastPlace}
 use Rattle.tt_strings.specs.Making.{IsRepeated}
 use Rattle.tt_strings.specs.Mapping.{HasNoPair, IsAtFront, IsFirstPair, IsMapped, IsStep, ended, here, kept, later, replaced, step}
-use Rattle.tt_strings.specs.Places.{joined}
+use Rattle.tt_strings.specs.Places.{bytes_of}
 use Rattle.tt_strings.specs.Splitting.{HasNone, IsSplit, IsSplitInto, field, last}
 use Rattle.tt_strings.specs.Trimming.{is_among}
 use Rattle.tt_strings.specs.declared.making.Repetition.{Repetition}
@@ -71,7 +71,7 @@ nothing-before (c ∷ front) rest e = absurd (cc e)
 
 no-front : (key : List ℕ) {text rest : List Character} → text ≡ [] → IsAtFront key text rest → ⊥
 no-front key {text} {rest} e is =
-    is.some (sym (whole_text key) ∙ ap joined (nothing-before (characters key) rest (sym is.cut ∙ e)))
+    is.some (sym (whole_text key) ∙ ap bytes_of (nothing-before (characters key) rest (sym is.cut ∙ e)))
 
 nothing-first : {pairs : List (List ℕ)} {text rest : List Character} {value : List ℕ} → text ≡ [] → IsFirstPair pairs text value rest → ⊥
 nothing-first e (here {key = key} is) = no-front key e is
@@ -134,7 +134,7 @@ module _ (splitting : List Character) where
   split-same (field {first = first} {rest = rest} {fields = after} begins more) (field {first = start} {rest = left} {fields = others} begun most) =
       let same = fields-same first start begins.splits begun.splits rest left begins.none begun.none begins.listed begun.listed (sym begins.cut ∙ begun.cut) in
       let ends = split-same more (subst (λ (text : List Character). IsSplit splitting text others) (sym same.1) most) in
-      ap (λ front. joined front ∷ after) same.0 ∙ ap (λ fields. joined start ∷ fields) ends
+      ap (λ front. bytes_of front ∷ after) same.0 ∙ ap (λ fields. bytes_of start ∷ fields) ends
 
 pub split-once : (splitting text : List Character) → Only (IsSplitInto splitting text)
 split-once [] [] one other is its = is ∙ sym its

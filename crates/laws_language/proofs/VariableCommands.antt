@@ -19,13 +19,13 @@ use Rattle.tt_vars.specs.declared.answers.Written.{Written}
 use Rattle.tt_outcomes.specs.declared.want.Body.TheVariants as body
 use Rattle.tt_store.specs.declared.answers.Answer.TheVariants as answers
 use Rattle.tt_store.specs.Commands.{Coming, IsCommand, IsPure, PackageBy, Runs, commands, ends, eval, first_named, flush, package_require, required, row_of, version_of}
-use Rattle.tt_store.specs.Held.{Drops, Fails, Finds, Held, Meaning, Reads, Refuses, Sets, with_levels}
+use Rattle.tt_store.specs.Held.{Drops, Fails, Finds, Held, Meaning, ReadsWord, Refuses, Sets, with_levels}
 use Rattle.tt_store.specs.Levels.{begun_in}
 use Rattle.tt_store.specs.Listed as listed
 use Rattle.tt_store.specs.Listed.{Assigns, AssignsItems, AssignsOne, lappend, lassign, message_of, paired, told_rest}
 use Rattle.tt_store.specs.Messages.{cannot_unset}
 use Rattle.tt_store.specs.Scalars as scalars
-use Rattle.tt_store.specs.Scalars.{Changes, Counts, DropsOne, GivesMade, Unsets, UnsetsAll, UnsetsIf, append, counting, ended_by, first_unknown, front, incr, incremented, made_of, set, told_of, unset}
+use Rattle.tt_store.specs.Scalars.{Changes, Counts, DropsOne, GivesMade, Unsets, UnsetsAll, UnsetsIf, append, counting, outcome_by, first_unknown, front, incr, incremented, made_of, set, told_of, unset}
 use Rattle.tt_store.specs.Spots.{spot_of}
 use Rattle.laws_language.proofs.Once.{Once, Only, fails-once, goes-fails, goes-once, find-each, once-by, once-kept, once-made, once-then, once-told, only-made}
 use Rattle.laws_language.proofs.PureCommands.{pure-once}
@@ -39,8 +39,8 @@ refuses-once usage old = fails_with-once (wrong_number usage) old
 
 -- ---- set(n), incr(n), append(n), lappend(n) ----
 
-reads_only-once : (name : List ℕ) (old : Held) → Once (λ (outcome : Outcome) (new : Held). Reads name old outcome × (new ≡ old))
-reads_only-once name old = once-kept (Reads name old) old (reads_word-once name old)
+reads_only-once : (name : List ℕ) (old : Held) → Once (λ (outcome : Outcome) (new : Held). ReadsWord name old outcome × (new ≡ old))
+reads_only-once name old = once-kept (ReadsWord name old) old (reads_word-once name old)
 
 set-once : (usage : List ℕ) (words : List (List ℕ)) (old : Held) → Once (set usage words old)
 set-once usage [] old = refuses-once usage old
@@ -97,7 +97,7 @@ unsets-same nocomplain (scalars.fails drops) (scalars.fails gives) =
 
 unsets_all-once : (nocomplain : Bool) (words : List (List ℕ)) (old : Held) → Once (UnsetsAll nocomplain words old)
 unsets_all-once nocomplain words old =
-    once-by (λ (message : Option (List ℕ)) (new : Held). Unsets nocomplain words old message new) ended_by
+    once-by (λ (message : Option (List ℕ)) (new : Held). Unsets nocomplain words old message new) outcome_by
     (λ one other new next is its. unsets-same nocomplain is its)
 
 unsets_if-once : (unknown : Option (List ℕ)) (words : List (List ℕ)) (old : Held) → Once (UnsetsIf unknown words old)

@@ -3,7 +3,7 @@ ghost use Rattle.std.specs.Prelude.{◌≡◌, IfOk};
 ghost use Rattle.std.specs.Option.{option_copied};
 ghost use Rattle.tt_interp.specs.Answering as answering;
 ghost use Rattle.tt_interp.specs.Commands as commands;
-ghost use Rattle.tt_store.specs.Held.{ended};
+ghost use Rattle.tt_store.specs.Held.{after_end};
 ghost use Rattle.tt_outcomes.specs.declared.want.Want.TheVariants as wants;
 
 use crate::Kept;
@@ -81,7 +81,7 @@ impl Kept {
     }
 
     fn leave(&mut self, alloc: Global) -> Result<Got, NoMemory>
-        ensures { IfOk result (λ got. (got ≡ answering.nothing) × (self.new ≡ commands.with_store self.old (ended self.old.store))) }
+        ensures { IfOk result (λ got. (got ≡ answering.nothing) × (self.new ≡ commands.with_store self.old (after_end self.old.store))) }
     {
         self.store.leave();
         Ok(nothing(alloc))

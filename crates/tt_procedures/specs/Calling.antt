@@ -29,7 +29,7 @@ words_after false words = drop 1 words
 abbrev pub argument : (name value : List ℕ) → Argument
 argument name value = record { name = name; value = value }
 
--- parameters with their values; None where a value is missing, or a word is too much
+-- parameters with their values; None if a value is missing, or a word is too much
 abbrev pub arguments_of : List Parameter → (words : List (List ℕ)) → Option (List Argument)
 arguments_of [] [] = Some []
 arguments_of [] (word ∷ words) = None
@@ -45,21 +45,21 @@ arguments_of (parameter ∷ later) words =
 abbrev pub optional : (name : List ℕ) → List ℕ
 optional name = codes "?" ++ (name ++ codes "?")
 
-abbrev pub told_by : (rest : Bool) → (name : List ℕ) → (default : Option (List ℕ)) → List ℕ
-told_by true name default = codes "?arg ...?"
-told_by false name (Some default) = optional name
-told_by false name None = name
+abbrev pub usage_part_by : (rest : Bool) → (name : List ℕ) → (default : Option (List ℕ)) → List ℕ
+usage_part_by true name default = codes "?arg ...?"
+usage_part_by false name (Some default) = optional name
+usage_part_by false name None = name
 
-abbrev pub told : Parameter → (later : List Parameter) → List ℕ
-told parameter later = told_by (takes_rest parameter later) parameter.name parameter.default
+abbrev pub usage_part : Parameter → (later : List Parameter) → List ℕ
+usage_part parameter later = usage_part_by (takes_rest parameter later) parameter.name parameter.default
 
-abbrev pub all_told : List Parameter → List ℕ
-all_told [] = []
-all_told (parameter ∷ later) = codes " " ++ (told parameter later ++ all_told later)
+abbrev pub usage_parts : List Parameter → List ℕ
+usage_parts [] = []
+usage_parts (parameter ∷ later) = codes " " ++ (usage_part parameter later ++ usage_parts later)
 
 -- the usage of a procedure that is called by this word
 abbrev pub usage : (word : List ℕ) → List Parameter → List ℕ
-usage word parameters = word ++ all_told parameters
+usage word parameters = word ++ usage_parts parameters
 
 -- the call of a procedure by this word with these words after it
 abbrev pub called_with : Option (List Argument) → (word : List ℕ) → Procedure → Called

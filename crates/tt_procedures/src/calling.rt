@@ -166,14 +166,15 @@ fn usage(word: &Text, parameters: &[Parameter]) -> Result<Text, NoMemory>
     let mut rest = parameters;
     while let [parameter, later @ ..] = rest {
         text.push_bytes(b" ")?;
-        push_told(&mut text, parameter, takes_rest(parameter, later))?;
+        push_usage_part(&mut text, parameter, takes_rest(parameter, later))?;
         rest = later;
     }
     Ok(text)
 }
 
-fn push_told(text: &mut Text, parameter: &Parameter, takes_rest: bool) -> Result<(), NoMemory>
-    ensures { OnOk result (text.new ≡ text.old ++ calling.told_by takes_rest parameter.now.name parameter.now.default) }
+fn push_usage_part(text: &mut Text, parameter: &Parameter, takes_rest: bool) -> Result<(), NoMemory>
+    ensures { OnOk result
+        (text.new ≡ text.old ++ calling.usage_part_by takes_rest parameter.now.name parameter.now.default) }
 {
     if takes_rest {
         return text.push_bytes(b"?arg ...?");

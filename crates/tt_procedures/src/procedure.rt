@@ -45,7 +45,7 @@ impl Parameters {
 
     /// Adds one at the end.
     ///
-    /// `NoMemory` where memory for it is refused; then the list is as it was.
+    /// `NoMemory` if memory for it is refused; then the list is as it was.
     pub(crate) fn push(&mut self, parameter: Parameter) -> Result<(), NoMemory>
         ensures pushed { OnOk result (self.new ≡ self.old ++ parameter ∷ []) }
         ensures unchanged { OnErr result (self.new ≡ self.old) }

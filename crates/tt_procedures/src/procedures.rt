@@ -18,7 +18,8 @@ use tt_lists::join_list;
 use tt_script::plain_name;
 use tt_text::{NoMemory, Text, Texts, glob};
 
-/// Procedures by name, in the order of their first definition. Contracts see the list of pairs of a name and a procedure.
+/// Procedures by name, in the order of their first definition. Contracts see the list of pairs of a name and a
+/// procedure.
 #[derive(Debug, Drop)]
 pub struct Procedures {
     map: IndexMap<Text, Procedure>,
@@ -42,14 +43,14 @@ impl Procedures {
         }
     }
 
-    /// `proc name args body` of proc(n), by the words after `proc`: a procedure is defined, anew where its name is taken,
+    /// `proc name args body` of proc(n), by the words after `proc`: a procedure is defined, anew if its name is taken,
     /// and the result is empty. One leading `::` of the name is dropped.
     ///
-    /// The outcome is an error, and no procedure has changed, where there are not three words, where the parameters are
-    /// no list, and where one of them is no list of a name or of a name and a default. Its name must not be empty, be
+    /// The outcome is an error, and no procedure has changed, if there are not three words, if the parameters are no
+    /// list, and if one of them is no list of a name or of a name and a default. Its name must not be empty, be
     /// an element's or begin with `::`.
     ///
-    /// `NoMemory` where memory is refused; then no procedure has changed.
+    /// `NoMemory` if memory is refused; then no procedure has changed.
     pub fn define(&mut self, words: &[Text]) -> Result<Outcome, NoMemory>
         ensures defines { IfOk result (λ outcome. procedures.Defines words.now self.old outcome self.new) }
         ensures unchanged { OnErr result (self.new ≡ self.old) }
@@ -69,7 +70,8 @@ impl Procedures {
         parameters: &Text,
         body: &Text,
     ) -> Result<Outcome, NoMemory>
-        ensures defines { IfOk result (λ outcome. procedures.DefinesBy (parameters_of parameters.now) word.now body.now self.old outcome self.new) }
+        ensures defines { IfOk result (λ outcome.
+            procedures.DefinesBy (parameters_of parameters.now) word.now body.now self.old outcome self.new) }
         ensures unchanged { OnErr result (self.new ≡ self.old) }
     {
         let alloc = *self.map.allocator();
@@ -80,7 +82,8 @@ impl Procedures {
     }
 
     fn put(&mut self, word: &Text, parameters: Parameters, body: &Text) -> Result<Outcome, NoMemory>
-        ensures defines { IfOk result (λ outcome. procedures.DefinesBy (Ok parameters) word.now body.now self.old outcome self.new) }
+        ensures defines { IfOk result (λ outcome.
+            procedures.DefinesBy (Ok parameters) word.now body.now self.old outcome self.new) }
         ensures unchanged { OnErr result (self.new ≡ self.old) }
     {
         let alloc = *self.map.allocator();
@@ -90,10 +93,10 @@ impl Procedures {
         Ok(Outcome::fine(alloc, Text::new(alloc)))
     }
 
-    /// What a command, its name first, comes to as the call of a procedure (proc(n)). None where no procedure has that
+    /// What a command, its name first, comes to as the call of a procedure (proc(n)). None if no procedure has that
     /// name, without one leading `::`, and where there are no words.
     ///
-    /// `NoMemory` where memory is refused.
+    /// `NoMemory` if memory is refused.
     pub fn call(&self, words: &[Text]) -> Result<Option<Called>, NoMemory>
         ensures called { IfOk result (λ called. called ≡ procedures.call self.now words.now) }
     {
@@ -116,10 +119,10 @@ impl Procedures {
         Ok(self.map.get(&name))
     }
 
-    /// `info procs ?pattern?` of info(n), by the words after `procs`: the list of the names, in the order of their first
-    /// definition, or of those that the pattern matches as string(n), `string match`, says.
+    /// `info procs ?pattern?` of info(n), by the words after `procs`: the list of the names, in the order of their
+    /// first definition, or of those that the pattern matches as string(n), `string match`, says.
     ///
-    /// The outcome is an error where there are more words. `NoMemory` where memory is refused.
+    /// The outcome is an error if there are more words. `NoMemory` if memory is refused.
     pub fn names(&self, words: &[Text]) -> Result<Outcome, NoMemory>
         ensures names { IfOk result (λ outcome. outcome ≡ procedures.names self.now words.now) }
     {
@@ -145,7 +148,8 @@ impl Procedures {
     }
 
     fn list_like(&self, pattern: &[u8]) -> Result<Outcome, NoMemory>
-        ensures { IfOk result (λ outcome. outcome ≡ fine (list_of (filter (procedures.is_like pattern.now) (keys_of self.now)))) }
+        ensures { IfOk result (λ outcome.
+            outcome ≡ fine (list_of (filter (procedures.is_like pattern.now) (keys_of self.now)))) }
     {
         let names = self.all_names()?;
         let like = names_like(*self.map.allocator(), pattern, names.as_slice())?;

@@ -3,7 +3,8 @@ use Rattle.std.specs.Prelude.{ℕ, Bool, false, ◌&&◌, not, ◌==◌, bytes_e
 use Rattle.std.specs.List.{find}
 use Rattle.std.specs.Option.{is_some}
 use Rattle.tt_pure.specs.declared.flags.Flag.{Flag}
-use Rattle.tt_pure.specs.declared.flags.Flag.TheVariants.{Exact, Glob, All, Inline, Not, Ascii, Integer, Increasing, Decreasing, Unique}
+use Rattle.tt_pure.specs.declared.flags.Flag.TheVariants.{Exact, Glob, All, Inline, Not, Ascii, Integer, Increasing}
+use Rattle.tt_pure.specs.declared.flags.Flag.TheVariants.{Decreasing, Unique}
 
 -- how an option is written
 abbrev pub spelling : Flag → List ℕ

@@ -1,6 +1,6 @@
 -- What commands on lists answer to words; `wrong` is the answer to a wrong number of them.
 use Rattle.std.specs.Prelude.{ℕ, List, [], ◌∷◌}
-use Rattle.tt_lists.specs.Answers.{count_answer, insert_answer, item_answer, range_answer, replace_answer}
+use Rattle.tt_lists.specs.Commands.{count_answer, insert_answer, item_answer, range_answer, replace_answer}
 use Rattle.tt_lists.specs.Spelling.{list_of}
 use Rattle.tt_lists.specs.declared.answer.ListAnswer.{ListAnswer}
 use Rattle.tt_lists.specs.declared.answer.ListAnswer.TheVariants.{Made}

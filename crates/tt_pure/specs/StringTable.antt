@@ -3,7 +3,9 @@ use Rattle.std.specs.Prelude.{◌≡◌, ℕ, bytes_eq, List, [], ◌∷◌, cod
 use Rattle.std.specs.List.{find}
 use Rattle.tt_lists.specs.declared.answer.ListAnswer.{ListAnswer}
 use Rattle.tt_pure.specs.Rows.{Row, is, row}
-use Rattle.tt_pure.specs.Strings.{IsFirstAnswer, IsLastAnswer, IsMapAnswer, IsMatchAnswer, IsRepeatAnswer, compare_answer, equal_answer, index_answer, length_answer, lower_answer, range_answer, reverse_answer, trim_answer, upper_answer}
+use Rattle.tt_pure.specs.Strings.{IsFirstAnswer, IsLastAnswer, IsMapAnswer, IsMatchAnswer, IsRepeatAnswer}
+use Rattle.tt_pure.specs.Strings.{compare_answer, equal_answer, index_answer, length_answer, lower_answer}
+use Rattle.tt_pure.specs.Strings.{range_answer, reverse_answer, trim_answer, upper_answer}
 use Rattle.tt_pure.specs.Usages.{bad_option, wrong_number}
 use Rattle.tt_strings.specs.declared.trimming.Side.TheVariants.{Left, Right, Both}
 use Rattle.tt_pure.specs.declared.subcommand.Subcommand.{Subcommand}

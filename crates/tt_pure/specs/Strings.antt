@@ -1,11 +1,12 @@
 -- What the subcommands of string(n) answer to words; `wrong` is the answer to a wrong number of them.
 -- Characters are those of `tt_text`; indices are read as those of lists.
-use Rattle.std.specs.Prelude.{◌≡◌, ◌↔◌, ℕ, ◌%◌, Bool, true, false, ◌==◌, IsTrue, ℤ, bytes_eq, List, [], ◌∷◌, length, codes, decimal, map, reverse, Option, Some, None, Result, Ok, Err}
+use Rattle.std.specs.Prelude.{◌≡◌, ◌↔◌, ℕ, ◌%◌, Bool, true, false, ◌==◌, IsTrue, ℤ, bytes_eq, List, [], ◌∷◌, length}
+use Rattle.std.specs.Prelude.{codes, decimal, map, reverse, Option, Some, None, Result, Ok, Err}
 use Rattle.std.specs.Fmt.{signed_decimal}
 use Rattle.std.specs.Char.{to_ascii_lowercase, to_ascii_uppercase}
 use Rattle.tt_text.specs.Characters.{characters}
 use Rattle.tt_text.specs.Glob.{Matches}
-use Rattle.tt_lists.specs.Answers.{for_place}
+use Rattle.tt_lists.specs.Commands.{for_place}
 use Rattle.tt_lists.specs.Messages.{list_message}
 use Rattle.tt_lists.specs.Reading.{split_of}
 use Rattle.tt_lists.specs.declared.answer.ListAnswer.{ListAnswer}
@@ -18,7 +19,7 @@ use Rattle.tt_number.specs.declared.numeral.NumberFault.{NumberFault}
 use Rattle.tt_strings.specs.Finding.{IsFirstPlace, IsLastPlace}
 use Rattle.tt_strings.specs.Making.{IsRepeated, compared}
 use Rattle.tt_strings.specs.Mapping.{IsMapped}
-use Rattle.tt_strings.specs.Places.{character_at, joined, range}
+use Rattle.tt_strings.specs.Places.{character_at, bytes_of, range}
 use Rattle.tt_strings.specs.Trimming.{trim}
 use Rattle.tt_strings.specs.declared.making.Repetition.{Repetition}
 use Rattle.tt_strings.specs.declared.making.Repetition.TheVariants as repetition
@@ -44,7 +45,7 @@ index_answer wrong words = wrong
 abbrev pub part_answer : (text first last : List ℕ) → ListAnswer
 part_answer text first last =
     for_place first (length (characters text)) (λ from.
-    for_place last (length (characters text)) (λ to. Made (joined (range from to (characters text)))))
+    for_place last (length (characters text)) (λ to. Made (bytes_of (range from to (characters text)))))
 
 -- string range
 abbrev pub range_answer : (wrong : ListAnswer) → (words : List (List ℕ)) → ListAnswer
@@ -53,7 +54,7 @@ range_answer wrong words = wrong
 
 -- string reverse
 abbrev pub reverse_answer : (wrong : ListAnswer) → (words : List (List ℕ)) → ListAnswer
-reverse_answer wrong (text ∷ []) = Made (joined (reverse (characters text)))
+reverse_answer wrong (text ∷ []) = Made (bytes_of (reverse (characters text)))
 reverse_answer wrong words = wrong
 
 -- string compare
@@ -147,7 +148,7 @@ upper_answer wrong words = wrong
 
 -- a text trimmed of characters
 abbrev pub trimmed_of : Side → (text trimmed : List ℕ) → ListAnswer
-trimmed_of side text trimmed = Made (joined (trim side (characters trimmed) (characters text)))
+trimmed_of side text trimmed = Made (bytes_of (trim side (characters trimmed) (characters text)))
 
 -- string trim, trimleft and trimright: without characters, of white space
 abbrev pub trim_answer : Side → (wrong : ListAnswer) → (words : List (List ℕ)) → ListAnswer

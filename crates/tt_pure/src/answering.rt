@@ -23,7 +23,7 @@ pub fn is_pure(name: &[u8]) -> bool
 /// How the command of this name ends with these words, which are those after its name: its result, or its error.
 ///
 /// Errors come in this order: an option that isn't known, from the left; a wrong number of words; what the words say.
-/// `NoMemory` where memory is refused.
+/// `NoMemory` if memory is refused.
 pub fn pure(alloc: Global, name: &[u8], words: &[Text]) -> Result<Outcome, NoMemory>
     requires known { IsTrue (table.is_pure name.now) }
     ensures outcome { IfOk result (table.IsOutcome (table.command_of name.now) words.now) }

@@ -1,5 +1,5 @@
-//! The commands that answer by their words alone (list(n), lsearch(n), lsort(n), string(n), format(n) and others): a table of names, usages
-//! and meanings.
+//! The commands that answer by their words alone (list(n), lsearch(n), lsort(n), string(n), format(n) and others): a
+//! table of names, usages and meanings.
 #![tactic(auto)]
 
 mod answering;
@@ -16,6 +16,3 @@ mod texts;
 mod usages;
 
 pub use answering::{is_pure, pure};
-
-#[cfg(test)]
-mod tests;

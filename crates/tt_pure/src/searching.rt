@@ -29,7 +29,9 @@ fn find_by(
     list: &[u8],
     pattern: &[u8],
 ) -> Result<ListAnswer, NoMemory>
-    ensures { IfOk result (IsSearchBy (wrong_number usage.now) (first_unknown search_flags options.now) options.now list.now pattern.now) }
+    ensures { IfOk result
+        (IsSearchBy (wrong_number usage.now) (first_unknown search_flags options.now) options.now list.now
+        pattern.now) }
 {
     if let Some(word) = first_unknown(&FLAGS, options) {
         return bad_option(alloc, word.as_bytes());

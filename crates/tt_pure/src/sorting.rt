@@ -35,7 +35,8 @@ fn sort_by(
     options: &[Text],
     list: &[u8],
 ) -> Result<ListAnswer, NoMemory>
-    ensures { IfOk result (IsSortBy (wrong_number usage.now) (first_unknown sort_flags options.now) options.now list.now) }
+    ensures { IfOk result
+        (IsSortBy (wrong_number usage.now) (first_unknown sort_flags options.now) options.now list.now) }
 {
     if let Some(word) = first_unknown(&FLAGS, options) {
         return bad_option(alloc, word.as_bytes());

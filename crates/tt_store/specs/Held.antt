@@ -1,5 +1,6 @@
 -- What an interpreter keeps of variables: levels and watches; and what is done to one variable (set(n), vwait(n)).
-use Rattle.std.specs.Prelude.{◌≡◌, ◌<◌, ◌-◌, ◌++◌, ℕ, Bool, true, false, length, take, slice_get, slice_index_or, ◌||◌, List, [], ◌∷◌, Result, Ok, Err, Option, Some, None}
+use Rattle.std.specs.Prelude.{◌≡◌, ◌<◌, ◌-◌, ◌++◌, ℕ, Bool, true, false, length, take, slice_get, slice_index_or}
+use Rattle.std.specs.Prelude.{◌||◌, List, [], ◌∷◌, Result, Ok, Err, Option, Some, None}
 use Rattle.tt_calls.specs.declared.outcome.Outcome.{Outcome}
 use Rattle.tt_calls.specs.Outcomes.{failed, fine}
 use Rattle.tt_procedures.specs.declared.calling.Argument.{Argument}
@@ -13,10 +14,10 @@ use Rattle.tt_vars.specs.Links as variables
 use Rattle.tt_vars.specs.Variables.{Frame, Name}
 use Rattle.tt_store.specs.declared.spot.Spot.{Spot}
 use Rattle.tt_store.specs.declared.watch.Watch.{Watch}
-use Rattle.tt_store.specs.Levels.{Levels, begun_in, called, global_level, left, with_frames}
+use Rattle.tt_store.specs.Levels.{Levels, begun_in, called, global_level, levels_after_end, with_frames}
 use Rattle.tt_calls.specs.Usages.{wrong_number}
 use Rattle.tt_store.specs.Messages.{cannot_read, cannot_set}
-use Rattle.tt_store.specs.Spots.{place_in, spot, spot_of, told}
+use Rattle.tt_store.specs.Spots.{place_in, spot, spot_of, full_name}
 
 pub record Held : Type 0 where
   pub levels : Levels
@@ -38,8 +39,8 @@ abbrev pub begun_at : (frame : ℕ) → Held → Held
 begun_at frame held = with_levels held (begun_in frame held.levels)
 
 -- what was begun last has ended
-abbrev pub ended : Held → Held
-ended held = with_levels held (left held.levels)
+abbrev pub after_end : Held → Held
+after_end held = with_levels held (levels_after_end held.levels)
 
 abbrev pub place : Held → Spot → Place
 place held spot = place_in held.levels.current spot
@@ -69,7 +70,7 @@ abbrev pub Marks : Written → List Frame → Place → List Watch → List Watc
 Marks Yes frames place old new = AreMarked frames place old new
 Marks (No fault) frames place old new = new ≡ old
 
--- a text is written to what a spot stands for, or the fault is told
+-- a text is written to what a spot stands for, or the fault is the answer
 pub record Sets (old : Held) (spot : Spot) (text : List ℕ) (new : Held) (written : Written) : Type 0 where
   pub writes : variables.Writes old.levels.frames (place old spot) text new.levels.frames written
   pub marks : Marks written new.levels.frames (place old spot) old.watches new.watches
@@ -97,7 +98,7 @@ IsThere word held answer =
     × Finds held (spot_of word) found
     × (answer ≡ is_there found)
 
--- the indices of the array that a name stands for, in order; None where it stands for none (array(n))
+-- the indices of the array that a name stands for, in order; None if it stands for none (array(n))
 abbrev pub HasIndices : Held → Name → Option (List Name) → Type 0
 HasIndices held name indices = variables.HasNames held.levels.frames (place held (spot name None)) indices
 
@@ -105,7 +106,7 @@ HasIndices held name indices = variables.HasNames held.levels.frames (place held
 abbrev pub HasSize : Held → Name → Option ℕ → Type 0
 HasSize held name size = variables.HasSize held.levels.frames (place held (spot name None)) size
 
--- what a spot stands for is removed, or the fault is told (unset(n))
+-- what a spot stands for is removed, or the fault is the answer (unset(n))
 abbrev pub Drops : (old : Held) → Spot → (new : Held) → Result Unit VarFault → Type 0
 Drops old spot new removed =
     variables.Removes old.levels.frames (place old spot) new.levels.frames removed
@@ -127,31 +128,31 @@ Calls arguments old new = AreSet arguments (with_levels old (called old.levels))
 
 -- ---- what commands answer ----
 
-abbrev pub value_of : (told : List ℕ) → Result (List ℕ) VarFault → Outcome
-value_of told (Ok text) = fine text
-value_of told (Err fault) = failed (cannot_read told fault)
+abbrev pub value_of : (word : List ℕ) → Result (List ℕ) VarFault → Outcome
+value_of word (Ok text) = fine text
+value_of word (Err fault) = failed (cannot_read word fault)
 
-abbrev pub stored : (told text : List ℕ) → Written → Outcome
-stored told text Yes = fine text
-stored told text (No fault) = failed (cannot_set told fault)
+abbrev pub stored : (word text : List ℕ) → Written → Outcome
+stored word text Yes = fine text
+stored word text (No fault) = failed (cannot_set word fault)
 
 -- what `$name` and `$name(index)` give
 abbrev pub IsRead : Held → Name → Option Name → Outcome → Type 0
 IsRead held name index outcome =
     (found : Result (List ℕ) VarFault)
     × Finds held (spot name index) found
-    × (outcome ≡ value_of (told name index) found)
+    × (outcome ≡ value_of (full_name name index) found)
 
 -- a text is given to the same
 abbrev pub IsWritten : (old : Held) → Name → Option Name → (text : List ℕ) → Outcome → (new : Held) → Type 0
 IsWritten old name index text outcome new =
     (written : Written)
     × Sets old (spot name index) text new written
-    × (outcome ≡ stored (told name index) text written)
+    × (outcome ≡ stored (full_name name index) text written)
 
 -- what a command's word names is read
-abbrev pub Reads : (word : Name) → Held → Outcome → Type 0
-Reads word held outcome =
+abbrev pub ReadsWord : (word : Name) → Held → Outcome → Type 0
+ReadsWord word held outcome =
     (found : Result (List ℕ) VarFault)
     × Finds held (spot_of word) found
     × (outcome ≡ value_of word found)

@@ -1,5 +1,6 @@
 -- Frames of variables, which of them is current, who called which, and what was begun (proc(n), upvar(n), uplevel(n)).
-use Rattle.std.specs.Prelude.{◌≡◌, ℕ, zero, suc, ◌<◌, ◌-◌, Bool, false, ◌&&◌, ◌==◌, nat_lt, IsTrue, List, [], ◌∷◌, ◌++◌, Option, Some, None, length, take, slice_index_or}
+use Rattle.std.specs.Prelude.{◌≡◌, ℕ, zero, suc, ◌<◌, ◌-◌, Bool, false, ◌&&◌, ◌==◌, nat_lt, IsTrue, List, [], ◌∷◌}
+use Rattle.std.specs.Prelude.{◌++◌, Option, Some, None, length, take, slice_index_or}
 use Rattle.tt_vars.specs.Variables.{Frame}
 use Rattle.tt_store.specs.declared.nesting.Begun.{Begun}
 use Rattle.tt_store.specs.declared.nesting.Begun.TheVariants.{Procedure, Script}
@@ -24,7 +25,7 @@ with_frames levels frames = record levels { frames = frames }
 abbrev pub caller_of : Levels → (frame : ℕ) → ℕ
 caller_of levels frame = slice_index_or levels.callers frame 0
 
--- the frame that is so many callers up; None where there are fewer (uplevel(n))
+-- the frame that is so many callers up; None if there are fewer (uplevel(n))
 abbrev pub above : Levels → (count frame : ℕ) → Option ℕ
 above levels zero frame = Some frame
 above levels (suc count) zero = None
@@ -48,18 +49,18 @@ abbrev pub begun_in : (frame : ℕ) → Levels → Levels
 begun_in frame levels = record levels { current = frame; begun = Script levels.current ∷ levels.begun }
 
 -- what was begun last has ended
-abbrev pub left_by : Levels → List Begun → Levels
-left_by levels [] = levels
-left_by levels (Script back ∷ begun) = record levels { current = back; begun = begun }
-left_by levels (Procedure ∷ begun) = record {
+abbrev pub levels_after : Levels → List Begun → Levels
+levels_after levels [] = levels
+levels_after levels (Script back ∷ begun) = record levels { current = back; begun = begun }
+levels_after levels (Procedure ∷ begun) = record {
   frames = take (length levels.frames - 1) levels.frames;
   callers = take (length levels.frames - 1) levels.callers;
   current = caller_of levels (length levels.frames - 1);
   begun = begun;
 }
 
-abbrev pub left : Levels → Levels
-left levels = left_by levels levels.begun
+abbrev pub levels_after_end : Levels → Levels
+levels_after_end levels = levels_after levels levels.begun
 
 -- ---- what keeps frames there ----
 

@@ -31,7 +31,7 @@ AssignsOne word text old message new =
     × Sets old (spot_of word) text new written
     × (message ≡ message_of word written)
 
--- texts are given to variables one after the other, up to the first that can't be; then the message is told
+-- texts are given to variables one after the other, up to the first that can't be; then its message is the answer
 pub data Assigns : (pairs : List (List ℕ × List ℕ)) → (old : Held) → Option (List ℕ) → (new : Held) → Type 0 where
   none : {held : Held} → Assigns [] held None held
   more : {word text : List ℕ} {pairs : List (List ℕ × List ℕ)} {old next new : Held} {message : Option (List ℕ)} →

@@ -1,5 +1,6 @@
 -- Commands on one variable (set(n), unset(n), incr(n), append(n)).
-use Rattle.std.specs.Prelude.{◌≡◌, ℕ, ℤ, Bool, false, ◌&&◌, not, ◌==◌, nat_lt, bytes_eq, List, [], ◌∷◌, length, drop, take_while, codes, Option, Some, None, Result, Ok, Err, if◌then◌else◌}
+use Rattle.std.specs.Prelude.{◌≡◌, ℕ, ℤ, Bool, false, ◌&&◌, not, ◌==◌, nat_lt, bytes_eq, List, [], ◌∷◌, length, drop}
+use Rattle.std.specs.Prelude.{take_while, codes, Option, Some, None, Result, Ok, Err, if◌then◌else◌}
 use Rattle.std.specs.Fmt.{signed_decimal}
 use Rattle.std.specs.List.{find}
 use Rattle.std.specs.Option.{option_map}
@@ -16,14 +17,14 @@ use Rattle.tt_number.specs.Operators.{binary_of}
 use Rattle.tt_value.specs.Growing.{appended}
 use Rattle.tt_vars.specs.declared.answers.VarFault.{VarFault}
 use Rattle.tt_vars.specs.declared.answers.VarFault.TheVariants.{NoSuchVariable, NoSuchElement, IsArray, NotArray}
-use Rattle.tt_store.specs.Held.{Drops, Fails, Finds, Gives, Held, Meaning, Reads, Refuses}
+use Rattle.tt_store.specs.Held.{Drops, Fails, Finds, Gives, Held, Meaning, ReadsWord, Refuses}
 use Rattle.tt_calls.specs.Usages.{bad_option}
 use Rattle.tt_store.specs.Messages.{cannot_read, cannot_unset}
 use Rattle.tt_store.specs.Spots.{spot_of}
 
 -- set(n)
 abbrev pub set : Meaning
-set usage (name ∷ []) old outcome new = Reads name old outcome × (new ≡ old)
+set usage (name ∷ []) old outcome new = ReadsWord name old outcome × (new ≡ old)
 set usage (name ∷ value ∷ []) old outcome new = Gives name value old outcome new
 set usage words old outcome new = Refuses usage old outcome new
 
@@ -84,7 +85,7 @@ incr usage words old outcome new = Refuses usage old outcome new
 -- append(n): without a value it reads
 abbrev pub append : Meaning
 append usage [] old outcome new = Refuses usage old outcome new
-append usage (name ∷ []) old outcome new = Reads name old outcome × (new ≡ old)
+append usage (name ∷ []) old outcome new = ReadsWord name old outcome × (new ≡ old)
 append usage (name ∷ value ∷ values) old outcome new = Changes name [] (appended (value ∷ values)) old outcome new
 
 -- ---- unset(n) ----
@@ -96,7 +97,7 @@ is_skipped nocomplain NoSuchElement = nocomplain
 is_skipped nocomplain IsArray = false
 is_skipped nocomplain NotArray = false
 
--- the fault that is told, if there is one
+-- the fault that is reported, if there is one
 abbrev pub told_of : (nocomplain : Bool) → Result Unit VarFault → Option VarFault
 told_of nocomplain (Ok unit) = None
 told_of nocomplain (Err fault) = if is_skipped nocomplain fault then None else Some fault
@@ -108,7 +109,7 @@ DropsOne nocomplain word old message new =
     × Drops old (spot_of word) new removed
     × (message ≡ option_map (cannot_unset word) (told_of nocomplain removed))
 
--- variables are removed one after the other, up to the first that can't be; then the message is told
+-- variables are removed one after the other, up to the first that can't be; then its message is the answer
 pub data Unsets (nocomplain : Bool) :
     (words : List (List ℕ)) → (old : Held) → Option (List ℕ) → (new : Held) → Type 0 where
   none : {held : Held} → Unsets nocomplain [] held None held
@@ -120,15 +121,16 @@ pub data Unsets (nocomplain : Bool) :
       DropsOne nocomplain word old (Some message) new →
       Unsets nocomplain (word ∷ words) old (Some message) new
 
-abbrev pub ended_by : (message : Option (List ℕ)) → Outcome
-ended_by None = fine []
-ended_by (Some message) = failed message
+-- the empty result, or the error
+abbrev pub outcome_by : (message : Option (List ℕ)) → Outcome
+outcome_by None = fine []
+outcome_by (Some message) = failed message
 
 abbrev pub UnsetsAll : (nocomplain : Bool) → (words : List (List ℕ)) → (old : Held) → Outcome → (new : Held) → Type 0
 UnsetsAll nocomplain words old outcome new =
     (message : Option (List ℕ))
     × Unsets nocomplain words old message new
-    × (outcome ≡ ended_by message)
+    × (outcome ≡ outcome_by message)
 
 abbrev pub is_nocomplain : (word : List ℕ) → Bool
 is_nocomplain word = bytes_eq word (codes "-nocomplain")

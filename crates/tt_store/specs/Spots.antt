@@ -27,7 +27,7 @@ spot_of word = spot_in (element_of word) word
 abbrev pub place_in : (current : ℕ) → Spot → Place
 place_in current spot = place_of (if spot.global then 0 else current) spot.name spot.index
 
--- how a name is told
-abbrev pub told : Name → Option Name → List ℕ
-told name None = name
-told name (Some index) = name ++ (codes "(" ++ (index ++ codes ")"))
+-- a name with its index, if it has one, as errors show it
+abbrev pub full_name : Name → Option Name → List ℕ
+full_name name None = name
+full_name name (Some index) = name ++ (codes "(" ++ (index ++ codes ")"))

@@ -1,6 +1,6 @@
 use tt_calls::Outcome;
-use tt_text::Text;
 use tt_outcomes::Body;
+use tt_text::Text;
 
 /// What a command comes to.
 #[derive(Debug, Drop)]

@@ -12,7 +12,7 @@ use tt_vars::VarFault;
 impl Store {
     /// The value of what `$name` and `$name(index)` name, or why there is none.
     ///
-    /// `NoMemory` where memory is refused.
+    /// `NoMemory` if memory is refused.
     pub fn look_up(
         &self,
         name: &[u8],
@@ -27,22 +27,23 @@ impl Store {
 
     /// Removes what `$name` and `$name(index)` name (unset(n)), or says why not; then nothing has changed.
     ///
-    /// `NoMemory` where memory is refused.
+    /// `NoMemory` if memory is refused.
     pub fn remove(
         &mut self,
         name: &[u8],
         index: Option<&[u8]>,
     ) -> Result<Result<(), VarFault>, NoMemory>
-        ensures removed { IfOk result (λ removed. held.Drops self.old (spot name.now (option_copied index.entry)) self.new removed) }
+        ensures removed { IfOk result (λ removed.
+            held.Drops self.old (spot name.now (option_copied index.entry)) self.new removed) }
     {
         let spot = spot_named(self.alloc, name, index)?;
         let removed = self.nesting.unset(&spot);
         Ok(removed)
     }
 
-    /// The indices of the array that `$name` names, in order; `None` where it names none.
+    /// The indices of the array that `$name` names, in order; `None` if it names none.
     ///
-    /// `NoMemory` where memory is refused.
+    /// `NoMemory` if memory is refused.
     pub fn indices(&self, name: &[u8]) -> Result<Option<Texts>, NoMemory>
         ensures indices { IfOk result (held.HasIndices self.now name.now) }
     {
@@ -51,9 +52,9 @@ impl Store {
         Ok(indices)
     }
 
-    /// How many elements the array has that `$name` names; `None` where it names none.
+    /// How many elements the array has that `$name` names; `None` if it names none.
     ///
-    /// `NoMemory` where memory is refused.
+    /// `NoMemory` if memory is refused.
     pub fn size(&self, name: &[u8]) -> Result<Option<usize>, NoMemory>
         ensures size { IfOk result (held.HasSize self.now name.now) }
     {

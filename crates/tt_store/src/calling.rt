@@ -1,4 +1,5 @@
-//! Levels: calls of procedures, the frames above, and links to their variables (proc(n), upvar(n), uplevel(n), info(n)).
+//! Levels: calls of procedures, the frames above, and links to their variables (proc(n), upvar(n), uplevel(n),
+//! info(n)).
 ghost use Rattle.std.specs.Prelude.{◌≡◌, ◌≤◌, IfOk, IfSome, None, OnErr, OnOk};
 ghost use Rattle.tt_store.specs.Held as held;
 ghost use Rattle.tt_store.specs.Levels as levels;
@@ -14,7 +15,7 @@ impl Store {
     /// A procedure is called (proc(n)): it gets a frame of its own, in which each parameter has its value; `leave`
     /// ends it.
     ///
-    /// `NoMemory` where memory is refused.
+    /// `NoMemory` if memory is refused.
     pub fn call(&mut self, arguments: &[Argument]) -> Result<(), NoMemory>
         ensures called { OnOk result (held.Calls arguments.now self.old self.new) }
     {
@@ -24,7 +25,7 @@ impl Store {
 
     /// Variables of the current frame are set, one after the other. One that can't be set is left as it was.
     ///
-    /// `NoMemory` where memory is refused.
+    /// `NoMemory` if memory is refused.
     pub fn set_variables(&mut self, arguments: &[Argument]) -> Result<(), NoMemory>
         ensures set { OnOk result (held.AreSet arguments.now self.old self.new) }
     {
@@ -49,7 +50,7 @@ impl Store {
         self.nesting.depth()
     }
 
-    /// The frame that is so many callers up from the current one (uplevel(n)); `None` where there are fewer.
+    /// The frame that is so many callers up from the current one (uplevel(n)); `None` if there are fewer.
     pub fn above(&self, count: u64) -> Option<u64>
         ensures above { result ≡ levels.above self.now.levels count self.now.levels.current }
         ensures lower { IfSome result (λ frame. frame ≤ self.now.levels.current) }
@@ -59,7 +60,7 @@ impl Store {
 
     /// A script begins in a frame that is above or the current one (uplevel(n)); `leave` ends it.
     ///
-    /// `NoMemory` where memory is refused; then nothing has changed.
+    /// `NoMemory` if memory is refused; then nothing has changed.
     pub fn begin(&mut self, frame: u64) -> Result<(), NoMemory>
         requires lower { frame ≤ self.old.levels.current }
         ensures begun { OnOk result (self.new ≡ held.begun_at frame self.old) }
@@ -71,7 +72,7 @@ impl Store {
     /// Makes a local name a link to what a word names in a frame that is above or the current one (upvar(n)), or says
     /// why not; then nothing has changed.
     ///
-    /// `NoMemory` where memory is refused.
+    /// `NoMemory` if memory is refused.
     pub fn link(&mut self, local: &Text, frame: u64, word: &Text) -> Result<Linked, NoMemory>
         requires lower { frame ≤ self.old.levels.current }
         ensures linked { IfOk result (λ answer. held.LinksTo self.old local.now frame word.now self.new answer) }
@@ -83,7 +84,7 @@ impl Store {
 
     /// Whether what a word names is there: a scalar, an array or an element (info(n)).
     ///
-    /// `NoMemory` where memory is refused.
+    /// `NoMemory` if memory is refused.
     pub fn exists(&self, word: &Text) -> Result<bool, NoMemory>
         ensures exists { IfOk result (held.IsThere word.now self.now) }
     {

@@ -36,7 +36,8 @@ impl Store {
 
     // A missing variable counts as the empty text.
     fn grow(&mut self, word: &Text, growth: Growth, texts: &[Text]) -> Result<Outcome, NoMemory>
-        ensures { IfOk result (λ outcome. scalars.Changes word.now [] (grown growth texts.now) self.old outcome self.new) }
+        ensures { IfOk result (λ outcome.
+            scalars.Changes word.now [] (grown growth texts.now) self.old outcome self.new) }
     {
         let spot = spot_of(self.alloc, word.as_bytes())?;
         let outcome = self.grow_at(word, &spot, growth, texts)?;
@@ -52,7 +53,8 @@ impl Store {
         texts: &[Text],
     ) -> Result<Outcome, NoMemory>
         requires { spot.now ≡ spot_of word.now }
-        ensures { IfOk result (λ outcome. scalars.Changes word.now [] (grown growth texts.now) self.old outcome self.new) }
+        ensures { IfOk result (λ outcome.
+            scalars.Changes word.now [] (grown growth texts.now) self.old outcome self.new) }
     {
         match self.nesting.grow(spot, growth, texts)? {
             Ok(ListAnswer::Made(text)) => {
@@ -77,7 +79,8 @@ impl Store {
         growth: Growth,
         texts: &[Text],
     ) -> Result<Outcome, NoMemory>
-        ensures { IfOk result (λ outcome. scalars.GivesMade word.now (grown growth texts.now []) self.old outcome self.new) }
+        ensures { IfOk result (λ outcome.
+            scalars.GivesMade word.now (grown growth texts.now []) self.old outcome self.new) }
     {
         let mut value = Value::from_text(Text::new(self.alloc));
         let made = value.grow(self.alloc, growth, texts)?;

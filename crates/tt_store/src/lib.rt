@@ -18,4 +18,6 @@ mod store;
 mod watch;
 
 pub use answers::Answer;
+pub use scalars::outcome_by;
+pub use spot::full_name;
 pub use store::Store;

@@ -42,7 +42,8 @@ impl Store {
 
     // The message, where a variable can't be set.
     fn assign(&mut self, items: &[Text], names: &[Text]) -> Result<Option<Text>, NoMemory>
-        ensures { IfOk result (λ message. listed.Assigns (listed.paired names.now items.now) self.old message self.new) }
+        ensures { IfOk result (λ message.
+            listed.Assigns (listed.paired names.now items.now) self.old message self.new) }
     {
         let mut left = items;
         for name in names {

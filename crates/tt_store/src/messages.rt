@@ -1,4 +1,4 @@
-//! Errors, as they are told.
+//! The texts of errors.
 ghost use Rattle.std.specs.Prelude.{◌≡◌, IfOk};
 ghost use Rattle.tt_store.specs.Messages as messages;
 
@@ -18,25 +18,25 @@ fn reason(fault: VarFault) -> &'static [u8]
 }
 
 /// Why a variable is not read.
-pub(crate) fn cannot_read(alloc: Global, told: &[u8], fault: VarFault) -> Result<Text, NoMemory>
-    ensures { IfOk result (λ text. text ≡ messages.cannot_read told.now fault) }
+pub(crate) fn cannot_read(alloc: Global, word: &[u8], fault: VarFault) -> Result<Text, NoMemory>
+    ensures { IfOk result (λ text. text ≡ messages.cannot_read word.now fault) }
 {
-    let text = quoting(alloc, b"can't read \"", told, reason(fault))?;
+    let text = quoting(alloc, b"can't read \"", word, reason(fault))?;
     Ok(text)
 }
 
 /// Why it is not written.
-pub(crate) fn cannot_set(alloc: Global, told: &[u8], fault: VarFault) -> Result<Text, NoMemory>
-    ensures { IfOk result (λ text. text ≡ messages.cannot_set told.now fault) }
+pub(crate) fn cannot_set(alloc: Global, word: &[u8], fault: VarFault) -> Result<Text, NoMemory>
+    ensures { IfOk result (λ text. text ≡ messages.cannot_set word.now fault) }
 {
-    let text = quoting(alloc, b"can't set \"", told, reason(fault))?;
+    let text = quoting(alloc, b"can't set \"", word, reason(fault))?;
     Ok(text)
 }
 
 /// Why it is not removed.
-pub(crate) fn cannot_unset(alloc: Global, told: &[u8], fault: VarFault) -> Result<Text, NoMemory>
-    ensures { IfOk result (λ text. text ≡ messages.cannot_unset told.now fault) }
+pub(crate) fn cannot_unset(alloc: Global, word: &[u8], fault: VarFault) -> Result<Text, NoMemory>
+    ensures { IfOk result (λ text. text ≡ messages.cannot_unset word.now fault) }
 {
-    let text = quoting(alloc, b"can't unset \"", told, reason(fault))?;
+    let text = quoting(alloc, b"can't unset \"", word, reason(fault))?;
     Ok(text)
 }

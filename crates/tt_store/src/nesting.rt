@@ -1,7 +1,8 @@
 ghost use Rattle.std.specs.Prelude.{◌≡◌, ◌<◌, ◌≤◌, length, IfOk, IfSome, OnOk, OnErr, None};
 ghost use Rattle.std.specs.Option.{option_copied};
 ghost use Rattle.tt_vars.specs.Links.{AreSame, Grows, HasNames, HasSize, Links, Reads, Removes, Writes, lent, place_of};
-ghost use Rattle.tt_store.specs.Levels.{HasDepth, above, begun_in, called, caller_of, global_level, left, with_frames};
+ghost use Rattle.tt_store.specs.Levels.{HasDepth, above, begun_in, called, caller_of, global_level, levels_after_end};
+ghost use Rattle.tt_store.specs.Levels.{with_frames};
 ghost use Rattle.tt_store.specs.Spots.{place_in};
 
 use crate::spot::Spot;
@@ -36,9 +37,21 @@ impl Model for Nesting {
 
     ghost Value = { Levels };
 
-    ghost view = { λ nesting. record { frames = nesting.vars; callers = nesting.callers.items; current = nesting.current; begun = reverse nesting.begun.items } };
+    ghost view = { λ nesting.
+        record {
+          frames = nesting.vars;
+          callers = nesting.callers.items;
+          current = nesting.current;
+          begun = reverse nesting.begun.items;
+        } };
 
-    ghost invariant = { λ nesting. IsNested (record { frames = nesting.vars; callers = nesting.callers.items; current = nesting.current; begun = reverse nesting.begun.items }) };
+    ghost invariant = { λ nesting.
+        IsNested (record {
+          frames = nesting.vars;
+          callers = nesting.callers.items;
+          current = nesting.current;
+          begun = reverse nesting.begun.items;
+        }) };
 }
 
 impl Nesting {
@@ -101,7 +114,7 @@ impl Nesting {
 
     /// What was begun last has ended.
     pub(crate) fn leave(&mut self)
-        ensures { self.new ≡ left self.old }
+        ensures { self.new ≡ levels_after_end self.old }
     {
         match self.begun.pop() {
             Some(Begun::Script { back }) => self.current = back,
@@ -155,7 +168,8 @@ impl Nesting {
     /// Makes a name of the current frame a link.
     pub(crate) fn link(&mut self, local: &Text, frame: u64, spot: &Spot) -> Result<Linked, NoMemory>
         requires lower { frame ≤ self.old.current }
-        ensures linked { IfOk result (λ answer. Links self.old.frames self.old.current local.now (place_in frame spot.now) self.new.frames answer) }
+        ensures linked { IfOk result (λ answer.
+            Links self.old.frames self.old.current local.now (place_in frame spot.now) self.new.frames answer) }
         ensures rest { self.new ≡ with_frames self.old self.new.frames }
         ensures unchanged { OnErr result (self.new ≡ self.old) }
     {
@@ -196,7 +210,8 @@ impl Nesting {
 
     /// Writes a value to a name.
     pub(crate) fn write(&mut self, spot: &Spot, value: Value) -> Result<Written, NoMemory>
-        ensures written { IfOk result (λ answer. Writes self.old.frames (place_in self.old.current spot.now) value self.new.frames answer) }
+        ensures written { IfOk result (λ answer.
+            Writes self.old.frames (place_in self.old.current spot.now) value self.new.frames answer) }
         ensures rest { self.new ≡ with_frames self.old self.new.frames }
         ensures unchanged { OnErr result (self.new ≡ self.old) }
     {
@@ -212,7 +227,8 @@ impl Nesting {
         growth: Growth,
         texts: &[Text],
     ) -> Result<Result<ListAnswer, VarFault>, NoMemory>
-        ensures grown { IfOk result (λ answer. Grows growth texts.now self.old.frames (place_in self.old.current spot.now) self.new.frames answer) }
+        ensures grown { IfOk result (λ answer.
+            Grows growth texts.now self.old.frames (place_in self.old.current spot.now) self.new.frames answer) }
         ensures rest { self.new ≡ with_frames self.old self.new.frames }
     {
         let frame = self.frame_of(spot);
@@ -231,7 +247,8 @@ impl Nesting {
 
     /// Whether a name and a global one stand for the same.
     pub(crate) fn is_same(&self, spot: &Spot, name: &Text, index: Option<&Text>) -> bool
-        ensures { AreSame self.now.frames (place_in self.now.current spot.now) (place_of 0 name.now (option_copied index.entry)) result }
+        ensures { AreSame self.now.frames (place_in self.now.current spot.now)
+            (place_of 0 name.now (option_copied index.entry)) result }
     {
         self.vars.same(
             self.frame_of(spot),

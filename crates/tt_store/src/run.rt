@@ -9,16 +9,16 @@ use crate::{Answer, Store};
 use std::alloc::Global;
 use tt_calls::Outcome;
 use tt_list_commands::concat;
+use tt_outcomes::Body;
 use tt_pure::{is_pure, pure};
 use tt_script::plain_name;
 use tt_text::{NoMemory, Text, quoting};
-use tt_outcomes::Body;
 
 impl Store {
     /// Runs a whole command, its name first: a command of the table, else one that
-    /// answers by its words alone; `Other` where it is none of them, and then nothing has changed.
+    /// answers by its words alone; `Other` if it is none of them, and then nothing has changed.
     ///
-    /// After `Body` what is begun is ended by `leave`. `NoMemory` where memory is refused.
+    /// After `Body` what is begun is ended by `leave`. `NoMemory` if memory is refused.
     pub fn run(&mut self, words: &[Text]) -> Result<Answer, NoMemory>
         ensures runs { IfOk result (λ answer. table.Runs words.now self.old answer self.new) }
     {
@@ -32,7 +32,8 @@ impl Store {
     }
 
     fn run_command(&mut self, name: &Text, words: &[Text]) -> Result<Answer, NoMemory>
-        ensures { IfOk result (λ answer. table.IsCommand (table.first_named table.commands name.now) name.now words.now self.old answer self.new) }
+        ensures { IfOk result (λ answer.
+            table.IsCommand (table.first_named table.commands name.now) name.now words.now self.old answer self.new) }
     {
         match command_of(name.as_bytes()) {
             Some(command) => self.by_row(command, words),
@@ -41,7 +42,8 @@ impl Store {
     }
 
     fn run_pure(&self, name: &Text, words: &[Text]) -> Result<Answer, NoMemory>
-        ensures { IfOk result (λ answer. table.IsPure (pure_table.is_pure name.now) name.now words.now self.now answer self.now) }
+        ensures { IfOk result (λ answer.
+            table.IsPure (pure_table.is_pure name.now) name.now words.now self.now answer self.now) }
     {
         if !is_pure(name.as_bytes()) {
             return Ok(Answer::Other);
@@ -107,7 +109,8 @@ impl Store {
         word: &Text,
         words: &[Text],
     ) -> Result<Outcome, NoMemory>
-        ensures { IfOk result (λ outcome. table.PackageBy known usage.now word.now words.now self.now outcome self.now) }
+        ensures { IfOk result (λ outcome.
+            table.PackageBy known usage.now word.now words.now self.now outcome self.now) }
     {
         if !known {
             return Outcome::bad_option(self.alloc, word.as_bytes());

@@ -41,7 +41,8 @@ impl Store {
     }
 
     fn increment(&mut self, word: &Text, step: &[u8]) -> Result<Outcome, NoMemory>
-        ensures { IfOk result (λ outcome. scalars.Changes word.now (codes "0") (scalars.incremented step.now) self.old outcome self.new) }
+        ensures { IfOk result (λ outcome.
+            scalars.Changes word.now (codes "0") (scalars.incremented step.now) self.old outcome self.new) }
     {
         let found = self.counted(word, b"0")?;
         let made = sum_made(self.alloc, word, step, found)?;
@@ -74,7 +75,8 @@ impl Store {
     }
 
     pub(crate) fn unset(&mut self, words: &[Text]) -> Result<Outcome, NoMemory>
-        ensures { IfOk result (λ outcome. scalars.UnsetsIf (scalars.first_unknown words.now) words.now self.old outcome self.new) }
+        ensures { IfOk result (λ outcome.
+            scalars.UnsetsIf (scalars.first_unknown words.now) words.now self.old outcome self.new) }
     {
         match first_unknown(words) {
             Some(word) => Outcome::bad_option(self.alloc, word.as_bytes()),
@@ -89,7 +91,7 @@ impl Store {
         ensures { IfOk result (λ outcome. scalars.UnsetsAll nocomplain names.now self.old outcome self.new) }
     {
         let message = self.unset_each(nocomplain, names)?;
-        let outcome = ended_by(self.alloc, message)?;
+        let outcome = outcome_by(self.alloc, message)?;
         Ok(outcome)
     }
 
@@ -126,9 +128,11 @@ fn told_of(nocomplain: bool, removed: Result<(), VarFault>) -> Option<VarFault>
     }
 }
 
-/// The empty result, or the error.
-pub(crate) fn ended_by(alloc: Global, message: Option<Text>) -> Result<Outcome, NoMemory>
-    ensures { IfOk result (λ outcome. outcome ≡ scalars.ended_by message) }
+/// The outcome of a command that has the empty result, or ends with an error of this message.
+///
+/// `NoMemory` if memory is refused.
+pub fn outcome_by(alloc: Global, message: Option<Text>) -> Result<Outcome, NoMemory>
+    ensures { IfOk result (λ outcome. outcome ≡ scalars.outcome_by message) }
 {
     match message {
         None => Ok(Outcome::fine(alloc, Text::new(alloc))),

@@ -1,6 +1,6 @@
 ghost use Rattle.std.specs.Prelude.{◌≡◌, IfOk};
 ghost use Rattle.std.specs.Option.{option_copied};
-ghost use Rattle.tt_store.specs.Spots.{spot, spot_of, told};
+ghost use Rattle.tt_store.specs.Spots.{spot, spot_of, full_name};
 
 use std::alloc::Global;
 use tt_script::{global_name, split_name};
@@ -53,9 +53,11 @@ pub(crate) fn spot_of(alloc: Global, word: &[u8]) -> Result<Spot, NoMemory>
     }
 }
 
-/// How a name is told.
-pub(crate) fn told(alloc: Global, name: &[u8], index: Option<&[u8]>) -> Result<Text, NoMemory>
-    ensures { IfOk result (λ text. text ≡ told name.now (option_copied index.entry)) }
+/// A name with its index, if it has one, as errors show it (set(n)): `a(b)`.
+///
+/// `NoMemory` if memory is refused.
+pub fn full_name(alloc: Global, name: &[u8], index: Option<&[u8]>) -> Result<Text, NoMemory>
+    ensures { IfOk result (λ text. text ≡ full_name name.now (option_copied index.entry)) }
 {
     let mut text = Text::from_bytes(alloc, name)?;
     if let Some(index) = index {

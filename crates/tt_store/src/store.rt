@@ -4,7 +4,7 @@ ghost use Rattle.tt_store.specs.Held as held;
 
 use crate::messages::{cannot_read, cannot_set};
 use crate::nesting::Nesting;
-use crate::spot::{Spot, spot_named, spot_of, told};
+use crate::spot::{Spot, full_name, spot_named, spot_of};
 use crate::watch::{Watch, mark};
 use std::alloc::Global;
 use std::marker::Model;
@@ -32,7 +32,7 @@ impl Model for Store {
 impl Store {
     /// The global frame alone, with no variables.
     ///
-    /// `NoMemory` where memory for it is refused.
+    /// `NoMemory` if memory for it is refused.
     pub fn new(alloc: Global) -> Result<Self, NoMemory>
         ensures nothing { IfOk result (λ store. store ≡ held.nothing_held) }
     {
@@ -47,39 +47,40 @@ impl Store {
     /// What `$name` and `$name(index)` give (Tcl(n)): the value, or the error of reading. A name with a leading `::` is
     /// that of the global variable of the rest.
     ///
-    /// `NoMemory` where memory is refused.
+    /// `NoMemory` if memory is refused.
     pub fn read(&self, name: &[u8], index: Option<&[u8]>) -> Result<Outcome, NoMemory>
         ensures read { IfOk result (held.IsRead self.now name.now (option_copied index.entry)) }
     {
         let spot = spot_named(self.alloc, name, index)?;
         let found = self.find(&spot)?;
-        let told = told(self.alloc, name, index)?;
-        let outcome = value_of(self.alloc, &told, found)?;
+        let word = full_name(self.alloc, name, index)?;
+        let outcome = value_of(self.alloc, &word, found)?;
         Ok(outcome)
     }
 
     /// Gives a value to the same (set(n)): the value, or the error of setting; then nothing has changed.
     ///
-    /// `NoMemory` where memory is refused.
+    /// `NoMemory` if memory is refused.
     pub fn write(
         &mut self,
         name: &[u8],
         index: Option<&[u8]>,
         value: Text,
     ) -> Result<Outcome, NoMemory>
-        ensures written { IfOk result (λ outcome. held.IsWritten self.old name.now (option_copied index.entry) value outcome self.new) }
+        ensures written { IfOk result (λ outcome.
+            held.IsWritten self.old name.now (option_copied index.entry) value outcome self.new) }
     {
         let spot = spot_named(self.alloc, name, index)?;
-        let told = told(self.alloc, name, index)?;
+        let word = full_name(self.alloc, name, index)?;
         let text = value.copy()?;
         let written = self.set_spot(&spot, value)?;
-        let outcome = stored(self.alloc, &told, text, written)?;
+        let outcome = stored(self.alloc, &word, text, written)?;
         Ok(outcome)
     }
 
     /// A script at global level begins (uplevel(n), vwait(n)); `leave` ends it.
     ///
-    /// `NoMemory` where memory is refused; then nothing has changed.
+    /// `NoMemory` if memory is refused; then nothing has changed.
     pub fn enter(&mut self) -> Result<(), NoMemory>
         ensures entered { OnOk result (self.new ≡ held.entered self.old) }
         ensures unchanged { OnErr result (self.new ≡ self.old) }
@@ -91,14 +92,14 @@ impl Store {
     /// body of eval(n) or uplevel(n), or a script at global level. The frame is current that was so before. Where
     /// nothing was begun nothing changes.
     pub fn leave(&mut self)
-        ensures ended { self.new ≡ held.ended self.old }
+        ensures ended { self.new ≡ held.after_end self.old }
     {
         self.nesting.leave();
     }
 
     /// A wait for a global variable begins (vwait(n)); a leading `::` of its name is dropped once.
     ///
-    /// `NoMemory` where memory is refused; then nothing has changed.
+    /// `NoMemory` if memory is refused; then nothing has changed.
     pub fn watch(&mut self, name: &[u8]) -> Result<(), NoMemory>
         ensures watched { OnOk result (self.new ≡ held.watched name.now self.old) }
         ensures unchanged { OnErr result (self.new ≡ self.old) }
@@ -153,7 +154,8 @@ impl Store {
 
     /// The watches see that what a spot stands for was written.
     pub(crate) fn mark_written(&mut self, spot: &Spot)
-        ensures marked { held.AreMarked self.old.levels.frames (held.place self.old spot.now) self.old.watches self.new.watches }
+        ensures marked { held.AreMarked self.old.levels.frames (held.place self.old spot.now) self.old.watches
+            self.new.watches }
         ensures rest { self.new.levels ≡ self.old.levels }
     {
         mark(&self.nesting, spot, self.watches.as_mut_slice());
@@ -161,7 +163,7 @@ impl Store {
 
     /// What a command's word names is read.
     pub(crate) fn read_word(&self, word: &Text) -> Result<Outcome, NoMemory>
-        ensures { IfOk result (held.Reads word.now self.now) }
+        ensures { IfOk result (held.ReadsWord word.now self.now) }
     {
         let spot = spot_of(self.alloc, word.as_bytes())?;
         let found = self.find(&spot)?;
@@ -189,26 +191,26 @@ impl Store {
     }
 }
 
-fn value_of(alloc: Global, told: &Text, found: Result<Text, VarFault>) -> Result<Outcome, NoMemory>
-    ensures { IfOk result (λ outcome. outcome ≡ held.value_of told.now found) }
+fn value_of(alloc: Global, word: &Text, found: Result<Text, VarFault>) -> Result<Outcome, NoMemory>
+    ensures { IfOk result (λ outcome. outcome ≡ held.value_of word.now found) }
 {
     match found {
         Ok(text) => Ok(Outcome::fine(alloc, text)),
         Err(fault) => {
-            let message = cannot_read(alloc, told.as_bytes(), fault)?;
+            let message = cannot_read(alloc, word.as_bytes(), fault)?;
             let outcome = Outcome::failed(message)?;
             Ok(outcome)
         }
     }
 }
 
-fn stored(alloc: Global, told: &Text, text: Text, written: Written) -> Result<Outcome, NoMemory>
-    ensures { IfOk result (λ outcome. outcome ≡ held.stored told.now text written) }
+fn stored(alloc: Global, word: &Text, text: Text, written: Written) -> Result<Outcome, NoMemory>
+    ensures { IfOk result (λ outcome. outcome ≡ held.stored word.now text written) }
 {
     match written {
         Written::Yes => Ok(Outcome::fine(alloc, text)),
         Written::No(fault) => {
-            let message = cannot_set(alloc, told.as_bytes(), fault)?;
+            let message = cannot_set(alloc, word.as_bytes(), fault)?;
             let outcome = Outcome::failed(message)?;
             Ok(outcome)
         }

@@ -1,5 +1,5 @@
 -- Links are made one after the other.
-use Rattle.std.proofs.Common.{◌≡◌, ℕ, suc, ◌+◌, ◌-◌, ◌<◌, ◌≤◌, List, [], ◌∷◌, Option, Some, None, length, get_or, take, drop, refl, sym, subst, ap, add-one, drop-cons, rules, arith}
+use Rattle.std.proofs.Common.{◌≡◌, ℕ, ◌-◌, ◌<◌, ◌≤◌, List, [], ◌∷◌, Option, Some, None, length, get_or, take, drop, refl, sym, subst, rules, arith}
 use Rattle.std.proofs.lemmas.Grind.{common_steps}
 use Rattle.tt_vars.specs.Variables.{Name}
 use Rattle.tt_store.specs.Held.{Held}
@@ -32,10 +32,6 @@ pub all_done : {X : Type 0} (Links : X → Held → Option (List ℕ) → Held �
     → Each Links all start None held
 all_done Links left all start held is goes =
     goes None held (subst (λ some. Each Links some held None held) (sym is) none)
-
--- what is left, where one more comes
-pub next_left : {X : Type 0} (names : List X) (i : ℕ) (name : X) → i < length names → name ≡ get_or names i name → drop i names ≡ name ∷ drop (i + 1) names
-next_left names i name within is = rw (add-one, drop-cons names i name) (ap (λ x. x ∷ drop (suc i) names) (sym is))
 
 -- the first pair, and those after it
 pub next_pair : (other local : Name) (names : List Name) →

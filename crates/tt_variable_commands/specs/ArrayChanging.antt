@@ -1,5 +1,6 @@
 -- Arrays as they are changed: elements are set and removed (array(n)).
-use Rattle.std.specs.Prelude.{◌≡◌, ℕ, ◌%◌, ◌==◌, Bool, true, false, length, List, [], ◌∷◌, Option, Some, None, Result, codes, is_some}
+use Rattle.std.specs.Prelude.{◌≡◌, ℕ, ◌%◌, ◌==◌, Bool, true, false, length, List, [], ◌∷◌, Option, Some, None, Result}
+use Rattle.std.specs.Prelude.{codes, is_some}
 use Rattle.tt_calls.specs.declared.outcome.Code.{Code}
 use Rattle.tt_calls.specs.declared.outcome.Code.TheVariants.{Failed}
 use Rattle.tt_calls.specs.declared.outcome.Outcome.{Outcome}
@@ -10,12 +11,13 @@ use Rattle.tt_lists.specs.Messages.{list_message}
 use Rattle.tt_lists.specs.Reading.{split_of}
 use Rattle.tt_store.specs.Held.{Drops, Fails, Held, IsWritten, Meaning, Refuses}
 use Rattle.tt_store.specs.Messages.{cannot_set}
-use Rattle.tt_store.specs.Scalars.{ended_by}
-use Rattle.tt_store.specs.Spots.{spot, told}
+use Rattle.tt_store.specs.Scalars.{outcome_by}
+use Rattle.tt_store.specs.Spots.{spot, full_name}
 use Rattle.tt_vars.specs.declared.answers.VarFault.{VarFault}
 use Rattle.tt_vars.specs.declared.answers.VarFault.TheVariants.{NotArray}
 use Rattle.tt_vars.specs.Variables.{Name}
-use Rattle.tt_variable_commands.specs.ArrayReading.{Counts, Ending, Lists, is_element, names_like}
+use Rattle.tt_variable_commands.specs.ArrayReading.{Counts, Ending, Lists, names_like}
+use Rattle.tt_variable_commands.specs.Vocabulary.{is_element}
 
 -- ---- elements are set ----
 
@@ -43,7 +45,7 @@ first_pair [] = None
 first_pair (index ∷ []) = None
 first_pair (index ∷ text ∷ items) = Some (index, text, items)
 
--- texts are given to elements one after the other, up to the first that can't be; then the message is told
+-- texts are given to elements one after the other, up to the first that can't be; then its message is the answer
 pub data SetsEach (name : Name) :
     (pairs : List (Name × List ℕ)) → (old : Held) → Option (List ℕ) → (new : Held) → Type 0 where
   none : {held : Held} → SetsEach name [] held None held
@@ -59,7 +61,7 @@ pub data SetsEach (name : Name) :
 -- an element has no elements
 abbrev pub none_set : Name → (items : List (List ℕ)) → Outcome
 none_set name [] = fine []
-none_set name (index ∷ items) = failed (cannot_set (told name (Some index)) NotArray)
+none_set name (index ∷ items) = failed (cannot_set (full_name name (Some index)) NotArray)
 
 -- the elements of a list are set
 abbrev pub SetsPairs : (element : Bool) → Name → (items : List (List ℕ)) → Ending
@@ -67,7 +69,7 @@ SetsPairs true name items old outcome new = (outcome ≡ none_set name items) ×
 SetsPairs false name items old outcome new =
     (message : Option (List ℕ))
     × SetsEach name (pairs_in items) old message new
-    × (outcome ≡ ended_by message)
+    × (outcome ≡ outcome_by message)
 
 -- each index has a text
 abbrev pub is_paired : (items : List (List ℕ)) → Bool
@@ -107,7 +109,7 @@ abbrev pub DropsIf : (there : Bool) → Name → (old new : Held) → Type 0
 DropsIf true name old new = (removed : Result Unit VarFault) × Drops old (spot name None) new removed
 DropsIf false name old new = new ≡ old
 
--- then nothing is told
+-- then the result is empty
 abbrev pub DropsWhole : Name → Ending
 DropsWhole name old outcome new =
     (size : Option ℕ)

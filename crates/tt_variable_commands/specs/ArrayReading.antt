@@ -1,23 +1,20 @@
 -- Arrays as they are read: whether they are there, their size, their indices and their values (array(n)).
-use Rattle.std.specs.Prelude.{◌≡◌, ℕ, Bool, true, false, List, [], ◌∷◌, ◌++◌, Option, Some, None, Result, Ok, Err, codes, decimal, filter, if◌then◌else◌, is_some, unwrap_or}
+use Rattle.std.specs.Prelude.{◌≡◌, ℕ, Bool, true, false, List, [], ◌∷◌, ◌++◌, Option, Some, None, Result, Ok, Err}
+use Rattle.std.specs.Prelude.{decimal, filter, is_some, unwrap_or}
 use Rattle.tt_calls.specs.declared.outcome.Outcome.{Outcome}
 use Rattle.tt_calls.specs.Outcomes.{fine}
 use Rattle.tt_lists.specs.Spelling.{list_of}
-use Rattle.tt_script.specs.Names.{element_of}
 use Rattle.tt_store.specs.Held.{Finds, HasIndices, HasSize, Held, Meaning, Refuses}
 use Rattle.tt_store.specs.Spots.{spot}
 use Rattle.tt_text.specs.Characters.{characters}
 use Rattle.tt_text.specs.GlobFunction.{is_match}
 use Rattle.tt_vars.specs.declared.answers.VarFault.{VarFault}
 use Rattle.tt_vars.specs.Variables.{Name}
+use Rattle.tt_variable_commands.specs.Vocabulary.{is_element, truth}
 
 -- how a command ends, and what is held then
 abbrev pub Ending : Type 1
 Ending = (old : Held) → Outcome → (new : Held) → Type 0
-
--- a(b) is an element's name (Tcl(n), rule 8)
-abbrev pub is_element : Name → Bool
-is_element name = is_some (element_of name)
 
 -- the indices of the array that a name stands for; an element's name stands for none
 abbrev pub HasIndicesIf : (element : Bool) → Held → Name → Option (List Name) → Type 0
@@ -31,7 +28,7 @@ Lists held name indices =
     × HasIndicesIf (is_element name) held name found
     × (indices ≡ unwrap_or found [])
 
--- how many elements the array has that a name stands for; None where it stands for none
+-- how many elements the array has that a name stands for; None if it stands for none
 abbrev pub HasSizeIf : (element : Bool) → Held → Name → Option ℕ → Type 0
 HasSizeIf true held name size = size ≡ None
 HasSizeIf false held name size = HasSize held name size
@@ -41,10 +38,6 @@ abbrev pub Counts : Held → Name → Option ℕ → Type 0
 Counts held name size = HasSizeIf (is_element name) held name size
 
 -- ---- is it there, and how large? ----
-
--- 1 for what is so
-abbrev pub truth : Bool → List ℕ
-truth is = if is then codes "1" else codes "0"
 
 -- a command tells something of an array's size, and changes nothing
 abbrev pub TellsSize : (Option ℕ → List ℕ) → Name → Ending

@@ -20,11 +20,11 @@ BeginsIn frame script old answer new =
     (answer ≡ answers.Body body.Level (concatenation script))
     × (new ≡ begun_at frame old)
 
-abbrev pub Begins :
+abbrev pub BeginsScript :
     (level : List ℕ) → (frame : Option ℕ) → (script : List (List ℕ)) →
     (old : Held) → Answer → (new : Held) → Type 0
-Begins level None script old answer new = (answer ≡ answers.Outcome (failed (bad_level level))) × (new ≡ old)
-Begins level (Some frame) script old answer new = BeginsIn frame script old answer new
+BeginsScript level None script old answer new = (answer ≡ answers.Outcome (failed (bad_level level))) × (new ≡ old)
+BeginsScript level (Some frame) script old answer new = BeginsIn frame script old answer new
 
 abbrev pub BeginsAt :
     (level_and_script : List ℕ × List (List ℕ)) →
@@ -32,7 +32,7 @@ abbrev pub BeginsAt :
 BeginsAt (level, script) old answer new =
     (frame : Option ℕ)
     × IsFrame level old.levels frame
-    × Begins level frame script old answer new
+    × BeginsScript level frame script old answer new
 
 abbrev pub uplevel : Coming
 uplevel usage [] old answer new = (answer ≡ answers.Outcome (failed (wrong_number usage))) × (new ≡ old)

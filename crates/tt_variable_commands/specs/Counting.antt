@@ -1,5 +1,6 @@
 -- Levels: which frame a word means (upvar(n), uplevel(n)).
-use Rattle.std.specs.Prelude.{◌≡◌, ℕ, ◌-◌, ◌^◌, ◌==◌, nat_le, min, drop, Bool, true, false, List, [], ◌∷◌, Option, Some, None, if◌then◌else◌}
+use Rattle.std.specs.Prelude.{◌≡◌, ℕ, ◌-◌, ◌^◌, ◌==◌, nat_le, min, drop, Bool, true, false, List, [], ◌∷◌, Option}
+use Rattle.std.specs.Prelude.{Some, None, if◌then◌else◌}
 use Rattle.std.specs.Option.{option_map}
 use Rattle.tt_number.specs.Numerals.{number_of}
 use Rattle.tt_store.specs.Levels.{HasDepth, Levels, above}
@@ -35,6 +36,6 @@ abbrev pub IsFrameBy : (numbered : Bool) → (word : List ℕ) → Levels → (f
 IsFrameBy true word levels frame = IsAlong levels (count_of (drop 1 word)) frame
 IsFrameBy false word levels frame = frame ≡ frame_up levels (count_of word)
 
--- the frame of a level; None where the word is no level, or there is no such frame
+-- the frame of a level; None if the word is no level, or there is no such frame
 abbrev pub IsFrame : (word : List ℕ) → Levels → (frame : Option ℕ) → Type 0
 IsFrame word levels frame = IsFrameBy (is_numbered word) word levels frame

@@ -8,3 +8,4 @@ pub mod LevelMessages
 pub mod LevelWords
 pub mod Linking
 pub mod Telling
+pub mod Vocabulary

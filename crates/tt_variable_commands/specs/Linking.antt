@@ -1,20 +1,22 @@
 -- Links to variables (global(n), upvar(n)).
-use Rattle.std.specs.Prelude.{◌≡◌, ℕ, nat_lt, Bool, true, false, ◌||◌, ◌==◌, is_some, List, [], ◌∷◌, length, Option, Some, None}
+use Rattle.std.specs.Prelude.{◌≡◌, ℕ, nat_lt, Bool, true, false, ◌||◌, ◌==◌, is_some, List, [], ◌∷◌, length, Option}
+use Rattle.std.specs.Prelude.{Some, None}
 use Rattle.tt_calls.specs.declared.outcome.Outcome.{Outcome}
-use Rattle.tt_calls.specs.Outcomes.{failed, fine}
-use Rattle.tt_script.specs.Names.{element_of, global_of}
+use Rattle.tt_calls.specs.Outcomes.{fine}
 use Rattle.tt_vars.specs.declared.answers.Linked.{Linked}
 use Rattle.tt_vars.specs.declared.answers.Linked.TheVariants.{Yes, Exists, Itself}
 use Rattle.tt_vars.specs.Variables.{Name}
 use Rattle.tt_store.specs.Held.{Fails, Held, LinksTo, Meaning, Refuses}
-use Rattle.tt_script.specs.Names.{plain_name}
+use Rattle.tt_script.specs.Names.{global_of, plain_name}
+use Rattle.tt_store.specs.Scalars.{outcome_by}
 use Rattle.tt_variable_commands.specs.Counting.{IsFrame}
 use Rattle.tt_variable_commands.specs.LevelMessages.{bad_level, bad_name, in_use, to_itself}
 use Rattle.tt_variable_commands.specs.LevelWords.{is_odd, parted}
+use Rattle.tt_variable_commands.specs.Vocabulary.{is_element}
 
 -- ---- one link ----
 
--- the message, where there is no link
+-- the message, if there is no link
 abbrev pub message_of : (word : Name) → Linked → Option (List ℕ)
 message_of word Yes = None
 message_of word Exists = Some (in_use word)
@@ -32,7 +34,7 @@ LinksOne false word local frame other old message new =
 
 -- ---- one after the other ----
 
--- each is linked in turn, up to the first that can't be; then the message is told
+-- each is linked in turn, up to the first that can't be; then its message is the answer
 pub data Each {X : Type 0} (Links : X → Held → Option (List ℕ) → Held → Type 0) :
     List X → (old : Held) → (message : Option (List ℕ)) → (new : Held) → Type 0
   where
@@ -41,13 +43,9 @@ pub data Each {X : Type 0} (Links : X → Held → Option (List ℕ) → Held �
         Links x old None next →
         Each Links xs next message new →
         Each Links (x ∷ xs) old message new
-    fails : {x : X} {xs : List X} {told : List ℕ} {old new : Held} →
-        Links x old (Some told) new →
-        Each Links (x ∷ xs) old (Some told) new
-
-abbrev pub told : (message : Option (List ℕ)) → Outcome
-told None = fine []
-told (Some message) = failed message
+    fails : {x : X} {xs : List X} {message : List ℕ} {old new : Held} →
+        Links x old (Some message) new →
+        Each Links (x ∷ xs) old (Some message) new
 
 -- ---- global(n) ----
 
@@ -56,7 +54,7 @@ abbrev pub LinksName :
     (word : Name) →
     (old : Held) → (message : Option (List ℕ)) → (new : Held) → Type 0
 LinksName word old message new =
-    LinksOne (is_some (element_of (plain_name word))) word (plain_name word) 0 word old message new
+    LinksOne (is_element (plain_name word)) word (plain_name word) 0 word old message new
 
 -- at global level nothing is done
 abbrev pub GlobalBy :
@@ -66,7 +64,7 @@ GlobalBy true names old outcome new = (outcome ≡ fine []) × (new ≡ old)
 GlobalBy false names old outcome new =
     (message : Option (List ℕ))
     × Each LinksName names old message new
-    × (outcome ≡ told message)
+    × (outcome ≡ outcome_by message)
 
 abbrev pub global : Meaning
 global usage names old outcome new = GlobalBy (old.levels.current == 0) names old outcome new
@@ -78,7 +76,7 @@ abbrev pub LinksPair :
     (frame : ℕ) → (names : Name × Name) →
     (old : Held) → (message : Option (List ℕ)) → (new : Held) → Type 0
 LinksPair frame (other, local) old message new =
-    LinksOne (is_some (element_of local) || is_some (global_of local)) local local frame other old message new
+    LinksOne (is_element local || is_some (global_of local)) local local frame other old message new
 
 -- other names, and the local ones after them
 abbrev pub pairs_of : (names : List Name) → List (Name × Name)
@@ -93,7 +91,7 @@ LinksIn level None names old outcome new = Fails (bad_level level) old outcome n
 LinksIn level (Some frame) names old outcome new =
     (message : Option (List ℕ))
     × Each (LinksPair frame) (pairs_of names) old message new
-    × (outcome ≡ told message)
+    × (outcome ≡ outcome_by message)
 
 -- the level is looked at before the names
 abbrev pub LinksFrom :

@@ -10,6 +10,7 @@ use Rattle.tt_store.specs.Levels.{HasDepth}
 use Rattle.tt_calls.specs.Usages.{bad_option, wrong_number}
 use Rattle.tt_variable_commands.specs.declared.levels.telling.Topic.{Topic}
 use Rattle.tt_variable_commands.specs.declared.levels.telling.Topic.TheVariants as topic
+use Rattle.tt_variable_commands.specs.Vocabulary.{truth}
 
 abbrev pub topic_of : (word : List ℕ) → Option Topic
 topic_of word =
@@ -18,7 +19,7 @@ topic_of word =
     if bytes_eq word (codes "procs") then Some topic.Procs else None
 
 abbrev pub bit : Bool → Outcome
-bit there = fine (if there then codes "1" else codes "0")
+bit there = fine (truth there)
 
 -- info exists: whether a variable or an element is there
 abbrev pub exists : (words : List (List ℕ)) → (old : Held) → Outcome → (new : Held) → Type 0

@@ -4,7 +4,6 @@ mod command;
 mod counting;
 mod linking;
 mod messages;
-mod row;
 mod running;
 mod telling;
 mod words;

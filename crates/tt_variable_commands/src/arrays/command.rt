@@ -5,7 +5,7 @@ ghost use Rattle.tt_script.specs.Names.{plain_name};
 
 use crate::arrays::reading::{exists, get, names, size};
 use crate::arrays::setting::set;
-use crate::arrays::subcommand::{Subcommand, subcommand_of, usage_of};
+use crate::arrays::subcommand::{Subcommand, row_of, subcommand_of};
 use crate::arrays::unsetting::unset;
 use std::alloc::Global;
 use tt_calls::Outcome;
@@ -13,10 +13,10 @@ use tt_script::plain_name;
 use tt_store::{Answer, Store};
 use tt_text::{NoMemory, Text};
 
-/// Runs a whole command, its name first: array(n), and it has ended; `Other` where it has another name, and then
+/// Runs a whole command, its name first: array(n), and it has ended; `Other` if it has another name, and then
 /// nothing has changed.
 ///
-/// `NoMemory` where memory is refused.
+/// `NoMemory` if memory is refused.
 pub fn run(alloc: Global, store: &mut Store, words: &[Text]) -> Result<Answer, NoMemory>
     ensures runs { IfOk result (λ answer. table.Runs words.now store.old answer store.new) }
 {
@@ -41,7 +41,7 @@ fn array(alloc: Global, store: &mut Store, words: &[Text]) -> Result<Outcome, No
 {
     match words {
         [word, words @ ..] => by_word(alloc, store, word, words),
-        [] => Outcome::wrong_number(alloc, usage_of(Subcommand::Exists)),
+        [] => Outcome::wrong_number(alloc, row_of(Subcommand::Exists).usage),
     }
 }
 
@@ -51,7 +51,9 @@ fn by_word(
     word: &Text,
     words: &[Text],
 ) -> Result<Outcome, NoMemory>
-    ensures { IfOk result (λ outcome. table.IsSubcommand (table.first_named table.subcommands word.now) word.now words.now store.old outcome store.new) }
+    ensures { IfOk result (λ outcome.
+        table.IsSubcommand (table.first_named table.subcommands word.now) word.now words.now store.old outcome
+        store.new) }
 {
     match subcommand_of(word.as_bytes()) {
         Some(subcommand) => by_row(alloc, store, subcommand, words),
@@ -67,7 +69,7 @@ fn by_row(
 ) -> Result<Outcome, NoMemory>
     ensures { IfOk result (λ outcome. table.by_row (table.row_of subcommand) words.now store.old outcome store.new) }
 {
-    let usage = usage_of(subcommand);
+    let usage = row_of(subcommand).usage;
     match subcommand {
         Subcommand::Exists => exists(alloc, store, usage, words),
         Subcommand::Get => get(alloc, store, usage, words),

@@ -5,6 +5,7 @@ ghost use Rattle.tt_variable_commands.specs.ArrayReading as reading;
 
 use crate::arrays::patterns::names_like;
 use crate::arrays::spots::{indices_of, size_of};
+use crate::vocabulary::truth;
 use std::alloc::Global;
 use tt_calls::Outcome;
 use tt_lists::{count_text, join_list};
@@ -32,13 +33,6 @@ fn tell_exists(alloc: Global, store: &Store, name: &Text) -> Result<Outcome, NoM
     let size = size_of(store, name)?;
     let text = truth(alloc, size.is_some())?;
     Ok(Outcome::fine(alloc, text))
-}
-
-fn truth(alloc: Global, is: bool) -> Result<Text, NoMemory>
-    ensures { IfOk result (λ text. text ≡ reading.truth is) }
-{
-    let digit: &[u8] = if is { b"1" } else { b"0" };
-    Text::from_bytes(alloc, digit)
 }
 
 /// `array size`.
@@ -95,7 +89,8 @@ fn tell_names(
     name: &Text,
     pattern: Option<&Text>,
 ) -> Result<Outcome, NoMemory>
-    ensures { IfOk result (λ outcome. reading.Names (option_copied pattern.entry) name.now store.now outcome store.now) }
+    ensures { IfOk result (λ outcome.
+        reading.Names (option_copied pattern.entry) name.now store.now outcome store.now) }
 {
     let indices = indices_of(alloc, store, name)?;
     let like = names_like(alloc, pattern, indices)?;

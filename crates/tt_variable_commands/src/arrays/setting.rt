@@ -2,15 +2,14 @@
 ghost use Rattle.std.specs.Prelude.{◌≡◌, ◌<◌, IfOk, IfSome, length};
 ghost use Rattle.std.specs.Option.{option_map};
 ghost use Rattle.tt_lists.specs.Reading.{split_of};
-ghost use Rattle.tt_store.specs.Scalars.{ended_by};
 ghost use Rattle.tt_variable_commands.specs.ArrayChanging as changing;
 
 use crate::arrays::messages::{failed, not_array};
-use crate::arrays::spots::is_element;
+use crate::vocabulary::is_element;
 use std::alloc::Global;
 use tt_calls::{Code, Outcome};
 use tt_lists::{Split, split};
-use tt_store::Store;
+use tt_store::{Store, outcome_by};
 use tt_text::{NoMemory, Text};
 
 /// `array set`.
@@ -43,7 +42,8 @@ fn set_items(
     name: &Text,
     items: &[Text],
 ) -> Result<Outcome, NoMemory>
-    ensures { IfOk result (λ outcome. changing.SetsIf (changing.is_paired items.now) name.now items.now store.old outcome store.new) }
+    ensures { IfOk result (λ outcome.
+        changing.SetsIf (changing.is_paired items.now) name.now items.now store.old outcome store.new) }
 {
     if !is_paired(items) {
         return failed(alloc, b"list must have an even number of elements");
@@ -64,7 +64,7 @@ fn set_pairs(
         return set_none(alloc, name, items);
     }
     let message = set_each(store, name, items)?;
-    let outcome = ended_by(alloc, message)?;
+    let outcome = outcome_by(alloc, message)?;
     Ok(outcome)
 }
 
@@ -77,9 +77,10 @@ fn set_none(alloc: Global, name: &Text, items: &[Text]) -> Result<Outcome, NoMem
     }
 }
 
-// The message, where an element can't be set.
+// The message, if an element can't be set.
 fn set_each(store: &mut Store, name: &Text, items: &[Text]) -> Result<Option<Text>, NoMemory>
-    ensures { IfOk result (λ message. changing.SetsEach name.now (changing.pairs_in items.now) store.old message store.new) }
+    ensures { IfOk result (λ message.
+        changing.SetsEach name.now (changing.pairs_in items.now) store.old message store.new) }
 {
     let mut left = items;
     'pairs: while let Some((index, text, later)) = first_pair(left) {
@@ -115,7 +116,8 @@ fn message_of(outcome: Outcome) -> Option<Text>
 
 // The first two items, and those after them.
 fn first_pair(items: &[Text]) -> Option<(&Text, &Text, &[Text])>
-    ensures pair { option_map (λ parts. (parts.0.now, parts.1.now, parts.2.now)) result ≡ changing.first_pair items.now }
+    ensures pair { option_map (λ parts. (parts.0.now, parts.1.now, parts.2.now)) result
+        ≡ changing.first_pair items.now }
     ensures shorter { IfSome result (λ parts. length parts.2.now < length items.now) }
 {
     match items {
@@ -128,13 +130,4 @@ fn is_paired(items: &[Text]) -> bool
     ensures { result ≡ changing.is_paired items.now }
 {
     items.len() % 2 == 0
-}
-
-fn ended_by(alloc: Global, message: Option<Text>) -> Result<Outcome, NoMemory>
-    ensures { IfOk result (λ outcome. outcome ≡ ended_by message) }
-{
-    match message {
-        None => Ok(Outcome::fine(alloc, Text::new(alloc))),
-        Some(message) => Outcome::failed(message),
-    }
 }

@@ -2,19 +2,12 @@
 ghost use Rattle.std.specs.Prelude.{◌≡◌, IfOk};
 ghost use Rattle.tt_variable_commands.specs.ArrayReading as reading;
 
+use crate::vocabulary::is_element;
 use std::alloc::Global;
-use tt_script::split_name;
 use tt_store::Store;
 use tt_text::{NoMemory, Text, Texts};
 
-/// Whether this is the name of an element, which stands for no array.
-pub(crate) fn is_element(name: &Text) -> bool
-    ensures { result ≡ reading.is_element name.now }
-{
-    split_name(name.as_bytes()).is_some()
-}
-
-/// The indices of its elements, in order; none where it is missing.
+/// The indices of its elements, in order; none if it is missing.
 pub(crate) fn indices_of(alloc: Global, store: &Store, name: &Text) -> Result<Texts, NoMemory>
     ensures { IfOk result (reading.Lists store.now name.now) }
 {
@@ -33,7 +26,7 @@ fn indices_if(element: bool, store: &Store, name: &Text) -> Result<Option<Texts>
     store.indices(name.as_bytes())
 }
 
-/// How many elements it has; `None` where it is missing.
+/// How many elements it has; `None` if it is missing.
 pub(crate) fn size_of(store: &Store, name: &Text) -> Result<Option<usize>, NoMemory>
     ensures { IfOk result (reading.Counts store.now name.now) }
 {

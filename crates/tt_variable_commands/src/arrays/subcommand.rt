@@ -2,6 +2,8 @@
 ghost use Rattle.std.specs.Prelude.{◌≡◌};
 ghost use Rattle.tt_variable_commands.specs.ArrayCommands as table;
 
+use crate::row::Row;
+
 /// What is asked of an array.
 #[derive(Clone, Copy, Debug, PartialEq, Eq)]
 pub(crate) enum Subcommand {
@@ -22,31 +24,18 @@ const SUBCOMMANDS: [Subcommand; 6] = [
     Subcommand::Unset,
 ];
 
-/// Its word.
-fn name_of(subcommand: Subcommand) -> &'static [u8]
-    ensures { result.now ≡ (table.row_of subcommand).name }
+/// Its row.
+pub(crate) fn row_of(subcommand: Subcommand) -> Row
+    ensures name { result.name.now ≡ (table.row_of subcommand).name }
+    ensures usage { result.usage.now ≡ (table.row_of subcommand).usage }
 {
     match subcommand {
-        Subcommand::Exists => b"exists",
-        Subcommand::Get => b"get",
-        Subcommand::Names => b"names",
-        Subcommand::Set => b"set",
-        Subcommand::Size => b"size",
-        Subcommand::Unset => b"unset",
-    }
-}
-
-/// How it is used.
-pub(crate) fn usage_of(subcommand: Subcommand) -> &'static [u8]
-    ensures { result.now ≡ (table.row_of subcommand).usage }
-{
-    match subcommand {
-        Subcommand::Exists => b"array exists a",
-        Subcommand::Get => b"array get a ?pattern?",
-        Subcommand::Names => b"array names a ?pattern?",
-        Subcommand::Set => b"array set a list",
-        Subcommand::Size => b"array size a",
-        Subcommand::Unset => b"array unset a ?pattern?",
+        Subcommand::Exists => Row::new(b"exists", b"array exists a"),
+        Subcommand::Get => Row::new(b"get", b"array get a ?pattern?"),
+        Subcommand::Names => Row::new(b"names", b"array names a ?pattern?"),
+        Subcommand::Set => Row::new(b"set", b"array set a list"),
+        Subcommand::Size => Row::new(b"size", b"array size a"),
+        Subcommand::Unset => Row::new(b"unset", b"array unset a ?pattern?"),
     }
 }
 
@@ -63,5 +52,5 @@ fn first_named(subcommands: &[Subcommand], name: &[u8]) -> Option<Subcommand>
     subcommands
         .iter()
         .copied()
-        .find(|subcommand| name == name_of(*subcommand))
+        .find(|subcommand| name == row_of(*subcommand).name)
 }

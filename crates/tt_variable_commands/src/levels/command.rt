@@ -2,7 +2,7 @@
 ghost use Rattle.std.specs.Prelude.{◌≡◌};
 ghost use Rattle.tt_variable_commands.specs.LevelCommands as table;
 
-use crate::levels::row::Row;
+use crate::row::Row;
 
 /// A command on levels and links.
 #[derive(Clone, Copy, Debug, PartialEq, Eq)]

@@ -6,7 +6,7 @@ use tt_number::digits_of;
 use tt_store::Store;
 
 /// The frame of a level: `N` is N callers up from the current one, `#N` counts along the callers from the global
-/// frame. `None` where the word is no level, or there are fewer frames.
+/// frame. `None` if the word is no level, or there are fewer frames.
 pub(crate) fn frame_of(store: &Store, level: &[u8]) -> Option<u64>
     ensures frame { counting.IsFrame level.now store.now.levels result }
     ensures lower { IfSome result (λ frame. frame ≤ store.now.levels.current) }

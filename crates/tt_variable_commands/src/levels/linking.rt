@@ -1,27 +1,29 @@
 //! Links to variables (global(n), upvar(n)).
 ghost use Rattle.std.specs.Prelude.{◌≡◌, ◌≤◌, ◌==◌, ◌||◌, IfOk, OnOk, is_some};
 ghost use Rattle.tt_variable_commands.specs.Linking as linking;
-ghost use Rattle.tt_script.specs.Names.{element_of, global_of};
+ghost use Rattle.tt_script.specs.Names.{global_of};
 
 use crate::levels::counting::{frame_of, is_global};
 use crate::levels::messages::{bad_level, bad_name, in_use, to_itself};
 use crate::levels::words::{is_odd, parted};
+use crate::vocabulary::is_element;
 use std::alloc::Global;
 use tt_calls::Outcome;
-use tt_script::{global_name, plain_name, split_name};
-use tt_store::Store;
+use tt_script::{global_name, plain_name};
+use tt_store::{Store, outcome_by};
 use tt_text::{NoMemory, Text};
 use tt_vars::Linked;
 
 /// Links names of the current frame to the global variables of the same names.
 pub(crate) fn global(alloc: Global, store: &mut Store, names: &[Text]) -> Result<Outcome, NoMemory>
-    ensures { IfOk result (λ outcome. linking.GlobalBy (store.old.levels.current == 0) names.now store.old outcome store.new) }
+    ensures { IfOk result (λ outcome.
+        linking.GlobalBy (store.old.levels.current == 0) names.now store.old outcome store.new) }
 {
     if is_global(store) {
         return Ok(Outcome::fine(alloc, Text::new(alloc)));
     }
     let message = link_names(alloc, store, names)?;
-    let outcome = told(alloc, message)?;
+    let outcome = outcome_by(alloc, message)?;
     Ok(outcome)
 }
 
@@ -73,7 +75,7 @@ fn link_from(
     match frame_of(store, level) {
         Some(frame) => {
             let message = link_pairs(alloc, store, frame, names)?;
-            let outcome = told(alloc, message)?;
+            let outcome = outcome_by(alloc, message)?;
             Ok(outcome)
         }
         None => bad_level(alloc, level),
@@ -87,7 +89,8 @@ fn link_pairs(
     names: &[Text],
 ) -> Result<Option<Text>, NoMemory>
     requires lower { frame ≤ store.old.levels.current }
-    ensures { IfOk result (λ message. linking.Each (linking.LinksPair frame) (linking.pairs_of names.now) store.old message store.new) }
+    ensures { IfOk result (λ message.
+        linking.Each (linking.LinksPair frame) (linking.pairs_of names.now) store.old message store.new) }
 {
     let mut left = names;
     while let [other, local, later @ ..] = left {
@@ -107,7 +110,8 @@ fn link_pair(
     local: &Text,
 ) -> Result<Option<Text>, NoMemory>
     requires lower { frame ≤ store.old.levels.current }
-    ensures linked { IfOk result (λ message. linking.LinksPair frame (other.now, local.now) store.old message store.new) }
+    ensures linked { IfOk result (λ message.
+        linking.LinksPair frame (other.now, local.now) store.old message store.new) }
     ensures here { OnOk result (store.new.levels.current ≡ store.old.levels.current) }
 {
     let bad = is_element(local) || is_global_name(local);
@@ -115,7 +119,7 @@ fn link_pair(
     Ok(message)
 }
 
-// The message, where there is no link.
+// The message, if there is no link.
 fn link_one(
     alloc: Global,
     store: &mut Store,
@@ -126,7 +130,8 @@ fn link_one(
     other: &Text,
 ) -> Result<Option<Text>, NoMemory>
     requires lower { frame ≤ store.old.levels.current }
-    ensures linked { IfOk result (λ message. linking.LinksOne bad word.now local.now frame other.now store.old message store.new) }
+    ensures linked { IfOk result (λ message.
+        linking.LinksOne bad word.now local.now frame other.now store.old message store.new) }
     ensures here { OnOk result (store.new.levels.current ≡ store.old.levels.current) }
 {
     if bad {
@@ -145,21 +150,6 @@ fn message_of(alloc: Global, word: &Text, linked: Linked) -> Result<Option<Text>
         Linked::Exists => Ok(Some(in_use(alloc, word.as_bytes())?)),
         Linked::Itself => Ok(Some(to_itself(alloc)?)),
     }
-}
-
-fn told(alloc: Global, message: Option<Text>) -> Result<Outcome, NoMemory>
-    ensures { IfOk result (λ outcome. outcome ≡ linking.told message) }
-{
-    match message {
-        None => Ok(Outcome::fine(alloc, Text::new(alloc))),
-        Some(message) => Outcome::failed(message),
-    }
-}
-
-fn is_element(name: &Text) -> bool
-    ensures { result ≡ is_some (element_of name.now) }
-{
-    split_name(name.as_bytes()).is_some()
 }
 
 fn is_global_name(name: &Text) -> bool

@@ -1,4 +1,4 @@
-//! Errors, as they are told.
+//! The texts of errors.
 ghost use Rattle.std.specs.Prelude.{◌≡◌, IfOk};
 ghost use Rattle.tt_calls.specs.Outcomes.{failed};
 ghost use Rattle.tt_variable_commands.specs.LevelMessages as messages;

@@ -13,15 +13,15 @@ use crate::levels::words::{is_levelled, parted};
 use std::alloc::Global;
 use tt_calls::Outcome;
 use tt_list_commands::concat;
+use tt_outcomes::Body;
 use tt_script::plain_name;
 use tt_store::{Answer, Store};
 use tt_text::{NoMemory, Text};
-use tt_outcomes::Body;
 
 /// Runs a whole command, its name first: `global`, `upvar`, `uplevel`, or `info` but for its subcommand `procs`;
-/// `Other` where it is none of them, and then nothing has changed.
+/// `Other` if it is none of them, and then nothing has changed.
 ///
-/// After `Body` what is begun is ended by `Store::leave`. `NoMemory` where memory is refused.
+/// After `Body` what is begun is ended by `Store::leave`. `NoMemory` if memory is refused.
 pub fn run(alloc: Global, store: &mut Store, words: &[Text]) -> Result<Answer, NoMemory>
     ensures runs { IfOk result (λ answer. table.Runs words.now store.old answer store.new) }
 {

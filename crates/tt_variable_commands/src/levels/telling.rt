@@ -2,6 +2,7 @@
 ghost use Rattle.std.specs.Prelude.{◌≡◌, IfOk};
 ghost use Rattle.tt_variable_commands.specs.Telling as telling;
 
+use crate::vocabulary::truth;
 use std::alloc::Global;
 use tt_calls::Outcome;
 use tt_lists::count_text;
@@ -16,7 +17,7 @@ pub(crate) enum Topic {
     Procs,
 }
 
-/// Tells of a topic; `Other` where it is that of procedures.
+/// Tells of a topic; `Other` if it is that of procedures.
 pub(crate) fn info(
     alloc: Global,
     store: &Store,
@@ -74,7 +75,7 @@ fn exists(alloc: Global, store: &Store, words: &[Text]) -> Result<Outcome, NoMem
 fn bit(alloc: Global, there: bool) -> Result<Outcome, NoMemory>
     ensures { IfOk result (λ outcome. outcome ≡ telling.bit there) }
 {
-    let text = Text::from_bytes(alloc, if there { b"1" } else { b"0" })?;
+    let text = truth(alloc, there)?;
     Ok(Outcome::fine(alloc, text))
 }
 
