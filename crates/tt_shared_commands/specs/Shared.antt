@@ -1,5 +1,6 @@
 -- What the words of commands on shared variables mean (tsv(n)): they go on as they are, if a usage has so many.
-use Rattle.std.specs.Prelude.{ℕ, ◌-◌, Bool, true, ◌&&◌, ◌||◌, not, nat_le, bytes_eq, List, [], ◌∷◌, length, take, codes, Option, Some, None, if◌then◌else◌}
+use Rattle.std.specs.Prelude.{ℕ, ◌-◌, Bool, true, ◌&&◌, ◌||◌, not, nat_le, bytes_eq, List, [], ◌∷◌, length, take}
+use Rattle.std.specs.Prelude.{codes, Option, Some, None, if◌then◌else◌}
 use Rattle.std.specs.List.{find}
 use Rattle.tt_calls.specs.declared.tsv_call.TsvCall.TheVariants as tsv
 use Rattle.tt_command_tables.specs.Flags.{is_meant}
