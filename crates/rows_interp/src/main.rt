@@ -3,7 +3,7 @@
 //!
 //! A row begins with `== ` and its name. The lines after it are the script: of the thread of a number after a line
 //! `%% thread N`, else of thread 1. After a line `%% limit N` the thread may spend so many units. A line after `? ` is
-//! what is asked, and one after `! ` what that is replied: lists, in which `\n` stands for a newline (see `requests` and
+//! what is asked, and one after `! ` what that is replied: lists, in which `\n` is a newline (see `requests` and
 //! `replies`). A row ends with what is asked last, after which no reply is taken, or with a line `...`.
 #![tactic(auto)]
 
