@@ -1,9 +1,9 @@
-//! Tables of starts of threads, and of what their interpreters ask and are replied (thread(n), Tcl(n)). They stand in the
-//! files of `data/`, and this says of each how many rows hold, and shows those that don't.
+//! Tables of starts of threads, and of what their interpreters ask and are replied (thread(n), Tcl(n)). They stand in
+//! the files of `data/`. This says of each how many rows hold, and shows those that don't.
 //!
-//! A row begins with `== ` and its name. The lines after it are the script, after a line `%% thread N` that of the thread of
-//! this number, else that of thread 1; after a line `%% limit N` the thread may spend so many units. A line after `? ` is
-//! what is asked, and one after `! ` what that is replied: lists, where `\n` stands for a newline (see `requests` and
+//! A row begins with `== ` and its name. The lines after it are the script: of the thread of a number after a line
+//! `%% thread N`, else of thread 1. After a line `%% limit N` the thread may spend so many units. A line after `? ` is
+//! what is asked, and one after `! ` what that is replied: lists, in which `\n` is a newline (see `requests` and
 //! `replies`). A row ends with what is asked last, after which no reply is taken, or with a line `...`.
 #![tactic(auto)]
 

@@ -1,5 +1,5 @@
-//! A reply is written by its name and what it holds: truth as 0 or 1, an outcome as its code, its value, its trace and the
-//! code that it keeps.
+//! A reply is written by its name and what it holds: truth as 0 or 1, an outcome as its code, its value, its trace and
+//! the code that it keeps.
 
 use crate::telling::CODES;
 use rows_reader::{Words, words_of};

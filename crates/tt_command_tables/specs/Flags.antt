@@ -1,12 +1,14 @@
 -- Options without a value: they stand in front of a command's words, and never among the last words that its usage
 -- requires (thread(n), tpool(n), puts(n)).
-use Rattle.std.specs.Prelude.{ℕ, ◌-◌, Bool, false, ◌&&◌, not, ◌==◌, bytes_eq, List, [], ◌∷◌, length, take, drop, take_while, codes, Option, Some, None}
+use Rattle.std.specs.Prelude.{ℕ, ◌-◌, Bool, false, ◌&&◌, not, ◌==◌, bytes_eq, List, [], ◌∷◌, length, take, drop}
+use Rattle.std.specs.Prelude.{take_while, codes, Option, Some, None}
 use Rattle.std.specs.List.{find, list_any}
 use Rattle.std.specs.Option.{is_some}
 use Rattle.tt_command_tables.specs.Usages.{bad_option}
 use Rattle.tt_command_tables.specs.declared.call.Call.{Call}
 use Rattle.tt_command_tables.specs.declared.flags.Flag.{Flag}
-use Rattle.tt_command_tables.specs.declared.flags.Flag.TheVariants.{Joinable, Preserved, Wait, Async, Head, NoNewline, Recursive, Detached, NoWait}
+use Rattle.tt_command_tables.specs.declared.flags.Flag.TheVariants.{Joinable, Preserved, Wait, Async, Head, NoNewline}
+use Rattle.tt_command_tables.specs.declared.flags.Flag.TheVariants.{Recursive, Detached, NoWait}
 
 -- how an option is written
 abbrev pub spelling : Flag → List ℕ

@@ -3,7 +3,7 @@ use Rattle.std.specs.Prelude.{ℕ, List}
 use Rattle.tt_command_tables.specs.Usages.{wrong_number}
 use Rattle.tt_command_tables.specs.declared.call.Call.{Call}
 
--- what the words after a name mean in a thread, where something else is meant by a wrong number of them
+-- what the words after a name mean in a thread; a wrong number of them means something else
 abbrev pub Meaning : Type 0
 Meaning = (me : ℕ) → (wrong : Call) → (words : List (List ℕ)) → Call
 

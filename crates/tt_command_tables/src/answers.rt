@@ -1,4 +1,4 @@
-//! What words come to.
+//! What words come to. Each of these is `NoMemory` if memory is refused.
 ghost use Rattle.std.specs.Prelude.{◌≡◌, IfOk};
 ghost use Rattle.tt_calls.specs.declared.request.Request.TheVariants as ask;
 ghost use Rattle.tt_command_tables.specs.Usages.{bad_option, bad_value, wrong_number};

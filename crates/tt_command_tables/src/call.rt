@@ -1,7 +1,7 @@
 use tt_calls::{Boxed, Request};
 use tt_text::Text;
 
-/// What the words of a command come to, where its name is one of `thread::`, `tsv::` or `tpool::`, or one of puts(n),
+/// What the words of a command come to, if its name is one of `thread::`, `tsv::` or `tpool::`, or one of puts(n),
 /// gets(n), eof(n), close(n), chan(n), vwait(n), update(n) and exit(n).
 #[derive(Debug, Drop)]
 pub enum Call {

@@ -56,7 +56,7 @@ fn before_last(words: &[Text], required: usize) -> &[Text]
 
 /// The first word before the last ones that is meant as an option, and is none of these.
 pub fn first_unknown<'a>(known: &[Flag], required: usize, words: &'a [Text]) -> Option<&'a Text>
-    ensures { option_map (λ word. word.now) result ≡ flags.first_unknown known.now (flags.before_last required words.now) }
+    ensures { option_map (λ w. w.now) result ≡ flags.first_unknown known.now (flags.before_last required words.now) }
 {
     before_last(words, required).iter().find(|word| is_meant(word.as_bytes())
         && named(known, word.as_bytes()).is_none())

@@ -1,5 +1,5 @@
-//! What the tables of commands of threads share (thread(n), tsv(n), tpool(n), chan(n)): names and usages, options without
-//! a value, what words come to, and the errors of words that break a usage.
+//! What the tables of commands of threads share (thread(n), tsv(n), tpool(n), chan(n)): names and usages, options
+//! without a value, what words come to, and the errors of words that break a usage.
 #![tactic(auto)]
 
 mod answers;

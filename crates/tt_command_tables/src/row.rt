@@ -10,6 +10,7 @@ pub struct Row {
 }
 
 impl Row {
+    /// A row of a name and a usage.
     pub fn new(name: &'static [u8], usage: &'static [u8]) -> Self
         ensures name { result.name.now ≡ name.now }
         ensures usage { result.usage.now ≡ usage.now }

@@ -14,7 +14,9 @@ use tt_thread_commands::ThreadCommand;
 /// What the words of a command mean in thread `me`, its name first; one leading `::` of the name is dropped.
 ///
 /// `Other` comes exactly if there is no first word, or it is no command of the tables. Errors come in this order: an
-/// option or a subcommand that isn't known, a wrong number of words, what the words say. `NoMemory` if memory is refused.
+/// option or a subcommand that isn't known, a wrong number of words, what the words say.
+///
+/// `NoMemory` if memory is refused.
 pub fn read_call(alloc: Global, words: &[Text], me: u32) -> Result<Call, NoMemory>
     ensures call { IfOk result (λ call. call ≡ call_of words.now me) }
 {

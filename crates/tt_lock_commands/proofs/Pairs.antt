@@ -1,5 +1,6 @@
 -- What the first two words of a list do where words are read by pairs.
-use Rattle.std.proofs.Common.{◌≡◌, ◌≤◌, ℕ, ◌-◌, true, List, [], ◌∷◌, length, get_or, take, drop, Option, Some, rules, arith}
+use Rattle.std.proofs.Common.{◌≡◌, ◌≤◌, ℕ, ◌-◌, true, List, [], ◌∷◌, length, get_or, take, drop, Option, Some, rules}
+use Rattle.std.proofs.Common.{arith}
 use Rattle.std.proofs.lemmas.Grind.{common_steps}
 use Rattle.tt_lock_commands.specs.Locks.{eval_from, is_lock}
 use Rattle.tt_command_tables.specs.declared.call.Call.{Call}

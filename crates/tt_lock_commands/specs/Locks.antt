@@ -49,11 +49,11 @@ create which wrong words = wrong
 abbrev pub mutex_kind : (options : List (List ℕ)) → Kind
 mutex_kind options = if has Recursive options then kind.Recursive else kind.Exclusive
 
-abbrev pub mutex_create_after_options : (wrong : Call) → (options words : List (List ℕ)) → Call
-mutex_create_after_options wrong options words = create (mutex_kind options) wrong words
+abbrev pub mutex_words : (wrong : Call) → (options words : List (List ℕ)) → Call
+mutex_words wrong options words = create (mutex_kind options) wrong words
 
 abbrev pub create_mutex : (wrong : Call) → (words : List (List ℕ)) → Call
-create_mutex wrong words = by_options (Recursive ∷ []) 0 words (mutex_create_after_options wrong)
+create_mutex wrong words = by_options (Recursive ∷ []) 0 words (mutex_words wrong)
 
 -- the subcommands of thread::mutex
 abbrev pub mutex_row : MutexCommand → Row

@@ -1,9 +1,10 @@
 //! thread::cond.
 ghost use Rattle.std.specs.Prelude.{◌≡◌, IfOk};
-ghost use Rattle.tt_calls.specs.declared.lock_call.Family.TheVariants as family;
+ghost use Rattle.tt_calls.specs.declared.lock_call.Family.TheVariants.{Condition};
 ghost use Rattle.tt_calls.specs.declared.lock_call.Kind.TheVariants as kind;
 ghost use Rattle.tt_calls.specs.declared.lock_call.LockCall.TheVariants as lock;
 ghost use Rattle.tt_lock_commands.specs.Locks as table;
+ghost use Rattle.tt_lock_commands.specs.Locks.{of_condition};
 ghost use Rattle.tt_command_tables.specs.Rows.{meaning_by};
 ghost use Rattle.tt_command_tables.specs.Usages.{wrong_number};
 
@@ -90,7 +91,7 @@ fn create(alloc: Global, usage: &[u8], words: &[Text]) -> Result<Call, NoMemory>
 }
 
 fn destroy(alloc: Global, usage: &[u8], words: &[Text]) -> Result<Call, NoMemory>
-    ensures { IfOk result (λ call. call ≡ table.of_condition (lock.Destroy family.Condition) (wrong_number usage.now) words.now) }
+    ensures { IfOk result (λ call. call ≡ of_condition (lock.Destroy Condition) (wrong_number usage.now) words.now) }
 {
     match words {
         [id] => {
@@ -105,7 +106,7 @@ fn destroy(alloc: Global, usage: &[u8], words: &[Text]) -> Result<Call, NoMemory
 }
 
 fn notify(alloc: Global, usage: &[u8], words: &[Text]) -> Result<Call, NoMemory>
-    ensures { IfOk result (λ call. call ≡ table.of_condition lock.Notify (wrong_number usage.now) words.now) }
+    ensures { IfOk result (λ call. call ≡ of_condition lock.Notify (wrong_number usage.now) words.now) }
 {
     match words {
         [id] => {

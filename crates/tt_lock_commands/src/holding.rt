@@ -2,6 +2,7 @@
 ghost use Rattle.std.specs.Prelude.{◌≡◌, IfOk};
 ghost use Rattle.std.specs.Option.{option_copied};
 ghost use Rattle.tt_lock_commands.specs.Locks as table;
+ghost use Rattle.tt_lock_commands.specs.Locks.{eval_alone};
 ghost use Rattle.tt_command_tables.specs.Usages.{wrong_number};
 
 use crate::asking::asks_mutex;
@@ -56,7 +57,7 @@ fn eval_alone(
     id: Option<&Text>,
     words: &[Text],
 ) -> Result<Call, NoMemory>
-    ensures { IfOk result (λ call. call ≡ table.eval_alone (option_copied id.entry) (wrong_number usage.now) words.now) }
+    ensures { IfOk result (λ call. call ≡ eval_alone (option_copied id.entry) (wrong_number usage.now) words.now) }
 {
     match words {
         [] => wrong_number(alloc, usage),

@@ -1,6 +1,6 @@
 //! thread::mutex.
 ghost use Rattle.std.specs.Prelude.{◌≡◌, IfOk};
-ghost use Rattle.tt_calls.specs.declared.lock_call.Family.TheVariants as family;
+ghost use Rattle.tt_calls.specs.declared.lock_call.Family.TheVariants.{Mutex};
 ghost use Rattle.tt_calls.specs.declared.lock_call.LockCall.TheVariants as lock;
 ghost use Rattle.tt_lock_commands.specs.Locks as table;
 ghost use Rattle.tt_command_tables.specs.Rows.{meaning_by};
@@ -84,16 +84,16 @@ fn create(alloc: Global, usage: &[u8], words: &[Text]) -> Result<Call, NoMemory>
         return bad_option(alloc, word.as_bytes());
     }
     let (options, words) = words.split_at(front(&CREATE, 0, words));
-    create_after_options(alloc, usage, options, words)
+    create_words(alloc, usage, options, words)
 }
 
-fn create_after_options(
+fn create_words(
     alloc: Global,
     usage: &[u8],
     options: &[Text],
     words: &[Text],
 ) -> Result<Call, NoMemory>
-    ensures { IfOk result (λ call. call ≡ table.mutex_create_after_options (wrong_number usage.now) options.now words.now) }
+    ensures { IfOk result (λ call. call ≡ table.mutex_words (wrong_number usage.now) options.now words.now) }
 {
     let kind = kind_by(options);
     match words {
@@ -113,7 +113,7 @@ fn kind_by(options: &[Text]) -> Kind
 }
 
 fn destroy(alloc: Global, usage: &[u8], words: &[Text]) -> Result<Call, NoMemory>
-    ensures { IfOk result (λ call. call ≡ table.of_mutex (lock.Destroy family.Mutex) (wrong_number usage.now) words.now) }
+    ensures { IfOk result (λ call. call ≡ table.of_mutex (lock.Destroy Mutex) (wrong_number usage.now) words.now) }
 {
     match words {
         [id] => {
@@ -140,7 +140,7 @@ fn lock(alloc: Global, usage: &[u8], words: &[Text]) -> Result<Call, NoMemory>
 }
 
 fn unlock(alloc: Global, usage: &[u8], words: &[Text]) -> Result<Call, NoMemory>
-    ensures { IfOk result (λ call. call ≡ table.of_mutex (lock.Unlock family.Mutex) (wrong_number usage.now) words.now) }
+    ensures { IfOk result (λ call. call ≡ table.of_mutex (lock.Unlock Mutex) (wrong_number usage.now) words.now) }
 {
     match words {
         [id] => {

@@ -1,6 +1,6 @@
 //! thread::rwmutex.
 ghost use Rattle.std.specs.Prelude.{◌≡◌, IfOk};
-ghost use Rattle.tt_calls.specs.declared.lock_call.Family.TheVariants as family;
+ghost use Rattle.tt_calls.specs.declared.lock_call.Family.TheVariants.{ReadWrite};
 ghost use Rattle.tt_calls.specs.declared.lock_call.Kind.TheVariants as kind;
 ghost use Rattle.tt_calls.specs.declared.lock_call.LockCall.TheVariants as lock;
 ghost use Rattle.tt_lock_commands.specs.Locks as table;
@@ -94,7 +94,7 @@ fn create(alloc: Global, usage: &[u8], words: &[Text]) -> Result<Call, NoMemory>
 }
 
 fn destroy(alloc: Global, usage: &[u8], words: &[Text]) -> Result<Call, NoMemory>
-    ensures { IfOk result (λ call. call ≡ table.of_mutex (lock.Destroy family.ReadWrite) (wrong_number usage.now) words.now) }
+    ensures { IfOk result (λ call. call ≡ table.of_mutex (lock.Destroy ReadWrite) (wrong_number usage.now) words.now) }
 {
     match words {
         [id] => {
@@ -133,7 +133,7 @@ fn write_lock(alloc: Global, usage: &[u8], words: &[Text]) -> Result<Call, NoMem
 }
 
 fn unlock(alloc: Global, usage: &[u8], words: &[Text]) -> Result<Call, NoMemory>
-    ensures { IfOk result (λ call. call ≡ table.of_mutex (lock.Unlock family.ReadWrite) (wrong_number usage.now) words.now) }
+    ensures { IfOk result (λ call. call ≡ table.of_mutex (lock.Unlock ReadWrite) (wrong_number usage.now) words.now) }
 {
     match words {
         [id] => {

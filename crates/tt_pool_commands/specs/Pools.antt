@@ -1,5 +1,6 @@
 -- What the words of commands on pools of workers mean (tpool(n)).
-use Rattle.std.specs.Prelude.{ℕ, Bool, true, false, ◌&&◌, not, ℤ, pos, negsuc, nat_le, bytes_eq, List, [], ◌∷◌, codes, Option, Some, None, Result, Ok, Err, if◌then◌else◌}
+use Rattle.std.specs.Prelude.{ℕ, Bool, true, false, ◌&&◌, not, ℤ, pos, negsuc, nat_le, bytes_eq, List, [], ◌∷◌, codes}
+use Rattle.std.specs.Prelude.{Option, Some, None, Result, Ok, Err, if◌then◌else◌}
 use Rattle.std.specs.List.{list_any}
 use Rattle.tt_calls.specs.declared.pool_call.PoolCall.{PoolCall}
 use Rattle.tt_calls.specs.declared.pool_call.PoolCall.TheVariants as pool
@@ -119,12 +120,12 @@ names wrong [] = Ask (ask.Pool pool.Names) after.Value
 names wrong words = wrong
 
 -- tpool::post: it returns at once, with or without -nowait
-abbrev pub post_after_options : (wrong : Call) → (options words : List (List ℕ)) → Call
-post_after_options wrong options (id ∷ script ∷ []) = Ask (ask.Pool (pool.Post id script (has Detached options))) after.Value
-post_after_options wrong options words = wrong
+abbrev pub post_words : (wrong : Call) → (options words : List (List ℕ)) → Call
+post_words wrong options (id ∷ script ∷ []) = Ask (ask.Pool (pool.Post id script (has Detached options))) after.Value
+post_words wrong options words = wrong
 
 abbrev pub post : (wrong : Call) → (words : List (List ℕ)) → Call
-post wrong words = by_options (Detached ∷ NoWait ∷ []) 2 words (post_after_options wrong)
+post wrong words = by_options (Detached ∷ NoWait ∷ []) 2 words (post_words wrong)
 
 -- a call that concerns jobs, and what follows the reply; a text that is no list of them is an error
 abbrev pub on_jobs : (call : List (List ℕ) → PoolCall) → Split → Then → Call

@@ -42,7 +42,7 @@ pub(crate) fn release(alloc: Global, usage: &[u8], words: &[Text]) -> Result<Cal
     }
 }
 
-/// `tpool::suspend`, and `tpool::resume` where it isn't on.
+/// `tpool::suspend`, or `tpool::resume` if it isn't on.
 pub(crate) fn suspend(
     alloc: Global,
     usage: &[u8],

@@ -22,16 +22,16 @@ pub(crate) fn post(alloc: Global, usage: &[u8], words: &[Text]) -> Result<Call, 
         return bad_option(alloc, word.as_bytes());
     }
     let (options, words) = words.split_at(front(&POST, 2, words));
-    post_after_options(alloc, usage, options, words)
+    post_words(alloc, usage, options, words)
 }
 
-fn post_after_options(
+fn post_words(
     alloc: Global,
     usage: &[u8],
     options: &[Text],
     words: &[Text],
 ) -> Result<Call, NoMemory>
-    ensures { IfOk result (λ call. call ≡ pools.post_after_options (wrong_number usage.now) options.now words.now) }
+    ensures { IfOk result (λ call. call ≡ pools.post_words (wrong_number usage.now) options.now words.now) }
 {
     match words {
         [id, script] => {

@@ -1,5 +1,6 @@
 -- What the words of commands on shared variables mean (tsv(n)): they go on as they are, if a usage has so many.
-use Rattle.std.specs.Prelude.{ℕ, ◌-◌, Bool, true, ◌&&◌, ◌||◌, not, nat_le, bytes_eq, List, [], ◌∷◌, length, take, codes, Option, Some, None, if◌then◌else◌}
+use Rattle.std.specs.Prelude.{ℕ, ◌-◌, Bool, true, ◌&&◌, ◌||◌, not, nat_le, bytes_eq, List, [], ◌∷◌, length, take}
+use Rattle.std.specs.Prelude.{codes, Option, Some, None, if◌then◌else◌}
 use Rattle.std.specs.List.{find}
 use Rattle.tt_calls.specs.declared.tsv_call.TsvCall.TheVariants as tsv
 use Rattle.tt_command_tables.specs.Flags.{is_meant}
@@ -73,7 +74,7 @@ array_commands = array.Set ∷ array.Get ∷ array.Names ∷ array.Size ∷ arra
 abbrev pub array_command : (name : List ℕ) → Option ArrayCommand
 array_command name = first_named (λ command. (array_row command).name) array_commands name
 
--- so many words are as many as follow a name
+-- so many words are as many as a row allows
 abbrev pub is_most : Option ℕ → (count : ℕ) → Bool
 is_most None count = true
 is_most (Some most) count = nat_le count most
@@ -85,9 +86,9 @@ abbrev pub fits : CountedRow → (words : List (List ℕ)) → Bool
 fits row words = is_between row.least row.most (length words)
 
 -- what follows the reply: of tsv::get a variable gets the value
-abbrev pub follow : SharedCommand → (words : List (List ℕ)) → Then
-follow shared.Get (array ∷ key ∷ variable ∷ words) = after.Store variable
-follow command words = after.Value
+abbrev pub after_reply : SharedCommand → (words : List (List ℕ)) → Then
+after_reply shared.Get (array ∷ key ∷ variable ∷ words) = after.Store variable
+after_reply command words = after.Value
 
 -- the words of a command go on, its name first
 abbrev pub runs : (name : List ℕ) → (words : List (List ℕ)) → Then → Call
@@ -97,7 +98,7 @@ runs name words next = Ask (ask.Tsv (tsv.Run (name ∷ words))) next
 abbrev pub elements : SharedCommand → (name : List ℕ) → (words : List (List ℕ)) → Call
 elements command name words =
     if fits (shared_row command) words
-    then runs name words (follow command words)
+    then runs name words (after_reply command words)
     else wrong_number (shared_row command).usage
 
 -- tsv::lsearch: the words between the key and the pattern are its mode

@@ -42,7 +42,7 @@ pub(crate) fn elements(
     if !fits(command, words) {
         return wrong_number(alloc, row_of(command).usage);
     }
-    let then = follow(command, words)?;
+    let then = after_reply(command, words)?;
     runs(alloc, name, words, then)
 }
 
@@ -54,8 +54,8 @@ fn fits(command: SharedCommand, words: &[Text]) -> bool
 }
 
 // What follows the reply: `tsv::get` with a variable sets it.
-fn follow(command: SharedCommand, words: &[Text]) -> Result<Then, NoMemory>
-    ensures { IfOk result (λ then. then ≡ table.follow command words.now) }
+fn after_reply(command: SharedCommand, words: &[Text]) -> Result<Then, NoMemory>
+    ensures { IfOk result (λ then. then ≡ table.after_reply command words.now) }
 {
     match (command, words) {
         (SharedCommand::Get, [_, _, variable, ..]) => Ok(Then::Store(variable.copy()?)),

@@ -1,5 +1,6 @@
 -- What the words of thread::configure mean (thread(n)).
-use Rattle.std.specs.Prelude.{ℕ, ◌%◌, ◌==◌, Bool, true, false, ◌||◌, ℤ, pos, negsuc, bytes_eq, List, [], ◌∷◌, length, codes, Option, Some, None, Result, Ok, Err, if◌then◌else◌}
+use Rattle.std.specs.Prelude.{ℕ, ◌%◌, ◌==◌, Bool, true, false, ◌||◌, ℤ, pos, negsuc, bytes_eq, List, [], ◌∷◌, length}
+use Rattle.std.specs.Prelude.{codes, Option, Some, None, Result, Ok, Err, if◌then◌else◌}
 use Rattle.std.specs.Option.{is_some}
 use Rattle.tt_calls.specs.declared.request.Request.TheVariants as ask
 use Rattle.tt_command_tables.specs.Usages.{bad_option, bad_value}
@@ -73,8 +74,8 @@ configures id words =
       | None ↦ Ask (ask.Configure id (setting_words words)) after.Value
     ]
 
-abbrev pub configure_after_id : (wrong : Call) → (id : List ℕ) → (words : List (List ℕ)) → Call
-configure_after_id wrong id words =
+abbrev pub configure_words : (wrong : Call) → (id : List ℕ) → (words : List (List ℕ)) → Call
+configure_words wrong id words =
     elim (first_unknown words) [
       | Some option ↦ bad_option option
       | None ↦ if is_number words then configures id words else wrong
@@ -83,4 +84,4 @@ configure_after_id wrong id words =
 -- thread::configure
 abbrev pub configure : (wrong : Call) → (words : List (List ℕ)) → Call
 configure wrong [] = wrong
-configure wrong (id ∷ words) = configure_after_id wrong id words
+configure wrong (id ∷ words) = configure_words wrong id words

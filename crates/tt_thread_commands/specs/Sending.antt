@@ -1,5 +1,6 @@
 -- What the words of thread::send and thread::release mean (thread(n)).
-use Rattle.std.specs.Prelude.{ℕ, ◌^◌, Bool, true, false, ◌&&◌, not, ◌==◌, nat_lt, List, [], ◌∷◌, codes, Option, Some, None, if◌then◌else◌}
+use Rattle.std.specs.Prelude.{ℕ, ◌^◌, Bool, true, false, ◌&&◌, not, ◌==◌, nat_lt, List, [], ◌∷◌, codes, Option, Some}
+use Rattle.std.specs.Prelude.{None, if◌then◌else◌}
 use Rattle.tt_calls.specs.declared.request.Mode.TheVariants.{Waits, Later}
 use Rattle.tt_calls.specs.declared.request.Request.TheVariants as ask
 use Rattle.tt_command_tables.specs.Flags.{by_options, has}
@@ -30,13 +31,13 @@ sends me options id script variable =
     then Here (here.Direct script variable)
     else Ask (ask.Send id script Waits None (has Head options)) (after.AwaitResult variable)
 
-abbrev pub send_after_options : (me : ℕ) → (wrong : Call) → (options words : List (List ℕ)) → Call
-send_after_options me wrong options (id ∷ script ∷ []) = sends me options id script None
-send_after_options me wrong options (id ∷ script ∷ variable ∷ []) = sends me options id script (Some variable)
-send_after_options me wrong options words = wrong
+abbrev pub send_words : (me : ℕ) → (wrong : Call) → (options words : List (List ℕ)) → Call
+send_words me wrong options (id ∷ script ∷ []) = sends me options id script None
+send_words me wrong options (id ∷ script ∷ variable ∷ []) = sends me options id script (Some variable)
+send_words me wrong options words = wrong
 
 abbrev pub send : (me : ℕ) → (wrong : Call) → (words : List (List ℕ)) → Call
-send me wrong words = by_options (Async ∷ Head ∷ []) 2 words (send_after_options me wrong)
+send me wrong words = by_options (Async ∷ Head ∷ []) 2 words (send_words me wrong)
 
 -- the number that an id gives another thread, of 32 bits
 abbrev pub other_number : (me : ℕ) → (number : ℕ) → Option ℕ
@@ -58,10 +59,10 @@ abbrev pub releases : (me : ℕ) → (options : List (List ℕ)) → (id : List 
 releases me options id =
     by_id (λ id. Ask (ask.Release id) (after_release me (has Wait options) id)) id
 
-abbrev pub release_after_options : (me : ℕ) → (wrong : Call) → (options words : List (List ℕ)) → Call
-release_after_options me wrong options [] = Ask (ask.Release []) after.Value
-release_after_options me wrong options (id ∷ []) = releases me options id
-release_after_options me wrong options words = wrong
+abbrev pub release_words : (me : ℕ) → (wrong : Call) → (options words : List (List ℕ)) → Call
+release_words me wrong options [] = Ask (ask.Release []) after.Value
+release_words me wrong options (id ∷ []) = releases me options id
+release_words me wrong options words = wrong
 
 abbrev pub release : (me : ℕ) → (wrong : Call) → (words : List (List ℕ)) → Call
-release me wrong words = by_options (Wait ∷ []) 0 words (release_after_options me wrong)
+release me wrong words = by_options (Wait ∷ []) 0 words (release_words me wrong)

@@ -39,13 +39,13 @@ wait wrong words = wrong
 abbrev pub creates : (options : List (List ℕ)) → (script : List ℕ) → Call
 creates options script = Ask (ask.Create (has Joinable options) (has Preserved options) script) after.Value
 
-abbrev pub create_after_options : (wrong : Call) → (options words : List (List ℕ)) → Call
-create_after_options wrong options [] = creates options (codes "thread::wait")
-create_after_options wrong options (script ∷ []) = creates options script
-create_after_options wrong options words = wrong
+abbrev pub create_words : (wrong : Call) → (options words : List (List ℕ)) → Call
+create_words wrong options [] = creates options (codes "thread::wait")
+create_words wrong options (script ∷ []) = creates options script
+create_words wrong options words = wrong
 
 abbrev pub create : (wrong : Call) → (words : List (List ℕ)) → Call
-create wrong words = by_options (Joinable ∷ Preserved ∷ []) 0 words (create_after_options wrong)
+create wrong words = by_options (Joinable ∷ Preserved ∷ []) 0 words (create_words wrong)
 
 -- thread(n), thread::preserve: of oneself without an id; no thread has the empty id
 abbrev pub preserves : (id : List ℕ) → Call

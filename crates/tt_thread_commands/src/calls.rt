@@ -23,16 +23,16 @@ pub(crate) fn create(alloc: Global, usage: &[u8], words: &[Text]) -> Result<Call
         return bad_option(alloc, word.as_bytes());
     }
     let (options, words) = words.split_at(front(&CREATE, 0, words));
-    create_after_options(alloc, usage, options, words)
+    create_words(alloc, usage, options, words)
 }
 
-fn create_after_options(
+fn create_words(
     alloc: Global,
     usage: &[u8],
     options: &[Text],
     words: &[Text],
 ) -> Result<Call, NoMemory>
-    ensures { IfOk result (λ call. call ≡ threads.create_after_options (wrong_number usage.now) options.now words.now) }
+    ensures { IfOk result (λ call. call ≡ threads.create_words (wrong_number usage.now) options.now words.now) }
 {
     match words {
         [] => creates(alloc, options, b"thread::wait"),

@@ -28,18 +28,13 @@ pub(crate) fn configure(alloc: Global, usage: &[u8], words: &[Text]) -> Result<C
     ensures { IfOk result (λ call. call ≡ configuring.configure (wrong_number usage.now) words.now) }
 {
     match words {
-        [id, words @ ..] => configure_after_id(alloc, usage, id, words),
+        [id, words @ ..] => configure_words(alloc, usage, id, words),
         [] => wrong_number(alloc, usage),
     }
 }
 
-fn configure_after_id(
-    alloc: Global,
-    usage: &[u8],
-    id: &Text,
-    words: &[Text],
-) -> Result<Call, NoMemory>
-    ensures { IfOk result (λ call. call ≡ configuring.configure_after_id (wrong_number usage.now) id.now words.now) }
+fn configure_words(alloc: Global, usage: &[u8], id: &Text, words: &[Text]) -> Result<Call, NoMemory>
+    ensures { IfOk result (λ call. call ≡ configuring.configure_words (wrong_number usage.now) id.now words.now) }
 {
     if let Some(option) = first_unknown(words) {
         return bad_option(alloc, option.as_bytes());

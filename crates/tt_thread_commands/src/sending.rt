@@ -22,17 +22,17 @@ pub(crate) fn send(alloc: Global, usage: &[u8], words: &[Text], me: u32) -> Resu
         return bad_option(alloc, word.as_bytes());
     }
     let (options, words) = words.split_at(front(&SEND, 2, words));
-    send_after_options(alloc, usage, options, words, me)
+    send_words(alloc, usage, options, words, me)
 }
 
-fn send_after_options(
+fn send_words(
     alloc: Global,
     usage: &[u8],
     options: &[Text],
     words: &[Text],
     me: u32,
 ) -> Result<Call, NoMemory>
-    ensures { IfOk result (λ call. call ≡ sending.send_after_options me (wrong_number usage.now) options.now words.now) }
+    ensures { IfOk result (λ call. call ≡ sending.send_words me (wrong_number usage.now) options.now words.now) }
 {
     match words {
         [id, script] => sends(alloc, options, id, script, None, me),
@@ -101,17 +101,17 @@ pub(crate) fn release(
         return bad_option(alloc, word.as_bytes());
     }
     let (options, words) = words.split_at(front(&RELEASE, 0, words));
-    release_after_options(alloc, usage, options, words, me)
+    release_words(alloc, usage, options, words, me)
 }
 
-fn release_after_options(
+fn release_words(
     alloc: Global,
     usage: &[u8],
     options: &[Text],
     words: &[Text],
     me: u32,
 ) -> Result<Call, NoMemory>
-    ensures { IfOk result (λ call. call ≡ sending.release_after_options me (wrong_number usage.now) options.now words.now) }
+    ensures { IfOk result (λ call. call ≡ sending.release_words me (wrong_number usage.now) options.now words.now) }
 {
     match words {
         [] => {
