@@ -1,8 +1,8 @@
 //! Schedules of 16,777,216 steps: pushed step by step, read, and printed; and the words of command lines read.
 //!
 //! Without arguments it says what small ones come to. With an argument it does one thing, so that the memory of the
-//! process is that of this alone, and prints how long it took: `start` does nothing, `push`, `read` and `print` are of a
-//! schedule whose steps are all of one thread, or with a further argument `turns` of two threads in turn, and `words`
+//! process is that of this alone, and prints how long it took. `start` does nothing. `push`, `read` and `print` are of
+//! a schedule whose steps are all of one thread, or with a further argument `turns` of two threads in turn. `words`
 //! reads command lines.
 #![tactic(auto)]
 
@@ -22,7 +22,7 @@ const FEW_STEPS: u32 = 65_536;
 /// How many arguments the script has in the command lines that are timed.
 const COUNTS: [usize; 3] = [10, 1_000, 100_000];
 
-/// How often a command line is read; the least time is told.
+/// How often a command line is read; the least time is reported.
 const ROUNDS: usize = 16;
 
 fn main(rt: HostRuntime) -> anyhow::Result<()> {
