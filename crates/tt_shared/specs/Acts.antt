@@ -1,6 +1,6 @@
 -- What answering a request does: a table, a line for each (puts(n), gets(n), eof(n), thread(n), tsv(n), tpool(n),
 -- chan(n)).
-use Rattle.std.specs.Prelude.{ℕ, zero, suc, ◌-◌, ◌==◌, take, slice_get, Bool, true, false, List, [], ◌∷◌, ◌++◌, codes, length, Option, Some, None, if◌then◌else◌, nat_lt, ℤ, pos, negsuc}
+use Rattle.std.specs.Prelude.{ℕ, zero, suc, ◌-◌, ◌==◌, take, slice_get, Bool, true, false, List, codes, length, Option, Some, None, if◌then◌else◌, nat_lt, pos, negsuc}
 use Rattle.tt_calls.specs.declared.chan_call.ChanCall.{ChanCall}
 use Rattle.tt_calls.specs.declared.chan_call.ChanCall.TheVariants as chan
 use Rattle.tt_calls.specs.declared.event.Event.TheVariants as event
@@ -8,7 +8,6 @@ use Rattle.tt_calls.specs.declared.lock_call.LockCall.{LockCall}
 use Rattle.tt_calls.specs.declared.pool_call.PoolCall.{PoolCall}
 use Rattle.tt_calls.specs.declared.reply.Reply.{Reply}
 use Rattle.tt_calls.specs.declared.reply.Reply.TheVariants as reply
-use Rattle.tt_calls.specs.declared.reply.Step.{Step}
 use Rattle.tt_calls.specs.declared.reply.Step.TheVariants as step
 use Rattle.tt_calls.specs.declared.request.Request.{Request}
 use Rattle.tt_calls.specs.declared.request.Request.TheVariants as ask
@@ -22,7 +21,6 @@ use Rattle.tt_locks.specs.Calls as locks
 use Rattle.tt_pools.specs.Calls as pools
 use Rattle.tt_pools.specs.declared.step.PoolStep.{PoolStep}
 use Rattle.tt_shared.specs.Ends.{ends, exits}
-use Rattle.tt_shared.specs.Mail.{Queues, queued}
 use Rattle.tt_shared.specs.Sends.{awaits, broadcasts, delivers, mailed, names_procedure, reports, sends, takes}
 use Rattle.tt_shared.specs.State.{Acted, State, answer, answers, is_marked, is_not_asked, refuses, reply_of, room, truth, with_thread}
 use Rattle.tt_shared.specs.declared.applied.Line.{Line}

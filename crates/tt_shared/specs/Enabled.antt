@@ -12,7 +12,7 @@ use Rattle.tt_locks.specs.Calls as locks
 use Rattle.tt_pools.specs.Calls as pools
 use Rattle.tt_shared.specs.Mail.{first_of, scripts_of}
 use Rattle.tt_shared.specs.State.{State, is_marked}
-use Rattle.tt_slots.specs.Waiting.{OpenSlots, is_waiting, slot_of}
+use Rattle.tt_slots.specs.Waiting.{is_waiting, slot_of}
 use Rattle.tt_slots.specs.declared.slot.Slot.{Slot}
 use Rattle.tt_threads.specs.Rows.{is_living, linked, row_of}
 use Rattle.tt_threads.specs.declared.row.Row.{Row}

@@ -1,7 +1,7 @@
 -- What the threads share, part by part, and what answering a request gives.
-use Rattle.std.specs.Prelude.{ℕ, ◌+◌, ◌-◌, Bool, true, false, List, [], ◌∷◌, ◌++◌, codes, Option, Some, None, if◌then◌else◌, nat_lt}
+use Rattle.std.specs.Prelude.{ℕ, ◌-◌, Bool, true, false, List, [], ◌∷◌, ◌++◌, codes, Option, Some, None, if◌then◌else◌, nat_lt}
 use Rattle.tt_calls.specs.declared.reply.Reply.{Reply}
-use Rattle.tt_calls.specs.declared.reply.Reply.TheVariants.{Refused, Value}
+use Rattle.tt_calls.specs.declared.reply.Reply.TheVariants.{Refused}
 use Rattle.tt_calls.specs.declared.reply.Step.{Step}
 use Rattle.tt_calls.specs.declared.reply.Step.TheVariants as step
 use Rattle.tt_calls.specs.declared.start.Start.{Start}

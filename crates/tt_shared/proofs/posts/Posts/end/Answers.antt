@@ -1,4 +1,4 @@
-use Rattle.std.proofs.Common.{◌≡◌, not, rules}
+use Rattle.std.proofs.Common.{not, rules}
 use Rattle.std.proofs.lemmas.Map.Made.{filter_same_pairs}
 use Rattle.tt_shared.specs.Mail.{is_owed}
 use Rattle.tt_shared.proofs.posts.Posts.end.Goals as goal

@@ -1,4 +1,4 @@
-use Rattle.std.proofs.Common.{◌≡◌, rules}
+use Rattle.std.proofs.Common.{rules}
 use Rattle.std.proofs.lemmas.Option.{slice_get-get_or}
 use Rattle.tt_shared.proofs.queues.Queues.clear.Goals as goal
 

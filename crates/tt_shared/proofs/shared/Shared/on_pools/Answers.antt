@@ -1,4 +1,4 @@
-use Rattle.std.proofs.Common.{◌≡◌, ◌∙◌, ap, rules}
+use Rattle.std.proofs.Common.{◌∙◌, ap, rules}
 use Rattle.tt_shared.proofs.PoolCalls.{given}
 use Rattle.tt_shared.proofs.shared.Shared.on_pools.Goals as goal
 
