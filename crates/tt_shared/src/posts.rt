@@ -1,4 +1,4 @@
-ghost use Rattle.std.specs.Prelude.{◌≡◌, OnOk, IsSome, Some, option_copied, option_map};
+ghost use Rattle.std.specs.Prelude.{◌≡◌, ◌+◌, ◌^◌, ◌↔◌, OnOk, IsErr, IsSome, Some, option_copied, option_map};
 ghost use Rattle.tt_shared.specs.Mail.{is_owed, no_posts, posted, posts_after, variable_post, with_plain, without_variable};
 ghost use Rattle.tt_slots.specs.Waiting.{after_take, slot_of, state_of, with_state};
 ghost use Rattle.tt_slots.specs.declared.slot.SlotState.TheVariants.{Result as Answered, Waiting};
@@ -90,9 +90,10 @@ impl Posts {
 
     /// One post more, of which nobody asks the answer. It takes no memory.
     ///
-    /// `NoMemory` if a number is refused.
+    /// `NoMemory` exactly if the number after the next one is 2^64.
     pub fn pass(&mut self) -> Result<(), NoMemory>
         ensures passed { OnOk result (self.new ≡ with_plain self.old) }
+        ensures full { IsErr result ↔ (self.old.next + 1 ≡ 2 ^ 64) }
     {
         self.next = number_after(self.next)?;
         Ok(())
