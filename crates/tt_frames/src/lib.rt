@@ -33,6 +33,3 @@ pub use rest::Rest;
 pub use stack::{Stack, begin, turn};
 pub use state::{Counts, State};
 pub use tt_outcomes::{Body, Got, Want};
-
-#[cfg(test)]
-mod tests;
