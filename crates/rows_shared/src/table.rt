@@ -1,8 +1,8 @@
 use crate::answers::answer_text;
 use crate::names::name_of;
 use crate::requests::{line_of, request_of};
-use rows_reader::{Words, number_of, words_of};
 use anyhow::Context;
+use rows_reader::{Words, number_of, words_of};
 use std::alloc::Global;
 use tt_calls::{Request, Start};
 use tt_lists::join_list;

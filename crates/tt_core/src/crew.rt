@@ -6,9 +6,9 @@ ghost use Rattle.tt_core.specs.inside.Crew.{AllBegin, BeginsThread, GoesOn, IsHa
 use std::alloc::Global;
 use std::marker::Model;
 use tt_calls::{Reply, Request, Start};
-use tt_run::Desk;
 use tt_devices::{Sink, Source};
 use tt_interp::{Interp, Setup};
+use tt_run::Desk;
 use tt_text::NoMemory;
 
 /// The interpreters of the threads, by number from 1, each at what its thread asks; a thread that has ended has none.

@@ -11,9 +11,9 @@ use crate::crew::Crew;
 use std::alloc::Global;
 use std::marker::Model;
 use tt_calls::{Reply, Start};
-use tt_run::{Desk, NewFault, StepFault};
 use tt_devices::{Sink, Source};
 use tt_interp::Setup;
+use tt_run::{Desk, NewFault, StepFault};
 use tt_schedule::Schedule;
 use tt_text::NoMemory;
 

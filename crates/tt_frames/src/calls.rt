@@ -19,9 +19,8 @@ use itoa::Buffer;
 use std::alloc::Global;
 use tt_calls::{Boxed, ChanCall, LockCall, Outcome, Reply, Request, TsvCall};
 use tt_commands::{Call, Here, Then, read_call};
-use tt_outcomes::{Ending, code_number};
+use tt_outcomes::{Ending, Got, Want, code_number};
 use tt_text::{NoMemory, Text, Texts, char_count};
-use tt_outcomes::{Got, Want};
 
 /// A command begins that asks, or whose name is unknown.
 pub(crate) fn begin_call(alloc: Global, words: &Texts, me: u32) -> Result<Next, NoMemory>

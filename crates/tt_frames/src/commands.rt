@@ -23,10 +23,9 @@ use std::alloc::Global;
 use std::sync::Arc;
 use tt_calls::{Boxed, Request};
 use tt_code::{Halt, Running};
-use tt_outcomes::Ending;
+use tt_outcomes::{Ending, Got, Want};
 use tt_script::ParseFault;
 use tt_text::{NoMemory, Text, Texts};
-use tt_outcomes::{Got, Want};
 
 /// A script begins.
 pub(crate) fn begin_script(alloc: Global, text: Text, state: &mut State) -> Result<Next, NoMemory>

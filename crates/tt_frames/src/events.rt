@@ -13,9 +13,8 @@ use crate::waiting::{begin_waiting, end_waiting, look_of};
 use std::alloc::Global;
 use tt_calls::{Boxed, Event, Reply, Request};
 use tt_commands::Goal;
-use tt_outcomes::Ending;
+use tt_outcomes::{Ending, Got, Want};
 use tt_text::NoMemory;
-use tt_outcomes::{Got, Want};
 
 /// A command begins that serves events up to its goal.
 pub(crate) fn begin_serving(

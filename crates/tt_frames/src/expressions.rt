@@ -17,10 +17,9 @@ use crate::language::Next;
 use crate::state::State;
 use std::alloc::Global;
 use tt_code::{Halt, Running};
-use tt_outcomes::Ending;
 use tt_exprs::truth;
+use tt_outcomes::{Ending, Want};
 use tt_text::{NoMemory, Text};
-use tt_outcomes::Want;
 
 /// An expression begins.
 pub(crate) fn begin_expression(

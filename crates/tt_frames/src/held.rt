@@ -11,9 +11,8 @@ use crate::nesting::too_deep;
 use crate::state::{DEEPEST, State};
 use std::alloc::Global;
 use tt_calls::{Boxed, Family, LockCall, Request, TsvCall};
-use tt_outcomes::Ending;
+use tt_outcomes::{Ending, Want};
 use tt_text::{NoMemory, Text};
-use tt_outcomes::Want;
 
 /// A held script begins; past the limit its hold is ended at once.
 pub(crate) fn begin_held(

@@ -5,9 +5,8 @@ use crate::rest::Rest;
 use std::sync::Arc;
 use tt_calls::{Boxed, Event, Start};
 use tt_code::Running;
-use tt_outcomes::{Ending, Failure};
+use tt_outcomes::{Body, Ending, Failure};
 use tt_text::{Text, Texts};
-use tt_outcomes::Body;
 
 /// A loop, from its next turn on.
 #[derive(Debug, Drop)]

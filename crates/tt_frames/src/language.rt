@@ -23,10 +23,9 @@ use crate::starts::{begin_start, finish, report_error};
 use crate::state::State;
 use crate::workers::{after_worker, begin_work, take_got};
 use std::alloc::Global;
-use tt_outcomes::Ending;
 use tt_evaluation::{Language, Move};
+use tt_outcomes::{Ending, Got, Want};
 use tt_text::{NoMemory, Text};
-use tt_outcomes::{Got, Want};
 
 /// What is done next.
 pub(crate) type Next = Move<Job, Want, Ending, Frame, Asking>;

@@ -15,9 +15,8 @@ use crate::state::{State, Unit};
 use crate::storing::setting;
 use std::alloc::Global;
 use tt_calls::{Boxed, Request};
-use tt_outcomes::Ending;
+use tt_outcomes::{Ending, Want};
 use tt_text::{NoMemory, Text};
-use tt_outcomes::Want;
 
 /// The next turn of a loop begins, if there is one.
 pub(crate) fn begin_loop(alloc: Global, next: Loop, state: &mut State) -> Result<Next, NoMemory>

@@ -10,9 +10,8 @@ use crate::job::{Asking, Frame, Job};
 use crate::language::Next;
 use crate::state::{DEEPEST, State};
 use std::alloc::Global;
-use tt_outcomes::Ending;
+use tt_outcomes::{Body, Ending, Want};
 use tt_text::{NoMemory, Text};
-use tt_outcomes::{Body, Want};
 
 /// A body begins; past the limit it is left at once.
 pub(crate) fn begin_nested(

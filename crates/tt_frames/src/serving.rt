@@ -11,9 +11,8 @@ use crate::state::State;
 use crate::storing::{setting, telling};
 use std::alloc::Global;
 use tt_calls::{Boxed, Event, Reply, Request};
-use tt_outcomes::{Ending, Failure};
+use tt_outcomes::{Body, Ending, Failure, Got, Want};
 use tt_text::{NoMemory, Text};
-use tt_outcomes::{Body, Got, Want};
 
 /// An event is served.
 pub(crate) fn begin_event(alloc: Global, event: Event, state: &mut State) -> Next

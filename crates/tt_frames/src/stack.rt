@@ -12,10 +12,9 @@ use crate::language::Tcl;
 use crate::state::State;
 use std::alloc::Global;
 use tt_calls::Start;
-use tt_outcomes::Ending;
 use tt_evaluation::{Halt, STEPS};
+use tt_outcomes::{Ending, Got, Want};
 use tt_text::NoMemory;
-use tt_outcomes::{Got, Want};
 
 /// What a thread has begun to evaluate. A contract says of it what it comes to after further answers.
 pub type Stack = tt_evaluation::Stack<State, Frame, Asking>;

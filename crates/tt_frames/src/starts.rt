@@ -14,9 +14,8 @@ use crate::storing::telling;
 use crate::workers::begin_worker;
 use std::alloc::Global;
 use tt_calls::{Boxed, Request, Start};
-use tt_outcomes::Ending;
+use tt_outcomes::{Ending, Want};
 use tt_text::{NoMemory, Text};
-use tt_outcomes::Want;
 
 /// A thread begins.
 pub(crate) fn begin_start(alloc: Global, start: Start) -> Result<Next, NoMemory>

@@ -9,10 +9,9 @@ ghost use Rattle.tt_evaluation.specs.Frames.{plan_of};
 use crate::job::{Asking, Frame};
 use crate::language::Next;
 use std::alloc::Global;
-use tt_outcomes::Ending;
+use tt_outcomes::{Ending, Want};
 use tt_script::split_name;
 use tt_text::{NoMemory, Text};
-use tt_outcomes::Want;
 
 /// What sets a variable or an element, by a name as commands are given it (set(n)).
 pub(crate) fn setting(alloc: Global, name: Text, value: Text) -> Result<Want, NoMemory>

@@ -17,9 +17,8 @@ use crate::language::Next;
 use crate::storing::telling;
 use std::alloc::Global;
 use tt_calls::{Boxed, PoolCall, Reply, Request};
-use tt_outcomes::Ending;
+use tt_outcomes::{Ending, Got, Want};
 use tt_text::{NoMemory, Text};
-use tt_outcomes::{Got, Want};
 
 /// A worker begins with the pool's script for new ones.
 pub(crate) fn begin_worker(

@@ -9,9 +9,9 @@ ghost use Rattle.tt_outcomes.specs.declared.want.Want.TheVariants as wants;
 use crate::Kept;
 use std::alloc::Global;
 use tt_calls::Outcome;
+use tt_outcomes::{Got, Want};
 use tt_store::Answer;
 use tt_text::{NoMemory, Text, Texts};
-use tt_outcomes::{Got, Want};
 
 impl Kept {
     /// What is got for this; to a request there is no answer here.

@@ -6,11 +6,11 @@ ghost use Rattle.tt_variable_commands.specs.LevelCommands as levels;
 
 use crate::Kept;
 use std::alloc::Global;
+use tt_outcomes::Body;
 use tt_procedures::Called;
 use tt_script::plain_name;
 use tt_store::{Answer, Store};
 use tt_text::{NoMemory, Text};
-use tt_outcomes::Body;
 
 /// Which of the commands on procedures words ask for.
 #[derive(Clone, Copy, Debug, PartialEq, Eq)]

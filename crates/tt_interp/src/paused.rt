@@ -11,9 +11,9 @@ ghost use Rattle.tt_outcomes.specs.declared.got.Got.{Got};
 use std::alloc::Global;
 use std::marker::Model;
 use tt_calls::Start;
-use tt_outcomes::Ending;
-use tt_frames::{Got, Stack, Want, begin, turn};
 use tt_evaluation::Halt;
+use tt_frames::{Got, Stack, Want, begin, turn};
+use tt_outcomes::Ending;
 use tt_text::NoMemory;
 
 /// What a thread has begun to evaluate, behind a pointer, so that what holds it is small. Contracts see the stack.

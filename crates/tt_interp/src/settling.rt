@@ -10,9 +10,9 @@ ghost use Rattle.tt_outcomes.specs.declared.got.Got.TheVariants as gots;
 use crate::{Kept, Paused, Standing};
 use std::alloc::Global;
 use tt_calls::{Boxed, Reply, Request, Start};
-use tt_outcomes::Ending;
-use tt_frames::{Got, Want};
 use tt_evaluation::Halt;
+use tt_frames::{Got, Want};
+use tt_outcomes::Ending;
 use tt_text::NoMemory;
 
 /// Where an evaluation comes to that can't go on by what is kept.

@@ -19,8 +19,8 @@ pub use next::{Done, Next, RunEnd, Task};
 pub use note::{Held, Out};
 pub use ran::Ran;
 pub use running::run;
-pub use tt_run::NewFault;
 pub use tt_interp::Setup;
+pub use tt_run::NewFault;
 pub use world::World;
 
 #[cfg(test)]
