@@ -7,5 +7,5 @@ mod system;
 
 pub use began::Began;
 pub use system::System;
-pub use tt_run::{NewFault, StepFault};
 pub use tt_interp::Setup;
+pub use tt_run::{NewFault, StepFault};
