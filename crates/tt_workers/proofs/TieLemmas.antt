@@ -445,7 +445,7 @@ module _ {S K E : Type 0} (source : OfSource S) (output : OfSink K) (errors : Of
       by-end ends.Limit comes = absurd (actions.some-none (sym comes))
       by-end ends.Read comes =
           let same : fault.ReadFault ≡ is = cc comes in
-          let at = was ∙ ap Err (sym same) in
+          let at : result ≡ Err fault.ReadFault = was ∙ ap Err (sym same) in
           actions.failed-read source.held output.got errors.got begun.setup begun.devices old new (IsEnd begun.steps new.schedule ends.Read)
           f.failed.nothing_met (met source.held output.got errors.got new result fault.ReadFault f.failed.kept at (λ one. cc))
           (f.failed.read_nothing at) f.failed.taken

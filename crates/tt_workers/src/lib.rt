@@ -19,6 +19,6 @@ pub use next::{Done, Next, Resumption, RunEnd, Task};
 pub use note::{Held, Out};
 pub use ran::Ran;
 pub use running::run;
-pub use tt_run::NewFault;
 pub use tt_interp::Setup;
+pub use tt_run::NewFault;
 pub use world::World;

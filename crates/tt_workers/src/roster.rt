@@ -13,9 +13,9 @@ use std::alloc::Global;
 use std::marker::Model;
 use std::mem;
 use tt_calls::{Reply, Request, Start};
-use tt_run::Desk;
 use tt_devices::{Sink, Source};
 use tt_interp::Setup;
+use tt_run::Desk;
 use tt_text::NoMemory;
 
 /// The places of the threads, by number from 1.

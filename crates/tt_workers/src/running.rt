@@ -17,10 +17,10 @@ use std::alloc::Global;
 use std::sync::Wait;
 use std::thread;
 use std::thread::Threads;
-use tt_run::NewFault;
 use tt_devices::{Gate, Sink, Source};
 use tt_interp::Setup;
 use tt_noted::{Noted, Pass};
+use tt_run::NewFault;
 use tt_schedule::Schedule;
 
 /// Runs a script on workers, 1 to 64 of them, over these devices, in at most so many steps, 1 to 16,777,216. Each thread that

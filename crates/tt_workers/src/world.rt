@@ -21,9 +21,9 @@ use std::marker::Model;
 use std::snapshot::Snapshot;
 use tt_calls::{Reply, Start};
 use tt_core::Began;
-use tt_run::{Desk, NewFault, StepFault};
 use tt_devices::{Sink, Source};
 use tt_interp::Setup;
+use tt_run::{Desk, NewFault, StepFault};
 use tt_text::NoMemory;
 
 /// A run on workers: what it stands on, the places of its threads, and its end if there is one.
