@@ -8,7 +8,8 @@ use Rattle.tt_run.specs.Desk.{Devices, Ground, can_act, unread}
 use Rattle.tt_run.specs.declared.fault.StepFault.{StepFault}
 use Rattle.tt_run.specs.declared.fault.StepFault.TheVariants as fault
 use Rattle.tt_devices.proofs.StreamLemmas.{Grows-append, Grows-same}
-use Rattle.tt_devices.specs.Streams.{Grows, GrowsByPart}
+use Rattle.std.specs.Io.KnownBytes.{Consumes, Keeps, prepend_known}
+use Rattle.tt_devices.specs.Streams.{Grows, GrowsByPart, LosesPart}
 use Rattle.tt_interp.specs.declared.setup.Setup.{Setup}
 use Rattle.tt_lines.specs.Lines.{TakesLine, ReadsKnown, reads_line}
 use Rattle.std.proofs.lemmas.List.{append_cancel_left, length-append}
@@ -25,6 +26,7 @@ use Rattle.tt_shared.specs.declared.applied.Line.{Line}
 use Rattle.tt_threads.specs.Rows.{is_living}
 use Rattle.tt_threads.specs.declared.row.Row.{Row}
 use Rattle.tt_core.specs.Faithful.{AsksLine, IsCutShort, IsFaithful, StepWrites, is_cut}
+use Rattle.tt_core.specs.Parts.{HoldsLastPart}
 use Rattle.tt_core.specs.Stage.{Began, OfMachine}
 use Rattle.tt_core.specs.inside.Standing.{IsAt, IsIts, IsStanding, Stands}
 
@@ -231,7 +233,7 @@ faithful-by kept cut begun schedule old_out new_out old_err new_err machine is f
 
 -- ---- where a run stands ----
 
-pub told-map : (told : Option (List ℕ)) (P Q : List ℕ → Type 0) → IfSome told P → ((input : List ℕ) → P input → Q input) → IfSome told Q
+pub told-map : (found : Option (List ℕ)) (P Q : List ℕ → Type 0) → IfSome found P → ((input : List ℕ) → P input → Q input) → IfSome found Q
 told-map None P Q is f = tt
 told-map (Some input) P Q is f = f input is
 
@@ -240,14 +242,50 @@ pub going : (kept : Option StepFault) (shared : State) (left : Option (List ℕ)
     → kept ≡ None → IsAt kept shared left Where machine → IsIts shared left machine × Where machine
 going kept shared left Where machine unmet at = subst (λ (k : Option StepFault). IsAt k shared left Where machine) unmet at
 
-at-fault : (kept : Option StepFault) (is : StepFault) (shared : State) (left : Option (List ℕ)) (Where : Machine → Type 0) (machine : Machine)
-    → kept ≡ Some is → is ≢ fault.NotEnabled → IsAt kept shared left Where machine
-at-fault kept is shared left Where machine met other = subst (λ (k : Option StepFault). IsAt k shared left Where machine) (sym met) other
+-- a fault is met where this stands
+at-met : (kept met : Option StepFault) (shared : State) (left : Option (List ℕ)) (Where : Machine → Type 0) (machine : Machine)
+    → kept ≡ met → IsAt met shared left Where machine → IsAt kept shared left Where machine
+at-met kept met shared left Where machine is at = subst (λ (k : Option StepFault). IsAt k shared left Where machine) (sym is) at
 
-at-anew : (kept : Option StepFault) (is : StepFault) (shared : State) (left : Option (List ℕ)) (Old New : Machine → Type 0) (machine : Machine)
-    → kept ≡ Some is → IsAt kept shared left Old machine → IsAt kept shared left New machine
-at-anew kept is shared left Old New machine met at =
-    at-fault kept is shared left New machine met (subst (λ (k : Option StepFault). IsAt k shared left Old machine) met at)
+-- where its threads are is said anew, if anything is said of them
+at-anew : (kept : Option StepFault) (shared : State) (left : Option (List ℕ)) (Old New : Machine → Type 0) (machine : Machine)
+    → (IsIts shared left machine → Old machine → New machine)
+    → IsAt kept shared left Old machine → IsAt kept shared left New machine
+at-anew None shared left Old New machine anew at = (at.0, anew at.0 at.1)
+at-anew (Some fault.ReadFault) shared left Old New machine anew at = (at.0, anew at.0 at.1)
+at-anew (Some fault.WriteFault) shared left Old New machine anew at = tt
+at-anew (Some fault.NoMemory) shared left Old New machine anew at = tt
+at-anew (Some fault.NotEnabled) shared left Old New machine anew at = absurd at
+
+keeps-some : (old new : Option (List ℕ)) (bytes : List ℕ) → old ≡ Some bytes → Keeps old new → new ≡ Some bytes
+keeps-some None new bytes is keeps = absurd (some-none (sym is))
+keeps-some (Some old) None bytes is keeps = absurd keeps
+keeps-some (Some old) (Some new) bytes is keeps = ap Some keeps ∙ is
+
+-- ---- what the source still holds ----
+
+-- what it holds comes after what was read ahead of it
+pub holds-rest : (ahead : List ℕ) (told : Option (List ℕ)) (bytes : List ℕ) → prepend_known ahead told ≡ Some bytes → HoldsLastPart told bytes
+holds-rest ahead None bytes is = absurd (some-none (sym is))
+holds-rest ahead (Some rest) bytes is =
+    let cut : ahead ++ rest ≡ bytes = cc is in
+    record { ahead = ahead; rest = rest; tells = refl; cut = sym cut }
+
+-- it holds a last part still, when first bytes were taken
+pub holds-less : (old new : Option (List ℕ)) (bytes : List ℕ) → LosesPart old new → HoldsLastPart old bytes → HoldsLastPart new bytes
+holds-less old new bytes loses holds = by-left old new loses.lost holds.tells
+  where
+    by-left : (one other : Option (List ℕ)) → Consumes one other loses.part → one ≡ Some holds.rest → HoldsLastPart other bytes
+    by-left None other lost is = absurd (some-none (sym is))
+    by-left (Some rest) None lost is = absurd lost
+    by-left (Some rest) (Some less) lost is =
+        let same : rest ≡ holds.rest = cc is in
+        record {
+          ahead = holds.ahead ++ loses.part;
+          rest = less;
+          tells = refl;
+          cut = holds.cut ∙ (ap (λ (one : List ℕ). holds.ahead ++ one) (sym same ∙ lost) ∙ sym (append_assoc holds.ahead loses.part less));
+        }
 
 pub at-none : (kept : Option StepFault) (shared : State) (left : Option (List ℕ)) (Where : Machine → Type 0) (machine : Machine)
     → kept ≡ None → IsIts shared left machine × Where machine → IsAt kept shared left Where machine
@@ -292,40 +330,30 @@ module _ {S K E : Type 0} (held : S → Option (List ℕ)) (got_out : K → Opti
   whole-so-far setup began desk Where input machine unmet is =
       subst (λ (k : Option StepFault). IsFaithful (is_cut k) (start_machine setup input) desk.schedule (got_out began.output) (got_out desk.devices.output) (got_err began.errors) (got_err desk.devices.errors) machine) unmet is.faithful
 
-  -- where its threads are is told anew
+  -- where its threads are is said anew
   pub restood : (setup : Setup) (began : Began S K E) (desk : Ground S K E) (Old New : Machine → Type 0)
-      → desk.kept ≡ None
       → ((machine : Machine) → machine.setup ≡ setup → IsIts desk.shared (unread held desk.devices) machine → Old machine → New machine)
       → Stood setup began desk Old → Stood setup began desk New
-  restood setup began desk Old New unmet anew stood =
+  restood setup began desk Old New anew stood =
       told-map (held began.input) _ _ stood (λ input standing.
       let machine = standing.0 in
-      let is = standing.1 in
-      let its = going desk.kept desk.shared (unread held desk.devices) Old machine unmet is.at in (
+      let is = standing.1 in (
         machine,
         record {
           setup = is.setup;
           ran = is.ran;
-          at = at-none desk.kept desk.shared (unread held desk.devices) New machine unmet (its.0, anew machine is.setup its.0 its.1);
+          at = at-anew desk.kept desk.shared (unread held desk.devices) Old New machine (anew machine is.setup) is.at;
+          input = is.input;
           faithful = is.faithful;
         },
       ))
 
-  -- after a fault or want of memory nothing is said of it
-  pub restood-kept : (setup : Setup) (began : Began S K E) (desk : Ground S K E) (Old New : Machine → Type 0) (is : StepFault)
-      → desk.kept ≡ Some is
-      → Stood setup began desk Old → Stood setup began desk New
-  restood-kept setup began desk Old New is met stood =
-      told-map (held began.input) _ _ stood (λ input standing.
-      let machine = standing.0 in (
-        machine,
-        record {
-          setup = standing.1.setup;
-          ran = standing.1.ran;
-          at = at-anew desk.kept is desk.shared (unread held desk.devices) Old New machine met standing.1.at;
-          faithful = standing.1.faithful;
-        },
-      ))
+  -- what the source holds of the machine's input
+  pub held-part : (setup : Setup) (began : Began S K E) (desk : Ground S K E) (Where : Machine → Type 0) (input : S)
+      → input ≡ desk.devices.input → Stood setup began desk Where
+      → Of setup began desk (λ machine. HoldsLastPart (held input) machine.input)
+  held-part setup began desk Where input is stood =
+      told-map (held began.input) _ _ stood (λ bytes standing. (standing.0, standing.1.ran, rw is standing.1.input))
 
   -- the machine after the step, with what sinks got of it
   record After (setup : Setup) (began : Began S K E) (old new : Ground S K E) (number : ℕ) (request : Request) (line : Line) (cut : Bool) (input : List ℕ) (machine : Machine) : Type 0 where
@@ -396,6 +424,7 @@ module _ {S K E : Type 0} (held : S → Option (List ℕ)) (got_out : K → Opti
             record { is_shared = went.goes.shared; is_left = went.goes.left },
             becomes machine went.goes.next is.setup went.same its.1 went.goes.threads,
           );
+          input = holds-rest new.devices.ahead (held new.devices.input) went.goes.next.input went.goes.left;
           faithful = faithful-by new.kept false (start_machine setup input) new.schedule (got_out began.output) (got_out new.devices.output) (got_err began.errors) (got_err new.devices.errors) went.goes.next (ap is_cut goes_on) went.faithful;
         },
       ))
@@ -415,7 +444,8 @@ module _ {S K E : Type 0} (held : S → Option (List ℕ)) (got_out : K → Opti
         record {
           setup = went.same;
           ran = went.ran;
-          at = λ same. cc;
+          at = tt;
+          input = holds-rest new.devices.ahead (held new.devices.input) went.goes.next.input went.goes.left;
           faithful = went.faithful;
         },
       )))
@@ -433,29 +463,59 @@ module _ {S K E : Type 0} (held : S → Option (List ℕ)) (got_out : K → Opti
         record {
           setup = went.same;
           ran = went.ran;
-          at = at-fault new.kept fault.WriteFault new.shared (unread held new.devices) New went.goes.next met (λ same. cc);
+          at = at-met new.kept (Some fault.WriteFault) new.shared (unread held new.devices) New went.goes.next met tt;
+          input = holds-rest new.devices.ahead (held new.devices.input) went.goes.next.input went.goes.left;
           faithful = faithful-by new.kept true (start_machine setup input) new.schedule (got_out began.output) (got_out new.devices.output) (got_err began.errors) (got_err new.devices.errors) went.goes.next (ap is_cut met) went.faithful;
         },
       ))
 
-  -- nothing was done
-  pub stopped : (setup : Setup) (began : Began S K E) (old new : Ground S K E) (Old New : Machine → Type 0) (is : StepFault)
-      → old.kept ≡ None → new.kept ≡ Some is → is ≢ fault.NotEnabled → is_cut (Some is) ≡ false
+  -- nothing was done, and the source may have lost first bytes
+  stopped : (setup : Setup) (began : Began S K E) (old new : Ground S K E) (Old New : Machine → Type 0) (is : StepFault)
+      → old.kept ≡ None → new.kept ≡ Some is → is_cut (Some is) ≡ false
       → new.schedule ≡ old.schedule → new.devices.output ≡ old.devices.output → new.devices.errors ≡ old.devices.errors
+      → LosesPart (held old.devices.input) (held new.devices.input)
+      → ((machine : Machine) → IsIts old.shared (unread held old.devices) machine → Old machine
+      → IsAt (Some is) new.shared (unread held new.devices) New machine)
       → Stood setup began old Old → Stood setup began new New
-  stopped setup began old new Old New is unmet met other cut same out err stood =
+  stopped setup began old new Old New is unmet met cut same out err loses at stood =
       told-map (held began.input) _ _ stood (λ input standing.
       let machine = standing.0 in
+      let its = going old.kept old.shared (unread held old.devices) Old machine unmet standing.1.at in
       let far = whole-so-far setup began old Old input machine unmet standing.1 in (
         machine,
         record {
           setup = standing.1.setup;
           ran = rw same standing.1.ran;
-          at = at-fault new.kept is new.shared (unread held new.devices) New machine met other;
+          at = at-met new.kept (Some is) new.shared (unread held new.devices) New machine met (at machine its.0 its.1);
+          input = holds-less (held old.devices.input) (held new.devices.input) machine.input loses standing.1.input;
           faithful = faithful-by new.kept false (start_machine setup input) new.schedule (got_out began.output) (got_out new.devices.output) (got_err began.errors) (got_err new.devices.errors) machine (ap is_cut met ∙ cut)
               (rw (same, out, err) (record { out = far.out; err = far.err }));
         },
       ))
+
+  -- memory was refused
+  pub without-memory : (setup : Setup) (began : Began S K E) (old new : Ground S K E) (Old New : Machine → Type 0)
+      → old.kept ≡ None → new.kept ≡ Some fault.NoMemory
+      → new.schedule ≡ old.schedule → new.devices.output ≡ old.devices.output → new.devices.errors ≡ old.devices.errors
+      → LosesPart (held old.devices.input) (held new.devices.input)
+      → Stood setup began old Old → Stood setup began new New
+  without-memory setup began old new Old New unmet met same out err loses stood =
+      stopped setup began old new Old New fault.NoMemory unmet met refl same out err loses (λ machine its there. tt) stood
+
+  -- a read failed: all is as it was
+  pub failed-read : (setup : Setup) (began : Began S K E) (old new : Ground S K E) (Where : Machine → Type 0)
+      → old.kept ≡ None → new.kept ≡ Some fault.ReadFault → ReadsNothing held old new
+      → LosesPart (held old.devices.input) (held new.devices.input)
+      → Stood setup began old Where → Stood setup began new Where
+  failed-read setup began old new Where unmet met nothing loses stood =
+      stopped setup began old new Where Where fault.ReadFault unmet met refl nothing.schedule nothing.output nothing.errors loses
+      (λ machine its there. (
+        record {
+          is_shared = nothing.shared ∙ its.is_shared;
+          is_left = keeps-some (unread held old.devices) (unread held new.devices) machine.input its.is_left nothing.unread;
+        },
+        there,
+      )) stood
 
   begins : (setup : Setup) (output : K) (errors : E) (Where : Machine → Type 0) (given : S) (bytes : List ℕ)
       → held given ≡ Some bytes
@@ -465,6 +525,7 @@ module _ {S K E : Type 0} (held : S → Option (List ℕ)) (got_out : K → Opti
     setup = refl;
     ran = none;
     at = (record { is_shared = refl; is_left = rw told refl }, there);
+    input = record { ahead = []; rest = bytes; tells = told; cut = refl };
     faithful = record { out = Grows-same (got_out output); err = Grows-same (got_err errors) };
   }
 
@@ -506,6 +567,7 @@ module _ {S K E : Type 0} (held : S → Option (List ℕ)) (got_out : K → Opti
     pub read_nothing : result ≡ Err fault.ReadFault → ReadsNothing held old new
     pub cut : result ≡ Err fault.WriteFault → old.kept ≡ None →
         (line : Line) × Happens held got_out got_err GrowsByPart old number request line new × Writes (act old.shared number request line).gives
+    pub taken : LosesPart (held old.devices.input) (held new.devices.input)
     pub no_entry : result ≡ Err fault.NoMemory → new.schedule ≡ old.schedule
     pub no_piece : result ≡ Err fault.NoMemory → (new.devices.output ≡ old.devices.output) × (new.devices.errors ≡ old.devices.errors)
 
@@ -524,15 +586,14 @@ module _ {S K E : Type 0} (held : S → Option (List ℕ)) (got_out : K → Opti
   failed setup began old new number request serving Where result fault.NotEnabled asks was f stood =
       subst (λ (desk : Ground S K E). Stood setup began desk Where) (sym (f.unchanged was)) stood
   failed setup began old new number request serving Where result fault.ReadFault asks was f stood =
-      let nothing = f.read_nothing was in
-      stopped setup began old new Where Where fault.ReadFault f.nothing_met (met new result fault.ReadFault f.kept was (λ same. cc)) (λ same. cc) refl nothing.schedule nothing.output nothing.errors stood
+      failed-read setup began old new Where f.nothing_met (met new result fault.ReadFault f.kept was (λ same. cc)) (f.read_nothing was) f.taken stood
   failed setup began old new number request serving Where result fault.WriteFault asks was f stood =
       let cut = f.cut was f.nothing_met in
       let can = could-be old number request result fault.WriteFault f.nothing_met f.refused was (λ same. cc) in
       failed-write setup began old new number request serving cut.0 Where Where can asks cut.1 (met new result fault.WriteFault f.kept was (λ same. cc)) stood
   failed setup began old new number request serving Where result fault.NoMemory asks was f stood =
       let pieces = f.no_piece was in
-      stopped setup began old new Where Where fault.NoMemory f.nothing_met (met new result fault.NoMemory f.kept was (λ same. cc)) (λ same. cc) refl (f.no_entry was) pieces.0 pieces.1 stood
+      without-memory setup began old new Where Where f.nothing_met (met new result fault.NoMemory f.kept was (λ same. cc)) (f.no_entry was) pieces.0 pieces.1 f.taken stood
 
   -- ---- what a fault is met at ----
 
@@ -544,7 +605,16 @@ module _ {S K E : Type 0} (held : S → Option (List ℕ)) (got_out : K → Opti
   asked-line setup began desk number request serving Where asking can line stood =
       let has = able desk number request can in
       of-machine setup began desk Where (AsksLine number) has.nothing_met stood (λ machine its there.
-      record { request = request; serving = serving; asks = asking machine there (rw (← its.is_shared) has.lives); line = line })
+      record {
+        can = record {
+          request = request;
+          serving = serving;
+          going = rw (← its.is_shared) has.going;
+          asks = asking machine there (rw (← its.is_shared) has.lives);
+          enabled = rw (← its.is_shared) has.enabled;
+        };
+        line = line;
+      })
 
   longer : (before piece after : List ℕ) → after ≡ before ++ piece → piece ≢ [] → after ≢ before
   longer before piece after is some = λ same. some (append_cancel_left before piece [] (sym is ∙ (same ∙ sym (append-nil before))))

@@ -28,7 +28,7 @@ pub record IsCutShort (begun : Machine) (schedule : List ℕ) (old new : Option 
   pub cut : written machine ≡ (written before ++ part) ++ rest
   pub grew : Grows old new (written before ++ part)
 
--- what a sink got is what the machine wrote, cut short where that write failed
+-- what a sink got is what the machine wrote, cut short if that write failed
 abbrev pub HasWritten :
     (cut : Bool) → (begun : Machine) → (schedule : List ℕ) → (old new : Option (List ℕ)) →
     (written : Machine → List ℕ) → Machine → Type 0

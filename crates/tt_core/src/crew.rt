@@ -78,7 +78,7 @@ impl Crew {
 
     /// A thread that has not ended gets the reply to what it asks.
     ///
-    /// `NoMemory` where memory is refused; then nothing is said of the thread.
+    /// `NoMemory` if memory is refused; then nothing is said of the thread.
     pub(crate) fn reply(&mut self, number: u32, reply: Reply) -> Result<(), NoMemory>
         requires there { IsSome (interp_of self.old number) }
         ensures replied { OnOk result (IsReplied number reply self.old self.new) }
@@ -94,7 +94,7 @@ impl Crew {
 
     /// Threads that were made begin.
     ///
-    /// `NoMemory` where memory is refused.
+    /// `NoMemory` if memory is refused.
     pub(crate) fn begin_all<S: Source, K: Sink, E: Sink>(
         &mut self,
         alloc: Global,
@@ -111,7 +111,7 @@ impl Crew {
     }
 }
 
-/// An interpreter goes on with a reply; where its thread has ended, or memory is refused, there is none any more.
+/// An interpreter goes on with a reply; if its thread has ended, or memory is refused, there is none any more.
 fn go_on(place: &mut Option<Interp>, reply: Reply) -> Result<(), NoMemory>
     requires there { IsSome place.old }
     ensures goes { OnOk result (IfSome place.old (λ interp. GoesOn interp reply place.new)) }

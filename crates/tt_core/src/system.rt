@@ -46,7 +46,7 @@ impl<S: Source, K: Sink, E: Sink> System<S, K, E> {
 
     /// A run of this script over these devices, with no step taken.
     ///
-    /// `NewFault` where memory is refused, with the devices as they were given.
+    /// `NewFault` if memory is refused, with the devices as they were given.
     pub fn new(
         alloc: Global,
         setup: Setup,
@@ -92,11 +92,11 @@ impl<S: Source, K: Sink, E: Sink> System<S, K, E> {
 
     /// Answers the thread's request, adds the thread to the schedule, and puts what the request writes.
     ///
-    /// `NotEnabled` exactly where the machine can't step the thread and nothing was met before; then nothing changes.
-    /// `ReadFault` only where the thread asks for a line and the source's count of faults rose in this step; then no entry
-    /// was added. `WriteFault` only where the step writes something and a sink's count rose in this step; then the entry was
+    /// `NotEnabled` exactly if the machine can't step the thread and nothing was met before; then nothing changes.
+    /// `ReadFault` only if the thread asks for a line and the source's count of faults rose in this step; then no entry
+    /// was added. `WriteFault` only if the step writes something and a sink's count rose in this step; then the entry was
     /// added, and a first part of what it writes was put.
-    /// `NoMemory` where memory is refused. After these three the system does nothing more, and each later step answers the
+    /// `NoMemory` if memory is refused. After these three the system does nothing more, and each later step answers the
     /// same.
     pub fn step(&mut self, thread: u32) -> Result<(), StepFault>
         requires { length self.old.desk.schedule < most_steps }
@@ -109,7 +109,7 @@ impl<S: Source, K: Sink, E: Sink> System<S, K, E> {
             (self.old.desk.kept ≡ None) × OfMachine S.held self.old (λ machine. IsBarred machine thread) }
         ensures unchanged { IsErrOf result StepFault.NotEnabled → self.new ≡ self.old }
 
-        // Faults and want of memory are kept.
+        // Faults and want of memory stay.
         ensures again { IfSome self.old.desk.kept (λ fault. (result ≡ Err fault) × (self.new ≡ self.old)) }
         ensures kept { IfErr result (λ fault. (fault ≡ StepFault.NotEnabled) ⊎ (self.new.desk.kept ≡ Some fault)) }
         ensures entry_added { IsErrOf result StepFault.WriteFault → self.old.desk.kept ≡ None →
@@ -168,7 +168,7 @@ impl<S: Source, K: Sink, E: Sink> System<S, K, E> {
     }
 
     /// The thread that is next in turn after one: of those that can take a step the first above it, and else the first
-    /// up to it. `None` exactly where no thread can, or a fault or want of memory was met. It takes no memory.
+    /// up to it. `None` exactly if no thread can, or a fault or want of memory was met. It takes no memory.
     pub fn next_enabled(&self, after: u32) -> Option<u32>
         ensures next { self.now.desk.kept ≡ None → OfMachine S.held self.now (IsNextAfter after result) }
         ensures met { IsSome self.now.desk.kept → result ≡ None }
@@ -185,7 +185,7 @@ impl<S: Source, K: Sink, E: Sink> System<S, K, E> {
         are_idle(&self.desk, &self.crew)
     }
 
-    /// The code with which the run ended, from 0 to 255, or `None` exactly where it isn't over. It takes no memory.
+    /// The code with which the run ended, from 0 to 255, or `None` exactly if it isn't over. It takes no memory.
     pub fn ended(&self) -> Option<u8>
         ensures is { result ≡ self.now.desk.shared.over }
         ensures ended { self.now.desk.kept ≡ None → OfMachine S.held self.now (λ machine. machine.shared.over ≡ result) }

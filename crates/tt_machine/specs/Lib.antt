@@ -1,3 +1,3 @@
-pub mod Laws
+pub mod MachineLaws
 pub mod Machine
 pub mod RunActions

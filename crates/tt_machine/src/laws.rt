@@ -1,5 +1,5 @@
 //! What holds of the machine.
-ghost use Rattle.tt_machine.specs.Laws.{BarredLaw, OneMoreLaw, OneRunLaw, OneStepLaw};
+ghost use Rattle.tt_machine.specs.MachineLaws.{BarredLaw, OneMoreLaw, OneRunLaw, OneStepLaw};
 ghost use Rattle.tt_machine.specs.RunActions.{FewChannelsLaw, OrderlyStepLaw, RunActionsLaw};
 
 /// A step of a thread leads to one machine.

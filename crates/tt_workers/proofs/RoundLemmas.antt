@@ -29,6 +29,7 @@ use Rattle.tt_workers.specs.inside.Rounds.{IsVacant, KeepsVacant, Replies, Round
 use Rattle.tt_core.specs.Parts.{IsFirstPart}
 use Rattle.tt_workers.specs.inside.World.{IsTied, Realm}
 use Rattle.tt_workers.specs.declared.next.Done.{Done}
+use Rattle.tt_workers.specs.declared.next.Resumption.TheVariants.{Halted}
 use Rattle.tt_workers.specs.declared.next.Next.TheVariants as next
 use Rattle.tt_workers.specs.declared.next.RunEnd.{RunEnd}
 use Rattle.tt_workers.specs.declared.next.RunEnd.TheVariants as ends
@@ -335,12 +336,12 @@ module _ {S K E : Type 0} (source : OfSource S) (output : OfSink K) (errors : Of
   }
 
   pub back-parked : (done : Done) (begun : Beginning S K E) (desk : Ground S K E) (places later : List Place) (end : Option RunEnd)
-      → end ≡ None → desk.kept ≡ fault_so_far end → IsTrue done.fine → later ≡ parked_at places done.thread done.interp
+      → end ≡ None → desk.kept ≡ fault_so_far end → done.resumption ≡ Halted → later ≡ parked_at places done.thread done.interp
       → TakesBack source output errors done (record { begun = begun; desk = desk; places = places; end = end }) (record { begun = begun; desk = desk; places = later; end = end })
-  back-parked done begun desk places later end none kept fine is = record {
+  back-parked done begun desk places later end none kept halted is = record {
     keeps = λ notes pass tied returns.
         of-none source output errors begun desk later end _ none
-        (rw is (tied-back source output errors begun desk places notes pass done returns fine (to-none source output errors begun desk places end notes none tied)));
+        (rw is (tied-back source output errors begun desk places notes pass done returns halted (to-none source output errors begun desk places end notes none tied)));
     begun = refl;
     kept = kept;
     schedule = refl;

@@ -2,21 +2,22 @@
 use Rattle.std.proofs.Common.{◌≡◌, ◌∙◌, ℕ, zero, suc, List, [], ◌∷◌, replicate, Option, Some, None, IfSome, arith, ap, refl, slice_get, sym, subst}
 use Rattle.tt_calls.specs.declared.start.Start.TheVariants as start
 use Rattle.tt_core.proofs.ActionLemmas as actions
-use Rattle.tt_core.proofs.ActionLemmas.{going, some-none, told-map}
+use Rattle.tt_core.proofs.ActionLemmas.{some-none, told-map}
 use Rattle.tt_core.specs.Faithful.{IsFaithful, is_cut}
+use Rattle.tt_core.specs.inside.Standing.{IsAt}
 use Rattle.tt_run.specs.Desk.{Ground, unread}
 use Rattle.tt_run.specs.declared.fault.StepFault.{StepFault}
 use Rattle.tt_devices.proofs.StreamLemmas.{Grows-same}
 use Rattle.tt_devices.specs.declared.sink.Sink.{Ghosts as OfSink}
 use Rattle.tt_devices.specs.declared.source.Source.{Ghosts as OfSource}
 use Rattle.tt_machine.specs.Machine.{Machine, none, start_machine}
-use Rattle.tt_shared.specs.State.{start_state}
+use Rattle.tt_shared.specs.State.{State, start_state}
 use Rattle.tt_workers.proofs.WhereLemmas.{fresh-placed}
 use Rattle.tt_workers.specs.Ends.{IsEnd, end_fault}
 use Rattle.tt_workers.specs.Ran.{Beginning}
 use Rattle.tt_workers.specs.inside.Places.{AreWhere, IsFreshPlace, Note, noted_in}
 use Rattle.tt_workers.specs.Ran.{EndsInMachine, IsRan, end_or_memory}
-use Rattle.tt_workers.specs.inside.World.{IsTied, StandsAs}
+use Rattle.tt_workers.specs.inside.World.{IsTied}
 use Rattle.tt_workers.specs.declared.next.RunEnd.{RunEnd}
 use Rattle.tt_workers.specs.declared.next.RunEnd.TheVariants as ends
 use Rattle.tt_workers.specs.declared.place.Place.{Place}
@@ -60,15 +61,20 @@ module _ {S K E : Type 0} (source : OfSource S) (output : OfSink K) (errors : Of
 
   -- ---- what is left ----
 
-  -- the counts of a run whose end is told
-  ends-of : (steps : ℕ) (schedule : List ℕ) (notes : List (Note S K E)) (places : List Place) (kept : Option StepFault) (end : RunEnd) (machine : Machine)
-      → kept ≡ end_fault end → (kept ≡ None → StandsAs (Some end) steps schedule notes places machine) → IsEnd steps schedule end machine
-  ends-of steps schedule notes places kept (ends.Over code) machine is at = at is
-  ends-of steps schedule notes places kept ends.Stuck machine is at = at is
-  ends-of steps schedule notes places kept ends.Limit machine is at = at is
-  ends-of steps schedule notes places kept ends.Read machine is at = tt
-  ends-of steps schedule notes places kept ends.Write machine is at = tt
-  ends-of steps schedule notes places kept ends.Memory machine is at = tt
+  -- what a kept end says
+  end-true : (steps : ℕ) (schedule : List ℕ) (shared : State) (left : Option (List ℕ)) (end : RunEnd) (machine : Machine)
+      → IsAt (end_fault end) shared left (IsEnd steps schedule end) machine → IsEnd steps schedule end machine
+  end-true steps schedule shared left (ends.Over code) machine at = at.1
+  end-true steps schedule shared left ends.Stuck machine at = at.1
+  end-true steps schedule shared left ends.Limit machine at = at.1
+  end-true steps schedule shared left ends.Read machine at = at.1
+  end-true steps schedule shared left ends.Write machine at = tt
+  end-true steps schedule shared left ends.Memory machine at = tt
+
+  ends-of : (steps : ℕ) (schedule : List ℕ) (kept : Option StepFault) (shared : State) (left : Option (List ℕ)) (end : RunEnd) (machine : Machine)
+      → kept ≡ end_fault end → IsAt kept shared left (IsEnd steps schedule end) machine → IsEnd steps schedule end machine
+  ends-of steps schedule kept shared left end machine is at =
+      end-true steps schedule shared left end machine (subst (λ (k : Option StepFault). IsAt k shared left (IsEnd steps schedule end) machine) is at)
 
   finished-some : (begun : Beginning S K E) (desk : Ground S K E) (places : List Place) (end : RunEnd) (notes : List (Note S K E)) (ran : Ran S K E)
       → ran.end ≡ end → ran.schedule.threads ≡ desk.schedule
@@ -88,8 +94,8 @@ module _ {S K E : Type 0} (source : OfSource S) (output : OfSink K) (errors : Of
           runs = rw schedule standing.1.ran;
           faithful = rw (schedule, is, devices.1, devices.2) (subst (λ (kept : Option StepFault). IsFaithful (is_cut kept) (start_machine begun.setup bytes) desk.schedule
               (output.got begun.devices.output) (output.got desk.devices.output) (errors.got begun.devices.errors) (errors.got desk.devices.errors) machine) tied.counted.kept standing.1.faithful);
-          ends = rw (schedule, is) (ends-of begun.steps desk.schedule notes places desk.kept end machine tied.counted.kept
-              (λ unmet. (going desk.kept desk.shared (unread source.held desk.devices) (IsEnd begun.steps desk.schedule end) machine unmet standing.1.at).1));
+          ends = rw (schedule, is) (ends-of begun.steps desk.schedule desk.kept desk.shared (unread source.held desk.devices) end machine tied.counted.kept standing.1.at);
+          left = rw devices.0 standing.1.input;
         });
   }
 
@@ -112,6 +118,7 @@ module _ {S K E : Type 0} (source : OfSource S) (output : OfSink K) (errors : Of
           faithful = rw (schedule, is, devices.1, devices.2) (subst (λ (kept : Option StepFault). IsFaithful (is_cut kept) (start_machine begun.setup bytes) desk.schedule
               (output.got begun.devices.output) (output.got desk.devices.output) (errors.got begun.devices.errors) (errors.got desk.devices.errors) machine) tied.counted.kept standing.1.faithful);
           ends = rw is tt;
+          left = rw devices.0 standing.1.input;
         });
   }
 
@@ -134,14 +141,15 @@ module _ {S K E : Type 0} (source : OfSource S) (output : OfSink K) (errors : Of
     no_errors = λ none. devices.2;
     reads = rw (is, devices.0) refl;
     writes = rw (is, devices.1, devices.2) (refl, refl);
-    in_machine = by-told (source.held begun.devices.input);
+    in_machine = by-told (source.held begun.devices.input) refl;
   }
     where
-      by-told : (told : Option (List ℕ)) → IfSome told (λ bytes. EndsInMachine source output errors begun bytes ran)
-      by-told None = tt
-      by-told (Some bytes) = record {
+      by-told : (told : Option (List ℕ)) → source.held begun.devices.input ≡ told → IfSome told (λ bytes. EndsInMachine source output errors begun bytes ran)
+      by-told None same = tt
+      by-told (Some bytes) same = record {
         machine = start_machine begun.setup bytes;
         runs = rw schedule none;
         faithful = rw (schedule, is, devices.1, devices.2) (record { out = Grows-same (output.got begun.devices.output); err = Grows-same (errors.got begun.devices.errors) });
         ends = rw is tt;
+        left = rw devices.0 (record { ahead = []; rest = bytes; tells = same; cut = refl });
       }

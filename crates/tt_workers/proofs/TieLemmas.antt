@@ -4,7 +4,7 @@ use Rattle.std.proofs.lemmas.List.{length-append}
 use Rattle.tt_calls.specs.declared.reply.Reply.{Reply}
 use Rattle.tt_calls.specs.declared.request.Request.{Request}
 use Rattle.tt_core.proofs.ActionLemmas as actions
-use Rattle.tt_core.proofs.ActionLemmas.{Failed, Stood, barred-asking, met, restood, restood-kept, some-none}
+use Rattle.tt_core.proofs.ActionLemmas.{Failed, Stood, able, barred-asking, could-be, met, restood, some-none}
 use Rattle.tt_core.proofs.PlaceLemmas.{each-at, each-none}
 use Rattle.tt_core.specs.inside.Crew.{AsksNothing}
 use Rattle.tt_core.specs.inside.Standing.{IsIts}
@@ -19,12 +19,15 @@ use Rattle.tt_devices.specs.declared.sink.Sink.{Ghosts as OfSink}
 use Rattle.tt_devices.specs.declared.source.Source.{Ghosts as OfSource}
 use Rattle.tt_interp.specs.Beginning.{IsNext}
 use Rattle.tt_interp.specs.Interps.{Interpreter, request_of, serving_of}
+use Rattle.tt_lines.proofs.SourceLemmas.{loses-none}
+use Rattle.tt_lines.specs.Lines.{reads_line}
 use Rattle.tt_machine.specs.Machine.{IsBarred, IsStuck, Machine, Thread, silent}
+use Rattle.tt_threads.specs.Rows.{is_living}
 use Rattle.tt_shared.specs.Acts.{act}
 use Rattle.tt_shared.specs.declared.applied.Line.{Line}
 use Rattle.tt_workers.proofs.Lists.{at-number, get-set-other, got-set, not-empty, one-and-less, same-or-not}
 use Rattle.tt_workers.proofs.WhereLemmas.{asks-parked, where-answered, where-back, where-fresh, where-vacant}
-use Rattle.tt_workers.specs.Ends.{IsEnd, end_fault}
+use Rattle.tt_workers.specs.Ends.{IsAtLine, IsEnd, end_fault}
 use Rattle.tt_workers.specs.Ran.{Beginning}
 use Rattle.tt_workers.specs.inside.Places.{AreWhere, IsGivenBy, IsAtPlace, Note, asked_at, can_go_at, is_fresh_at, noted_in, place_of}
 use Rattle.tt_workers.specs.inside.Rosters.{HandsOut, HandsOutFresh, is_elsewhere_at, parked_at}
@@ -32,6 +35,7 @@ use Rattle.tt_workers.specs.inside.Rounds.{IsVacant, Replies}
 use Rattle.tt_workers.specs.inside.Turns.{MayReturn, Returns}
 use Rattle.tt_workers.specs.inside.World.{IsCounted, IsTied}
 use Rattle.tt_workers.specs.declared.next.Done.{Done}
+use Rattle.tt_workers.specs.declared.next.Resumption.TheVariants.{Halted}
 use Rattle.tt_workers.specs.declared.next.RunEnd.{RunEnd}
 use Rattle.tt_workers.specs.declared.next.RunEnd.TheVariants as ends
 use Rattle.tt_workers.specs.declared.next.Task.{Task}
@@ -226,6 +230,7 @@ module _ {S K E : Type 0} (source : OfSource S) (output : OfSink K) (errors : Of
   pub record FailsBy {T : Type 0} (old new : Ground S K E) (number : ℕ) (request : Request) (result : Result T StepFault) : Type 0 where
     pub failed : Failed source.held output.got errors.got old new number request result
     pub read_fault : result ≡ Err fault.ReadFault → old.kept ≡ None → Rises (source.fault_count old.devices.input) (source.fault_count new.devices.input)
+    pub a_line : result ≡ Err fault.ReadFault → old.kept ≡ None → reads_line request ≡ true
     pub write_fault : result ≡ Err fault.WriteFault → old.kept ≡ None →
         Rises (output.fault_count old.devices.output) (output.fault_count new.devices.output)
         ⊎ Rises (errors.fault_count old.devices.errors) (errors.fault_count new.devices.errors)
@@ -327,7 +332,7 @@ module _ {S K E : Type 0} (source : OfSource S) (output : OfSink K) (errors : Of
     same_run = same-run begun notes i (record { begun = begun; out = out }) refl tied.same_run;
     counted = counted-plain begun desk end plain tied.counted;
     standing = restood source.held output.got errors.got begun.setup begun.devices desk (AreWhere notes places) (IsEnd begun.steps desk.schedule end)
-        tied.counted.kept (λ machine same its are. true_there machine its are) tied.standing;
+        (λ machine same its are. true_there machine its are) tied.standing;
   }
 
   -- nobody goes out
@@ -339,7 +344,7 @@ module _ {S K E : Type 0} (source : OfSource S) (output : OfSink K) (errors : Of
     same_run = same-run begun notes (pass - 1) (record { begun = begun; out = None }) refl tied.same_run;
     counted = tied.counted;
     standing = restood source.held output.got errors.got begun.setup begun.devices desk (AreWhere notes places)
-        (AreWhere (slice_set notes (pass - 1) (record { begun = begun; out = None })) places) tied.counted.kept
+        (AreWhere (slice_set notes (pass - 1) (record { begun = begun; out = None })) places)
         (λ machine same its are. where-vacant notes (pass - 1) vacant.note (record { begun = begun; out = None }) places machine vacant.noted vacant.empty refl are)
         tied.standing;
   }
@@ -353,7 +358,7 @@ module _ {S K E : Type 0} (source : OfSource S) (output : OfSink K) (errors : Of
     same_run = same-run begun notes (pass - 1) (record { begun = begun; out = Some task }) refl tied.same_run;
     counted = tied.counted;
     standing = restood source.held output.got errors.got begun.setup begun.devices desk (AreWhere notes places)
-        (AreWhere (slice_set notes (pass - 1) (record { begun = begun; out = Some task })) later) tied.counted.kept
+        (AreWhere (slice_set notes (pass - 1) (record { begun = begun; out = Some task })) later)
         (λ machine same its are. where-fresh notes pass number vacant.note (record { begun = begun; out = Some task }) places later task machine from vacant.noted vacant.empty refl out are)
         tied.standing;
   }
@@ -400,6 +405,59 @@ module _ {S K E : Type 0} (source : OfSource S) (output : OfSink K) (errors : Of
         (AreWhere notes places) (IsEnd begun.steps last.schedule ends.Memory) can asks happens.1 is_last tied.standing;
   }
 
+  -- the end by a fault or want of memory is true: of a failed read, that thread asks for a line
+  fault-standing : {T : Type 0} (begun : Beginning S K E) (old new : Ground S K E) (places : List Place) (notes : List (Note S K E)) (number : ℕ) (request : Request) (interp : Interpreter) (result : Result T StepFault) (is : StepFault) (end : RunEnd)
+      → place_of places number ≡ Some (place.Parked interp) → request ≡ request_of interp.standing
+      → result ≡ Err is → is ≢ fault.NotEnabled → end_fault end ≡ Some is
+      → FailsBy old new number request result
+      → Stood source.held output.got errors.got begun.setup begun.devices old (AreWhere notes places)
+      → Stood source.held output.got errors.got begun.setup begun.devices new (IsEnd begun.steps new.schedule end)
+  fault-standing begun old new places notes number request interp result is end found asked was other ended f stood = by-end end ended
+    where
+      asks : actions.AsksIn (AreWhere notes places) number request (serving_of interp.standing)
+      asks = subst (λ (one : Request). actions.AsksIn (AreWhere notes places) number one (serving_of interp.standing)) (sym asked) (asks-parked notes number places interp found)
+
+      failed : Stood source.held output.got errors.got begun.setup begun.devices new (AreWhere notes places)
+      failed = actions.failed source.held output.got errors.got begun.setup begun.devices old new number request (serving_of interp.standing) (AreWhere notes places) result is asks was f.failed stood
+
+      at-line : result ≡ Err fault.ReadFault → (machine : Machine) → IsIts old.shared (unread source.held old.devices) machine → AreWhere notes places machine → IsAtLine machine
+      at-line at machine its are =
+          let can = able old number request (could-be old number request result fault.ReadFault f.failed.nothing_met f.failed.refused at (λ one. cc)) in
+          let lives : IsTrue (is_living machine.shared.rows number) = rw (← its.is_shared) can.lives in
+          record {
+            number = number;
+            asks = record {
+              can = record {
+                request = request;
+                serving = serving_of interp.standing;
+                going = rw (← its.is_shared) can.going;
+                asks = asks machine are lives;
+                enabled = rw (← its.is_shared) can.enabled;
+              };
+              line = f.a_line at f.failed.nothing_met;
+            };
+          }
+
+      by-end : (one : RunEnd) → end_fault one ≡ Some is
+          → Stood source.held output.got errors.got begun.setup begun.devices new (IsEnd begun.steps new.schedule one)
+      by-end (ends.Over code) comes = absurd (actions.some-none (sym comes))
+      by-end ends.Stuck comes = absurd (actions.some-none (sym comes))
+      by-end ends.Limit comes = absurd (actions.some-none (sym comes))
+      by-end ends.Read comes =
+          let same : fault.ReadFault ≡ is = cc comes in
+          let at : result ≡ Err fault.ReadFault = was ∙ ap Err (sym same) in
+          actions.failed-read source.held output.got errors.got begun.setup begun.devices old new (IsEnd begun.steps new.schedule ends.Read)
+          f.failed.nothing_met (met source.held output.got errors.got new result fault.ReadFault f.failed.kept at (λ one. cc))
+          (f.failed.read_nothing at) f.failed.taken
+          (restood source.held output.got errors.got begun.setup begun.devices old (AreWhere notes places) (IsEnd begun.steps new.schedule ends.Read)
+          (λ machine same_setup its are. at-line at machine its are) stood)
+      by-end ends.Write comes =
+          restood source.held output.got errors.got begun.setup begun.devices new (AreWhere notes places) (IsEnd begun.steps new.schedule ends.Write)
+          (λ machine same_setup its are. tt) failed
+      by-end ends.Memory comes =
+          restood source.held output.got errors.got begun.setup begun.devices new (AreWhere notes places) (IsEnd begun.steps new.schedule ends.Memory)
+          (λ machine same_setup its are. tt) failed
+
   -- it met a fault or want of memory
   pub tied-fault : {T : Type 0} (begun : Beginning S K E) (old new : Ground S K E) (places later : List Place) (notes : List (Note S K E)) (i number : ℕ) (request : Request) (interp : Interpreter) (result : Result T StepFault) (is : StepFault) (end : RunEnd)
       → length old.schedule < begun.steps
@@ -411,19 +469,15 @@ module _ {S K E : Type 0} (source : OfSource S) (output : OfSink K) (errors : Of
   tied-fault begun old new places later notes i number request interp result is end room found asked was other ended f tied = record {
     same_run = same-run begun notes i (record { begun = begun; out = None }) refl tied.same_run;
     counted = counted-fault begun old new number request result is end room was other ended f tied.counted;
-    standing =
-        let asks = subst (λ (one : Request). actions.AsksIn (AreWhere notes places) number one (serving_of interp.standing)) (sym asked) (asks-parked notes number places interp found) in
-        restood-kept source.held output.got errors.got begun.setup begun.devices new (AreWhere notes places) (IsEnd begun.steps new.schedule end) is
-        (met source.held output.got errors.got new result is f.failed.kept was other)
-        (actions.failed source.held output.got errors.got begun.setup begun.devices old new number request (serving_of interp.standing) (AreWhere notes places) result is asks was f.failed tied.standing);
+    standing = fault-standing begun old new places notes number request interp result is end found asked was other ended f tied.standing;
   }
 
   -- a thread comes back
   pub tied-back : (begun : Beginning S K E) (desk : Ground S K E) (places : List Place) (notes : List (Note S K E)) (pass : ℕ) (done : Done)
-      → Returns notes pass (Some done) → IsTrue done.fine
+      → Returns notes pass (Some done) → done.resumption ≡ Halted
       → IsTied source output errors (record { begun = begun; desk = desk; places = places; end = None }) notes
       → IsTied source output errors (record { begun = begun; desk = desk; places = parked_at places done.thread done.interp; end = None }) (slice_set notes (pass - 1) (record { begun = begun; out = None }))
-  tied-back begun desk places notes pass done returns fine tied = by-out returns.note.out refl returns.may
+  tied-back begun desk places notes pass done returns halted tied = by-out returns.note.out refl returns.may
     where
       by-out : (out : Option Task) → returns.note.out ≡ out → MayReturn out (Some done)
           → IsTied source output errors (record { begun = begun; desk = desk; places = parked_at places done.thread done.interp; end = None }) (slice_set notes (pass - 1) (record { begun = begun; out = None }))
@@ -432,8 +486,8 @@ module _ {S K E : Type 0} (source : OfSource S) (output : OfSink K) (errors : Of
         same_run = same-run begun notes (pass - 1) (record { begun = begun; out = None }) refl tied.same_run;
         counted = tied.counted;
         standing = restood source.held output.got errors.got begun.setup begun.devices desk (AreWhere notes places)
-            (AreWhere (slice_set notes (pass - 1) (record { begun = begun; out = None })) (parked_at places done.thread done.interp)) tied.counted.kept
-            (λ machine same its are. where-back notes (pass - 1) returns.note (record { begun = begun; out = None }) places task done machine returns.noted is refl may fine are)
+            (AreWhere (slice_set notes (pass - 1) (record { begun = begun; out = None })) (parked_at places done.thread done.interp))
+            (λ machine same its are. where-back notes (pass - 1) returns.note (record { begun = begun; out = None }) places task done machine returns.noted is refl may halted are)
             tied.standing;
       }
 
@@ -445,6 +499,6 @@ module _ {S K E : Type 0} (source : OfSource S) (output : OfSink K) (errors : Of
   tied-back-empty begun old new places later notes i is tied = record {
     same_run = same-run begun notes i (record { begun = begun; out = None }) refl tied.same_run;
     counted = counted-memory begun old new is tied.counted;
-    standing = actions.stopped source.held output.got errors.got begun.setup begun.devices old new (AreWhere notes places) (IsEnd begun.steps new.schedule ends.Memory) fault.NoMemory
-        tied.counted.kept (rw is refl) (λ same. cc) refl (rw is refl) (rw is refl) (rw is refl) tied.standing;
+    standing = actions.without-memory source.held output.got errors.got begun.setup begun.devices old new (AreWhere notes places) (IsEnd begun.steps new.schedule ends.Memory)
+        tied.counted.kept (rw is refl) (rw is refl) (rw is refl) (rw is refl) (rw is (loses-none (source.held old.devices.input))) tied.standing;
   }

@@ -14,6 +14,7 @@ use Rattle.tt_core.specs.Parts.{IsFirstPart}
 use Rattle.tt_workers.specs.inside.Turns.{KeepsTied, MayReturn, Returns, StaysEnded, note_after, out_of}
 use Rattle.tt_workers.specs.inside.World.{IsTied, Realm}
 use Rattle.tt_workers.specs.declared.next.Done.{Done}
+use Rattle.tt_workers.specs.declared.next.Resumption.TheVariants.{Halted}
 use Rattle.tt_workers.specs.declared.next.Next.{Next}
 use Rattle.tt_workers.specs.declared.next.RunEnd.{RunEnd}
 use Rattle.tt_workers.specs.declared.next.Task.{Task}
@@ -131,6 +132,6 @@ module _ {S K E : Type 0} (source : OfSource S) (output : OfSink K) (errors : Of
   turned-last pass done old mid new next so_far keeps = turned pass done old mid new (out_of next) so_far keeps
 
 -- what comes back halts
-pub may-halted : (out : Option Task) (back : Done) → MayReturn out (Some back) → IsTrue back.fine → IsTrue (interps.is_halted back.interp.standing)
-may-halted None back may fine = absurd may
-may-halted (Some task) back may fine = may.halted fine
+pub may-halted : (out : Option Task) (back : Done) → MayReturn out (Some back) → back.resumption ≡ Halted → IsTrue (interps.is_halted back.interp.standing)
+may-halted None back may halted = absurd may
+may-halted (Some task) back may halted = may.halted halted

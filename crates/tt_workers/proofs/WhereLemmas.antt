@@ -17,6 +17,7 @@ use Rattle.tt_workers.specs.inside.Places.{AreWhere, IsFreshPlace, IsGiven, IsGi
 use Rattle.tt_workers.specs.inside.Rosters.{HandsOut, HandsOutFresh, IsHandedOut, parked_at, place_after}
 use Rattle.tt_workers.specs.inside.Turns.{IsBack}
 use Rattle.tt_workers.specs.declared.next.Done.{Done}
+use Rattle.tt_workers.specs.declared.next.Resumption.TheVariants.{Halted}
 use Rattle.tt_workers.specs.declared.next.Task.{Task}
 use Rattle.tt_workers.specs.declared.place.Place.{Place}
 use Rattle.tt_workers.specs.declared.place.Place.TheVariants as place
@@ -59,10 +60,10 @@ given-fresh setup number thread task is named no_reply fits = record {
 
 -- it came back
 stands-back : (setup : Setup) (number : ℕ) (thread : Thread) (task : Task) (done : Done)
-    → IsGiven task setup number thread → IsBack task done → IsTrue done.fine → StandsIn done.interp setup number thread
-stands-back setup number thread task done is back fine = record {
-  halted = back.halted fine;
-  later = λ replies request serving asks. is.later replies request serving (back.goes fine replies request serving asks);
+    → IsGiven task setup number thread → IsBack task done → done.resumption ≡ Halted → StandsIn done.interp setup number thread
+stands-back setup number thread task done is back halted = record {
+  halted = back.halted halted;
+  later = λ replies request serving asks. is.later replies request serving (back.goes halted replies request serving asks);
 }
 
 -- ---- places ----
@@ -310,10 +311,10 @@ module _ {S K E : Type 0} where
 
   pub where-back : (notes : List (Note S K E)) (i : ℕ) (old note : Note S K E) (places : List Place) (task : Task) (done : Done) (machine : Machine)
       → slice_get notes i ≡ Some old → old.out ≡ Some task → note.out ≡ None
-      → IsBack task done → IsTrue done.fine
+      → IsBack task done → done.resumption ≡ Halted
       → AreWhere notes places machine
       → AreWhere (slice_set notes i note) (parked_at places done.thread done.interp) machine
-  where-back notes i old note places task done machine there out none back fine are =
+  where-back notes i old note places task done machine there out none back halted are =
       subst (λ (some : List Place). AreWhere (slice_set notes i note) some machine)
       (sym (parked-is places done.thread done.interp above))
       (record {
@@ -341,7 +342,7 @@ module _ {S K E : Type 0} where
 
       parked : AreEach (IsAtPlace notes machine.setup) 1 machine.threads (slice_set places (done.thread - 1) (place.Parked done.interp))
       parked =
-          let stands = stands-back machine.setup task.thread is_out.thread task done is_out.given back fine in
+          let stands = stands-back machine.setup task.thread is_out.thread task done is_out.given back halted in
           let named : task.thread ≡ 1 + (done.thread - 1) = omega (arith, back.thread, above) in
           let at_n = subst (λ (n : ℕ). StandsIn done.interp machine.setup n is_out.thread) named stands in
           let same : slice_get machine.threads (done.thread - 1) ≡ Some is_out.thread = rw back.thread is_out.there in

@@ -25,7 +25,7 @@ impl Model for BoxedInterp {
 impl BoxedInterp {
     /// The interpreter of a thread of this number that begins so. It has evaluated nothing.
     ///
-    /// `NoMemory` where memory is refused.
+    /// `NoMemory` if memory is refused.
     pub(crate) fn new(
         alloc: Global,
         start: &Start,
@@ -43,7 +43,7 @@ impl BoxedInterp {
 
     /// Evaluates up to the next request: at first without a reply, and then with the reply to the request.
     ///
-    /// `NoMemory` where memory is refused; then the interpreter is only fit to be dropped.
+    /// `NoMemory` if memory is refused; then the interpreter is only fit to be dropped.
     pub(crate) fn resume(&mut self, reply: Option<Reply>) -> Result<(), NoMemory>
         requires fits { IsTrue (interps.fits self.old.standing reply) }
         ensures stands { OnOk result (interps.GoesOn self.new self.old reply) }

@@ -66,7 +66,7 @@ fn one_round<R: Wait, S: Source + Send, K: Sink + Send, E: Sink + Send, G: Gate>
     }
 }
 
-/// One turn under the lock. It wakes the workers that rest where one of them could do something.
+/// One turn under the lock. It wakes the workers that rest if one of them could do something.
 fn take_turn<R: Wait, S: Source + Send, K: Sink + Send, E: Sink + Send>(
     rt: &R,
     lock: &Noted<Tied<S, K, E>>,

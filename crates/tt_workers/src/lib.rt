@@ -15,13 +15,10 @@ mod tied;
 mod world;
 
 pub use boxed_interp::BoxedInterp;
-pub use next::{Done, Next, RunEnd, Task};
+pub use next::{Done, Next, Resumption, RunEnd, Task};
 pub use note::{Held, Out};
 pub use ran::Ran;
 pub use running::run;
 pub use tt_interp::Setup;
 pub use tt_run::NewFault;
 pub use world::World;
-
-#[cfg(test)]
-mod tests;

@@ -8,8 +8,17 @@ pub struct Task {
     pub thread: u32,
     /// Its interpreter.
     pub interp: BoxedInterp,
-    /// The reply to what it asks, or nothing where it has not begun.
+    /// The reply to what it asks, or nothing if it has not begun.
     pub reply: Option<Reply>,
+}
+
+/// How a thread's resumption went.
+#[derive(Clone, Copy, Debug, PartialEq, Eq)]
+pub enum Resumption {
+    /// It halts at what it asks next.
+    Halted,
+    /// Memory was refused, and its interpreter is only fit to be dropped.
+    OutOfMemory,
 }
 
 /// A thread that comes back.
@@ -19,8 +28,8 @@ pub struct Done {
     pub thread: u32,
     /// Its interpreter, as it was left.
     pub interp: BoxedInterp,
-    /// Whether it was resumed; memory was refused otherwise.
-    pub fine: bool,
+    /// How its resumption went.
+    pub resumption: Resumption,
 }
 
 /// What a worker does next.

@@ -1,14 +1,15 @@
 //! A thread as a worker resumes it.
-ghost use Rattle.std.specs.Prelude.{◌≡◌, IsTrue, false};
+ghost use Rattle.std.specs.Prelude.{◌≡◌, IsOk, IsTrue, false};
 ghost use Rattle.tt_interp.specs.Interps as interps;
 ghost use Rattle.tt_workers.specs.inside.Turns.{IsBack};
 
 use crate::boxed_interp::BoxedInterp;
-use crate::next::{Done, Task};
+use crate::next::{Done, Resumption, Task};
 use std::marker::Model;
 use std::snapshot::Snapshot;
 use tt_calls::Reply;
 use tt_devices::{Gate, Slice};
+use tt_text::NoMemory;
 
 /// A thread that was handed out, until it was resumed and then after that.
 #[derive(Drop)]
@@ -16,7 +17,7 @@ struct Resuming {
     thread: u32,
     interp: BoxedInterp,
     reply: Option<Reply>,
-    fine: bool,
+    resumption: Resumption,
     gone: bool,
     // As it was handed out.
     given: Snapshot<Task>,
@@ -30,10 +31,10 @@ impl Model for Resuming {
     ghost view = { λ slice. record {
       gone = slice.gone;
       given = slice.given.value;
-      done = record { thread = slice.thread; interp = slice.interp; fine = slice.fine };
+      done = record { thread = slice.thread; interp = slice.interp; resumption = slice.resumption };
     } };
 
-    ghost invariant = { λ slice. IsResuming slice.gone slice.thread slice.interp slice.reply slice.fine slice.given.value };
+    ghost invariant = { λ slice. IsResuming slice.gone slice.thread slice.interp slice.reply slice.resumption slice.given.value };
 }
 
 impl Slice for Resuming {
@@ -45,7 +46,7 @@ impl Slice for Resuming {
 
     fn go(&mut self) {
         let reply = self.reply.take();
-        self.fine = self.interp.resume(reply).is_ok();
+        self.resumption = resumption_of(&self.interp.resume(reply));
         self.gone = true;
     }
 }
@@ -65,7 +66,7 @@ impl Resuming {
             thread,
             interp,
             reply,
-            fine: false,
+            resumption: Resumption::OutOfMemory,
             gone: false,
             given,
         }
@@ -79,15 +80,25 @@ impl Resuming {
             thread,
             interp,
             reply: _,
-            fine,
+            resumption,
             gone: _,
             given: _,
         } = self;
         Done {
             thread,
             interp,
-            fine,
+            resumption,
         }
+    }
+}
+
+/// How a resumption went that came to this.
+fn resumption_of(outcome: &Result<(), NoMemory>) -> Resumption
+    ensures { result ≡ Resumption.Halted → IsOk outcome.now }
+{
+    match outcome {
+        Ok(()) => Resumption::Halted,
+        Err(_) => Resumption::OutOfMemory,
     }
 }
 

@@ -72,7 +72,7 @@ impl Roster {
 
     /// Threads that were made are there, fresh.
     ///
-    /// `NoMemory` where memory is refused.
+    /// `NoMemory` if memory is refused.
     pub(crate) fn begin_all<S: Source, K: Sink, E: Sink>(
         &mut self,
         alloc: Global,
@@ -132,7 +132,7 @@ impl Roster {
         None
     }
 
-    /// A thread that can go on, or `None` exactly where none can. Which one is free: it looks above this number, and then
+    /// A thread that can go on, or `None` exactly if none can. Which one is free: it looks above this number, and then
     /// from the first on. It takes no memory.
     pub(crate) fn next_after<S: Source, K: Sink, E: Sink>(
         &self,
@@ -229,7 +229,7 @@ fn take_fresh(place: &mut Place, pass: u32) -> BoxedInterp
     }
 }
 
-/// The interpreter of a parked thread, which is then out at this pass; or `None` where it can't be resumed with what is given,
+/// The interpreter of a parked thread, which is then out at this pass; or `None` if it can't be resumed with what is given,
 /// and then the thread is gone.
 fn take_parked(place: &mut Place, pass: u32, given: &Option<Reply>) -> Option<BoxedInterp>
     requires parked { IsSome (asked_at (Some place.old)) }

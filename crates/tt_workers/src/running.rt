@@ -26,8 +26,8 @@ use tt_schedule::Schedule;
 /// Runs a script on workers, 1 to 64 of them, over these devices, in at most so many steps, 1 to 16,777,216. Each thread that
 /// a worker has taken passes the gate before it goes on. It may wait.
 ///
-/// The workers are threads of their own where threads can be made, and run one after another else. `Memory` is the end too
-/// where there is no memory for the run or the lock.
+/// The workers are threads of their own if threads can be made, and else run one after another. `Memory` is the end too
+/// if there is no memory for the run or the lock.
 pub fn run<
     R: Threads + Wait + Sync,
     S: Source + Send,

@@ -12,7 +12,7 @@ ghost use Rattle.tt_core.specs.Parts.{IsFirstPart};
 ghost use Rattle.tt_workers.specs.inside.Turns.{IsNextAt, IsReady, KeepsTied, Returns, StaysEnded, note_after, out_of};
 ghost use Rattle.tt_workers.specs.inside.World.{IsTied};
 
-use crate::next::{Done, Next, RunEnd, Task};
+use crate::next::{Done, Next, Resumption, RunEnd, Task};
 use crate::note::{Held, Out};
 use crate::ran::Ran;
 use crate::roster::Roster;
@@ -26,7 +26,7 @@ use tt_interp::Setup;
 use tt_run::{Desk, NewFault, StepFault};
 use tt_text::NoMemory;
 
-/// A run on workers: what it stands on, the places of its threads, and its end where one is kept.
+/// A run on workers: what it stands on, the places of its threads, and its end if there is one.
 #[derive(Drop)]
 pub struct World<S: Source, K: Sink, E: Sink> {
     setup: Setup,
@@ -60,7 +60,7 @@ impl<S: Source, K: Sink, E: Sink> World<S, K, E> {
     /// A run of this script over these devices, of at most so many steps, 1 to 16,777,216. Its main thread is fresh, and no
     /// step was taken.
     ///
-    /// `NewFault` where memory is refused, with the devices as they were given.
+    /// `NewFault` if memory is refused, with the devices as they were given.
     pub fn new(
         alloc: Global,
         setup: Setup,
@@ -105,9 +105,9 @@ impl<S: Source, K: Sink, E: Sink> World<S, K, E> {
 
     /// One turn of the worker with this pass: it hands back the thread that it had, and takes one that can go on. Which one
     /// is free. A parked thread is handed out with the reply of the action that was just done and added to the schedule, and
-    /// a fresh one without a reply and without an entry. Where an action ends its thread, the turn goes on to another.
+    /// a fresh one without a reply and without an entry. If an action ends its thread, the turn goes on to another.
     ///
-    /// `Rest` where no thread can go on and another worker has one; `Over` exactly where an end is kept.
+    /// `Rest` if no thread can go on and another worker has one; `Over` exactly if the run has its end.
     pub fn turn(&mut self, pass: u32, done: Option<Done>) -> Next
         requires pass { 1 ≤ pass }
         requires tied { (notes : _) × IsTied S.Source K.Sink E.Sink self.old notes × Returns notes pass done }
@@ -127,7 +127,7 @@ impl<S: Source, K: Sink, E: Sink> World<S, K, E> {
         }
     }
 
-    /// Whether a worker could do something: whether an end is kept, or a thread can go on. It takes no memory.
+    /// Whether a worker could do something: whether the run has its end, or a thread can go on. It takes no memory.
     pub fn wakes(&self) -> bool
         ensures end { IsSome self.now.end → IsTrue result }
         ensures able { (number : ℕ) → IsTrue (can_go self.now.desk self.now.places number) → IsTrue result }
@@ -148,7 +148,7 @@ impl<S: Source, K: Sink, E: Sink> World<S, K, E> {
         }
     }
 
-    /// Ends the run: the end that is kept, or `Memory` where none is, with the schedule and the devices.
+    /// Ends the run: its end, or `Memory` if there is none, with the schedule and the devices.
     pub fn finish(self) -> Ran<S, K, E>
         ensures end { result.end ≡ end_or_memory self.end }
         ensures schedule { result.schedule.threads ≡ self.desk.schedule }
@@ -186,24 +186,25 @@ impl<S: Source, K: Sink, E: Sink> World<S, K, E> {
         }
     }
 
-    // A thread comes back. Where memory was refused to it, that ends the run.
+    // A thread comes back. If memory was refused to it, that ends the run.
     fn take_back(&mut self, done: Done)
         requires kept { self.old.desk.kept ≡ fault_so_far self.old.end }
-        requires halted { IsTrue done.fine → IsTrue (interps.is_halted done.interp.standing) }
+        requires halted { done.resumption ≡ Resumption.Halted → IsTrue (interps.is_halted done.interp.standing) }
         ensures back { TakesBack S.Source K.Sink E.Sink done self.old self.new }
     {
         if self.end.is_some() {
             return;
         }
-        if !done.fine {
-            self.desk.run_out();
-            self.end = Some(RunEnd::Memory);
-            return;
+        match done.resumption {
+            Resumption::Halted => self.roster.park(done.thread, done.interp),
+            Resumption::OutOfMemory => {
+                self.desk.run_out();
+                self.end = Some(RunEnd::Memory);
+            }
         }
-        self.roster.park(done.thread, done.interp);
     }
 
-    // One round of a turn; `None` where its action ended the thread.
+    // One round of a turn; `None` if its action ended the thread.
     fn go_on(&mut self, pass: u32) -> Option<Next>
         requires pass { 1 ≤ pass }
         requires kept { self.old.desk.kept ≡ fault_so_far self.old.end }
@@ -224,7 +225,7 @@ impl<S: Source, K: Sink, E: Sink> World<S, K, E> {
         }
     }
 
-    // Nobody can go on: the worker rests, where another has a thread, or the run is stuck.
+    // Nobody can go on: the worker rests if another has a thread, or the run is stuck.
     fn settle(&mut self, pass: u32) -> Next
         requires going { self.old.end ≡ None }
         requires kept { self.old.desk.kept ≡ None }

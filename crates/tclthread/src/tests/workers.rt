@@ -250,14 +250,15 @@ fn is_replayed<R: Threads + Wait + Sync + AllocGlobal + Abort>(
 /// The most turns that a worker is held for.
 const MOST_TURNS: u64 = 100_000_000;
 
-/// A gate that holds the first slice of thread 2 until one of thread 1 has gone that another worker passed meanwhile.
+/// A gate that holds the first slice of thread 2 until one of thread 1 has gone that another worker passed meanwhile: then
+/// it met both threads at once.
 #[derive(Drop)]
 struct Meeting {
     // The worker that is held or was, from 1, and 0 before that.
     held: AtomicU64,
     // 1 from when the other slice has gone.
     met: AtomicU64,
-    // 1 where the turns ran out before.
+    // 1 if the turns ran out before.
     failed: AtomicU64,
 }
 
@@ -296,14 +297,61 @@ impl Gate for Meeting {
     }
 }
 
-/// What a run of a script on two workers leaves, which go through this gate.
-fn on_two_workers<R: Threads + Wait + Sync + AllocGlobal, G: Gate + Sync>(
+/// A gate that holds each worker with a thread other than main, until it holds so many workers at once.
+#[derive(Drop)]
+struct Gathering {
+    count: u32,
+    // A bit for each worker that came.
+    workers: AtomicU64,
+    // 1 if the turns ran out before.
+    failed: AtomicU64,
+}
+
+impl Gathering {
+    fn of(count: u32) -> Self {
+        Gathering {
+            count,
+            workers: AtomicU64::new(0),
+            failed: AtomicU64::new(0),
+        }
+    }
+
+    /// How many workers came.
+    fn came(&self) -> u32 {
+        self.workers.load(SeqCst).count_ones()
+    }
+
+    /// Holds the worker.
+    fn hold(&self) {
+        for _ in 0..MOST_TURNS {
+            if self.came() >= self.count {
+                return;
+            }
+            spin_loop();
+        }
+        self.failed.store(1, SeqCst);
+    }
+}
+
+impl Gate for Gathering {
+    fn pass<W: Slice>(&self, worker: u32, thread: u32, slice: &mut W) {
+        if thread != 1 {
+            let _ = self.workers.fetch_or(1 << (worker % 64), SeqCst);
+            self.hold();
+        }
+        slice.go();
+    }
+}
+
+/// What a run of a script on so many workers leaves, which go through this gate.
+fn through_gate<R: Threads + Wait + Sync + AllocGlobal, G: Gate + Sync>(
     rt: &R,
+    workers: &str,
     gate: &G,
     script: &[u8],
 ) -> Result<Left, Fail> {
     let alloc = rt.alloc();
-    let words = owned(alloc, &["--workers", "2", "script"])?;
+    let words = owned(alloc, &["--workers", workers, "script"])?;
     let mut files = MemoryFiles::new(alloc, Vec::new(alloc), Vec::new(alloc));
     files.add("script", script)?;
     let input = MemorySource::new(Vec::new(alloc), Vec::new(alloc));
@@ -317,9 +365,27 @@ fn on_two_workers<R: Threads + Wait + Sync + AllocGlobal, G: Gate + Sync>(
 fn two_slices_at_once(rt: HostRuntime) -> Result<(), Fail> {
     let gate = Meeting::new();
     let script = b"thread::create {tsv::set a go 1}\nwhile {![tsv::exists a go]} {}\nputs met\n";
-    let left = on_two_workers(&rt, &gate, script)?;
+    let left = through_gate(&rt, "2", &gate, script)?;
     assert_eq!(rt; left.status.as_str(), "done 0");
     assert_eq!(rt; left.output.as_slice(), b"met\n".as_slice());
     assert_eq!(rt; gate.failed.load(SeqCst), 0);
+    assert_eq!(rt; gate.met.load(SeqCst), 1);
+    Ok(())
+}
+
+/// Four threads, each of which adds one to a number.
+const FOUR: &[u8] = b"for {set i 0} {$i < 4} {incr i} {lappend ids [thread::create -joinable {tsv::incr a n}]}
+foreach id $ids {thread::join $id}
+puts [tsv::get a n]
+";
+
+#[test]
+fn four_workers_carry_four_threads_at_once(rt: HostRuntime) -> Result<(), Fail> {
+    let gate = Gathering::of(4);
+    let left = through_gate(&rt, "4", &gate, FOUR)?;
+    assert_eq!(rt; left.status.as_str(), "done 0");
+    assert_eq!(rt; left.output.as_slice(), b"4\n".as_slice());
+    assert_eq!(rt; gate.failed.load(SeqCst), 0);
+    assert_eq!(rt; gate.came(), 4);
     Ok(())
 }

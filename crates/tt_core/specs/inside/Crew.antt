@@ -16,7 +16,7 @@ abbrev pub Places : Type 0
 Places = List (Option Interpreter)
 
 -- that of a thread
-abbrev pub placed : Option (Option Interpreter) → Option Interpreter
+abbrev pub interp_in : Option (Option Interpreter) → Option Interpreter
 interp_in None = None
 interp_in (Some place) = place
 

@@ -49,7 +49,7 @@ pub record Rounds {S K E : Type 0} (pass : ℕ) (old new : Realm S K E) (next : 
   pub goes : GoesTo pass old new next
 
 module _ {S K E : Type 0} (source : OfSource S) (output : OfSink K) (errors : OfSink E) where
-  -- whatever the notes are: where they fitted and nobody was out at this pass, they fit with its new note
+  -- whatever the notes are: if they fitted and nobody was out at this pass, they fit with its new note
   abbrev pub KeepsVacant : (old new : Realm S K E) → (pass : ℕ) → Option Task → Type 0
   KeepsVacant old new pass out =
       (notes : List (Note S K E)) →

@@ -6,6 +6,7 @@ use Rattle.tt_interp.specs.Interps as interps
 use Rattle.tt_workers.specs.inside.Places.{Note, can_go, place_of}
 use Rattle.tt_workers.specs.inside.World.{IsTied, Realm}
 use Rattle.tt_workers.specs.declared.next.Done.{Done}
+use Rattle.tt_workers.specs.declared.next.Resumption.TheVariants.{Halted}
 use Rattle.tt_workers.specs.declared.next.Next.{Next}
 use Rattle.tt_workers.specs.declared.next.Next.TheVariants.{Run, Rest, Over}
 use Rattle.tt_workers.specs.declared.next.Task.{Task}
@@ -17,8 +18,8 @@ use Rattle.tt_workers.specs.declared.place.Place.TheVariants.{Out}
 -- refused
 pub record IsBack (task : Task) (done : Done) : Type 0 where
   pub thread : done.thread ≡ task.thread
-  pub goes : IsTrue done.fine → interps.GoesOn done.interp task.interp task.reply
-  pub halted : IsTrue done.fine → IsTrue (interps.is_halted done.interp.standing)
+  pub goes : done.resumption ≡ Halted → interps.GoesOn done.interp task.interp task.reply
+  pub halted : done.resumption ≡ Halted → IsTrue (interps.is_halted done.interp.standing)
 
 -- what was handed out comes back, and nothing else does
 abbrev pub MayReturn : Option Task → Option Done → Type 0
@@ -55,8 +56,8 @@ pub record IsResting {S K E : Type 0} (pass : ℕ) (world : Realm S K E) : Type 
   pub thread : ℕ
   pub out : place_of world.places thread ≡ Some (Out other)
 
--- What is answered: a thread, which is then out at this pass; to rest, where nobody can go on; or that it is over, which
--- an end says that is kept.
+-- What is answered: a thread, which is then out at this pass; to rest, if nobody can go on; or that it is over, if
+-- the run has its end.
 abbrev pub IsNextAt : {S K E : Type 0} → (pass : ℕ) → Realm S K E → Next → Type 0
 IsNextAt pass world (Run task) = (world.end ≡ None) × (place_of world.places task.thread ≡ Some (Out pass))
 IsNextAt pass world Rest = IsResting pass world
@@ -64,7 +65,7 @@ IsNextAt pass world Over = world.end ≢ None
 
 -- ---- what a turn leaves ----
 
--- an end that was kept stays, and so do the steps and the devices
+-- the end of a run stays, and so do the steps and the devices
 pub record StaysEnded {S K E : Type 0} (old new : Realm S K E) : Type 0 where
   pub end : new.end ≡ old.end
   pub schedule : new.desk.schedule ≡ old.desk.schedule
@@ -75,7 +76,7 @@ abbrev pub note_after : {S K E : Type 0} → Realm S K E → Option Task → Not
 note_after world out = record { begun = world.begun; out = out }
 
 module _ {S K E : Type 0} (source : OfSource S) (output : OfSink K) (errors : OfSink E) where
-  -- whatever the notes are: where they fitted, and what was brought is as this pass's note has it, they fit with its
+  -- whatever the notes are: if they fitted, and what was brought is as this pass's note has it, they fit with its
   -- new note
   abbrev pub KeepsTied : (old new : Realm S K E) → (pass : ℕ) → Option Done → Next → Type 0
   KeepsTied old new pass done next =

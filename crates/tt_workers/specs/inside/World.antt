@@ -12,7 +12,7 @@ use Rattle.tt_workers.specs.inside.Places.{AreWhere, Note}
 use Rattle.tt_workers.specs.declared.next.RunEnd.{RunEnd}
 use Rattle.tt_workers.specs.declared.place.Place.{Place}
 
--- how the run began, what it stands on, the places of its threads by number from 1, and its end where one is kept
+-- how the run began, what it stands on, the places of its threads by number from 1, and its end if there is one
 pub record Realm (S K E : Type 0) : Type 0 where
   pub begun : Beginning S K E
   pub desk : Ground S K E
@@ -22,7 +22,7 @@ pub record Realm (S K E : Type 0) : Type 0 where
 abbrev pub stage_of : {S K E : Type 0} → Beginning S K E → Ground S K E → Stage S K E
 stage_of begun desk = record { setup = begun.setup; began = begun.devices; desk = desk }
 
--- until an end is kept each thread is in its place, and then that end is true
+-- until the run has its end each thread is in its place, and then that end is true
 abbrev pub StandsAs : {S K E : Type 0} →
     Option RunEnd → (steps : ℕ) → (schedule : List ℕ) → List (Note S K E) → List Place → Machine → Type 0
 StandsAs None steps schedule notes places machine = AreWhere notes places machine
@@ -40,8 +40,8 @@ module _ {S K E : Type 0} (source : OfSource S) (output : OfSink K) (errors : Of
         WritesCount end (output.fault_count begun.devices.output) (output.fault_count desk.devices.output)
         (errors.fault_count begun.devices.errors) (errors.fault_count desk.devices.errors)
 
-  -- The notes are of this run. Where standard input told its bytes there is the machine after the schedule; what the
-  -- threads share and what the sinks got is that machine's, the threads are where places and notes say, and a kept end
+  -- The notes are of this run. If standard input told its bytes, there is the machine after the schedule; what the
+  -- threads share and what the sinks got is that machine's, the threads are where places and notes say, and the end
   -- is true.
   pub record IsTied (world : Realm S K E) (notes : List (Note S K E)) : Type 0 where
     pub same_run : (index : ℕ) (note : Note S K E) →

@@ -24,6 +24,7 @@ invariant_of-self g c =
       kept = c.act.ensures.kept;
       read_nothing = c.act.ensures.read_nothing;
       cut = c.act.ensures.cut;
+      taken = c.act.ensures.taken;
       no_entry = c.act.ensures.no_entry;
       no_piece = c.act.ensures.no_piece;
     }) c.self.invariant

@@ -21,10 +21,12 @@ returns-in-Err g c =
         kept = c.act.ensures.kept;
         read_nothing = c.act.ensures.read_nothing;
         cut = c.act.ensures.cut;
+        taken = c.act.ensures.taken;
         no_entry = c.act.ensures.no_entry;
         no_piece = c.act.ensures.no_piece;
       };
       read_fault = λ is none. (c.act.ensures.read_fault is none).0;
+      a_line = λ is none. (c.act.ensures.read_fault is none).1;
       write_fault = c.act.ensures.write_fault;
       steady_input = c.act.ensures.steady_input;
       steady_output = c.act.ensures.steady_output;
