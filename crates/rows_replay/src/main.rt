@@ -24,7 +24,7 @@ use row::Row;
 use rows_reader::{Tally, tell_table};
 use std::fs;
 
-const TABLES: [&str; 17] = [
+const TABLES: [&str; 18] = [
     "worked.rows",
     "events.rows",
     "sends.rows",
@@ -41,6 +41,7 @@ const TABLES: [&str; 17] = [
     "channels.rows",
     "scripts.rows",
     "schedules.rows",
+    "replays.rows",
     "examples.rows",
 ];
 

@@ -1,5 +1,5 @@
 -- That the answer is one.
-use Rattle.std.proofs.Common.{◌≡◌, ◌≢◌, ◌⊎◌, ◌∙◌, ◌≤◌, ◌<◌, ◌+◌, ℕ, suc, Bool, true, false, List, [], ◌∷◌, ◌++◌, length, Option, None, Some, IfSome, IsSome, refl, sym, ap, subst, arith, inl, inr, append-nil, length-append}
+use Rattle.std.proofs.Common.{◌≡◌, ◌⊎◌, ◌∙◌, ◌≤◌, ◌<◌, ◌+◌, ℕ, suc, Bool, false, List, [], ◌∷◌, ◌++◌, length, Option, None, Some, IfSome, IsSome, refl, sym, ap, subst, arith, inl, inr, append-nil, length-append}
 use Rattle.tt_core.specs.Faithful.{IsFaithful, is_cut}
 use Rattle.tt_core.specs.Stage.{IsNextAfter}
 use Rattle.tt_devices.specs.Names.{Names, Tells}
@@ -11,21 +11,30 @@ use Rattle.tt_machine.specs.Machine as run
 use Rattle.tt_schedule.proofs.LawLemmas.{one_list, one_place}
 use Rattle.tt_schedule.specs.ScheduleText.{IsFirstWrong, IsScheduleText}
 use Rattle.tt_words.proofs.OneLemmas.{one_reading}
-use Rattle.tt_words.specs.Asked.{Asked, Generate, Plain, WordsAskFor, Replay, generate, plain, replay}
-use Rattle.tclthread.specs.Answer.{Answers, AnswersTo, HasRun, IsRun, IsRefusal}
+use Rattle.tt_words.specs.Asked.{Asked, Plain, WordsAskFor, Replay, generate, plain, replay}
+use Rattle.tt_core.specs.Stage.{Began}
+use Rattle.tt_devices.specs.declared.files.Files.{Ghosts as OfFiles}
+use Rattle.tt_devices.specs.declared.sink.Sink.{Ghosts as OfSink}
+use Rattle.tt_devices.specs.declared.source.Source.{Ghosts as OfSource}
+use Rattle.tclthread.specs.Answer.{AnswersTo, IsAnswered, IsRefusal, HasRun, IsWordRefusal}
 use Rattle.tclthread.specs.Answer as answer
-use Rattle.tclthread.specs.Asking.{AreThere, AsksFor, IsMissing, generate_setup, kept_of, plain_setup, replay_setup}
+use Rattle.tclthread.specs.AnswerLaws.{GotSame, IsSettled, OneAnswerLaw, ReplayLaw, replayed_as}
+use Rattle.tclthread.specs.Asking.{BeginsAs, HasWrongText, IsMissing, generate_setup, plain_setup, record_of, replay_setup}
 use Rattle.tclthread.specs.Choosing.{Allows, Chooses, Freely, InTurn, Mode, Replaying, TakesTurns, limit_of}
-use Rattle.tt_core.specs.Parts.{IsFirstPart}
 use Rattle.tclthread.specs.Choosing as turn
-use Rattle.tclthread.specs.Ending.{EndsAs, IsFull, IsRefused, IsRunStatus, IsWhole, kept_by}
-use Rattle.tclthread.specs.Keeping.{IsKept}
-use Rattle.tclthread.specs.Keeping as keeping
-use Rattle.tclthread.specs.Laws.{GotSame, IsSettled, OneAnswerLaw, ReplayLaw, replayed_as}
-use Rattle.tclthread.specs.Left.{Left, Store, Stream}
+use Rattle.tclthread.specs.Ending.{EndsAs, IsFull, IsRefused, IsWhole, cause_of}
+use Rattle.tclthread.specs.Recording.{Records}
+use Rattle.tclthread.specs.Recording as recording
+use Rattle.tclthread.specs.Running.{HasMachine}
+use Rattle.tclthread.specs.Status.{ended_status, refused_status}
+use Rattle.tclthread.specs.declared.ended.Ended.{Ended}
+use Rattle.tclthread.specs.declared.status.End.{End}
+use Rattle.tclthread.specs.declared.status.End.TheVariants as ends
 use Rattle.tclthread.specs.declared.status.Place.TheVariants.{Byte, Entry}
+use Rattle.tclthread.specs.declared.status.Refusal.{Refusal}
+use Rattle.tclthread.specs.declared.status.Refusal.TheVariants as refusal
 use Rattle.tclthread.specs.declared.status.Status.{Status}
-use Rattle.tclthread.specs.declared.status.Status.TheVariants.{Done, Usage, NoFile, BadSchedule, ScheduleEnded, Stalled, StepLimit, ReadFault, WriteFault, NoMemory}
+use Rattle.tclthread.specs.declared.status.Status.TheVariants.{Done, Usage, NoFile, BadSchedule, ScheduleEnded, Stalled, StepLimit}
 
 -- ---- how a settled run ends
 
@@ -36,18 +45,15 @@ data EndView (mode : Mode) (machine : Machine) (schedule : List ℕ) : Status �
   stuck : IsSome (limit_of mode) → IsStuck machine → EndView mode machine schedule Stalled
   full : {steps : ℕ} → IsFull steps mode machine schedule → EndView mode machine schedule (StepLimit steps)
 
-end-view : (status : Status) (mode : Mode) (machine : Machine) (schedule : List ℕ) → IsSettled status → EndsAs status mode machine schedule → EndView mode machine schedule status
-end-view (Done code) mode machine schedule settled ends = over ends.0 ends.1
-end-view ScheduleEnded mode machine schedule settled ends = not_over ends.0 ends.1
-end-view (BadSchedule (Entry number)) mode machine schedule settled ends = refused ends
-end-view (BadSchedule (Byte offset)) mode machine schedule settled ends = absurd ends
-end-view Stalled mode machine schedule settled ends = stuck ends.0 ends.1
-end-view (StepLimit steps) mode machine schedule settled ends = full ends
-end-view Usage mode machine schedule settled ends = absurd ends
-end-view (NoFile name) mode machine schedule settled ends = absurd ends
-end-view ReadFault mode machine schedule settled ends = absurd settled
-end-view WriteFault mode machine schedule settled ends = absurd settled
-end-view NoMemory mode machine schedule settled ends = absurd settled
+end-view : (end : End) (mode : Mode) (machine : Machine) (schedule : List ℕ) → IsSettled (ended_status end) → EndsAs end mode machine schedule → EndView mode machine schedule (ended_status end)
+end-view (ends.Done code) mode machine schedule settled is = over is.0 is.1
+end-view ends.ScheduleEnded mode machine schedule settled is = not_over is.0 is.1
+end-view (ends.Barred number) mode machine schedule settled is = refused is
+end-view ends.Stalled mode machine schedule settled is = stuck is.0 is.1
+end-view (ends.StepLimit steps) mode machine schedule settled is = full is
+end-view ends.ReadFault mode machine schedule settled is = absurd settled
+end-view ends.WriteFault mode machine schedule settled is = absurd settled
+end-view ends.NoMemory mode machine schedule settled is = absurd settled
 
 whole-replayed : (given schedule : List ℕ) → IsWhole (Replaying given) schedule → Replaying given ≡ Replaying schedule
 whole-replayed given schedule is = ap Replaying (sym is)
@@ -246,7 +252,7 @@ record IsRunTo (setup : Setup) (mode : Mode) (input : List ℕ) (status : Status
 
 data TextView (setup : Setup) (text input : List ℕ) : Status → List ℕ → Type 0 where
   wrong_text : {place : ℕ} {taken : List ℕ} → IsFirstWrong text place → ((threads : List ℕ) → ¬ (IsScheduleText text threads)) → taken ≡ [] → TextView setup text input (BadSchedule (Byte place)) taken
-  ended : {status : Status} {given taken : List ℕ} → IsScheduleText text given → IsRunTo setup (Replaying given) input status taken → TextView setup text input status taken
+  with_run : {status : Status} {given taken : List ℕ} → IsScheduleText text given → IsRunTo setup (Replaying given) input status taken → TextView setup text input status taken
 
 abbrev View : Found → (input : List ℕ) → Status → List ℕ → Type 0
 View (missing name) input status taken = (status ≡ NoFile name) × (taken ≡ [])
@@ -262,30 +268,22 @@ tells-is None names name found is tells = absurd (cc is)
 tells-is (Some map) names name found is tells = let same : map ≡ names = cc is in subst (λ (m : Names). m name ≡ found) same tells
 
 -- a settled status is that of the run
-settled-end : {F : Type 0} (kept : Option (List ℕ)) (end status : Status) (schedule : List ℕ) (files : Store F) → IsKept kept end status schedule files → IsSettled status → status ≡ end
-settled-end kept end status schedule files (keeping.nothing why is unwritten) settled = is
-settled-end kept end status schedule files (keeping.no_text name named is unwritten) settled = absurd (let P : Status → Type 0 = λ s. IsSettled s in subst P is settled)
-settled-end kept end status schedule files (keeping.written name named some is has others) settled = is
-settled-end kept end status schedule files (keeping.failed name named some is rises others) settled = absurd (let P : Status → Type 0 = λ s. IsSettled s in subst P is settled)
-
-run-to : {F S K E : Type 0} (asked : Asked) (status : Status) (files : Store F) (left : Left S K E) (input : List ℕ) → left.input.tells left.input.old ≡ Some input → IsSettled status → (is : IsRun asked status files left) → IsRunTo is.setup is.mode input status left.schedule
-run-to asked status files left input told settled is =
-    let same = settled-end (kept_of asked) is.end status left.schedule files is.kept settled in
-    let has = told-is (left.input.tells left.input.old) input (λ bytes. HasRun is.end is.setup is.mode bytes left) told is.is_left.has_run in
-    let still : IsSettled is.end = let P : Status → Type 0 = λ s. IsSettled s in subst P same settled in
-    let view = end-view is.end is.mode has.machine left.schedule still has.ends in
-    record { machine = has.machine; allowed = is.is_left.allowed; ran = has.ran; chosen = has.chosen; view = subst (λ (s : Status). EndView is.mode has.machine left.schedule s) (sym same) view }
+settled-end : {F : Type 0} (files : OfFiles F) (file : Option (List ℕ)) (end : End) (schedule : List ℕ) (old new : F) (status : Status) → Records files file end schedule old new status → IsSettled status → status ≡ ended_status end
+settled-end files None end schedule old new status is settled = is.0
+settled-end files (Some name) end schedule old new status (recording.no_memory is unwritten) settled = absurd (let P : Status → Type 0 = λ s. IsSettled s in subst P is settled)
+settled-end files (Some name) end schedule old new status (recording.written some is has) settled = is
+settled-end files (Some name) end schedule old new status (recording.failed some is fails) settled = absurd (let P : Status → Type 0 = λ s. IsSettled s in subst P is settled)
 
 moved-run : (setup setup' : Setup) (mode mode' : Mode) (input : List ℕ) (status : Status) (taken : List ℕ) → setup ≡ setup' → mode ≡ mode' → IsRunTo setup mode input status taken → IsRunTo setup' mode' input status taken
 moved-run setup setup' mode mode' input status taken a b is = subst (λ (m : Mode). IsRunTo setup' m input status taken) b (subst (λ (s : Setup). IsRunTo s mode input status taken) a is)
 
-ran-view : (asked : Asked) (told : Option Names) (names : Names) (setup : Setup) (mode : Mode) (status : Status) (input taken : List ℕ) → told ≡ Some names → AsksFor asked told setup mode → IsRunTo setup mode input status taken → View (found_by asked names) input status taken
+ran-view : (asked : Asked) (told : Option Names) (names : Names) (setup : Setup) (mode : Mode) (status : Status) (input taken : List ℕ) → told ≡ Some names → BeginsAs asked told setup mode → IsRunTo setup mode input status taken → View (found_by asked names) input status taken
 ran-view (plain named) told names setup mode status input taken is asks ran =
     rw (tells-is told names named.script (Some asks.script) is asks.told) (moved-run setup _ mode _ input status taken asks.begins asks.chosen ran)
 ran-view (replay named) told names setup mode status input taken is asks ran =
     rw (tells-is told names named.script (Some asks.script) is asks.there.script_told, tells-is told names named.schedule (Some asks.text) is asks.there.text_told)
-    (ended asks.is_text (moved-run setup _ mode _ input status taken asks.begins asks.chosen ran))
-ran-view (generate named) told names setup mode status input taken is asks ran = moved-run setup _ mode _ input status taken asks.begins asks.chosen ran
+    (with_run asks.is_text (moved-run setup _ mode _ input status taken asks.begins asks.chosen ran))
+ran-view (generate named) told names setup mode status input taken is asks ran = moved-run setup _ mode _ input status taken asks.0 asks.1 ran
 
 missing-view : (asked : Asked) (told : Option Names) (names : Names) (name input taken : List ℕ) → told ≡ Some names → IsMissing asked told name → taken ≡ [] → View (found_by asked names) input (NoFile name) taken
 missing-view (plain named) told names name input taken is absent empty = rw (tells-is told names named.script None is absent.1) (ap NoFile absent.0, empty)
@@ -294,26 +292,41 @@ missing-view (replay named) told names name input taken is (inr absent) empty =
     rw (tells-is told names named.script (Some absent.1.0) is absent.1.1, tells-is told names named.schedule None is absent.2) (ap NoFile absent.0, empty)
 missing-view (generate named) told names name input taken is absent empty = absurd absent
 
-wrong-view : (asked : Asked) (told : Option Names) (names : Names) (place : ℕ) (input taken : List ℕ) → told ≡ Some names → answer.IsRefusal {F = Option Names} asked (BadSchedule (Byte place)) (record { map = λ x. x; reads = λ x. 0; writes = λ x. 0; old = told; new = told }) → taken ≡ [] → View (found_by asked names) input (BadSchedule (Byte place)) taken
+wrong-view : (asked : Asked) (told : Option Names) (names : Names) (place : ℕ) (input taken : List ℕ) → told ≡ Some names → HasWrongText asked told place → taken ≡ [] → View (found_by asked names) input (BadSchedule (Byte place)) taken
 wrong-view (plain named) told names place input taken is wrong empty = absurd wrong
 wrong-view (replay named) told names place input taken is wrong empty =
     rw (tells-is told names named.script (Some wrong.script) is wrong.there.script_told, tells-is told names named.schedule (Some wrong.text) is wrong.there.text_told)
     (wrong_text wrong.wrong wrong.no_text empty)
 wrong-view (generate named) told names place input taken is wrong empty = absurd wrong
 
-view : {F S K E : Type 0} (asked : Asked) (status : Status) (files : Store F) (names : Names) (input : List ℕ) (left : Left S K E) → files.map files.old ≡ Some names → left.input.tells left.input.old ≡ Some input → IsSettled status → AnswersTo asked status files left → View (found_by asked names) input status left.schedule
-view asked status files names input left is told settled (answer.ran ran) = ran-view asked (files.map files.old) names ran.setup ran.mode status input left.schedule is ran.asks (run-to asked status files left input told settled ran)
-view asked (NoFile name) files names input left is told settled (answer.refused why untouched) = missing-view asked (files.map files.old) names name input left.schedule is why untouched.idle.no_step
-view asked (BadSchedule (Byte place)) files names input left is told settled (answer.refused why untouched) = wrong-view asked (files.map files.old) names place input left.schedule is why untouched.idle.no_step
-view asked (BadSchedule (Entry number)) files names input left is told settled (answer.refused why untouched) = absurd why
-view asked Usage files names input left is told settled (answer.refused why untouched) = absurd why
-view asked (Done code) files names input left is told settled (answer.refused why untouched) = absurd why
-view asked ScheduleEnded files names input left is told settled (answer.refused why untouched) = absurd why
-view asked Stalled files names input left is told settled (answer.refused why untouched) = absurd why
-view asked (StepLimit steps) files names input left is told settled (answer.refused why untouched) = absurd why
-view asked ReadFault files names input left is told settled (answer.refused why untouched) = absurd settled
-view asked WriteFault files names input left is told settled (answer.refused why untouched) = absurd settled
-view asked NoMemory files names input left is told settled (answer.refused why untouched) = absurd settled
+refusal-view : {F : Type 0} (files : OfFiles F) (asked : Asked) (why : Refusal) (names : Names) (old new : F) (input taken : List ℕ) → files.map old ≡ Some names → IsSettled (refused_status why) → IsRefusal files asked why old new → taken ≡ [] → View (found_by asked names) input (refused_status why) taken
+refusal-view files asked (refusal.NoFile name) names old new input taken is settled why empty = missing-view asked (files.map old) names name input taken is why empty
+refusal-view files asked (refusal.BadText offset) names old new input taken is settled why empty = wrong-view asked (files.map old) names offset input taken is why empty
+refusal-view files asked refusal.Usage names old new input taken is settled why empty = absurd why
+refusal-view files asked refusal.ReadFault names old new input taken is settled why empty = absurd settled
+refusal-view files asked refusal.NoMemory names old new input taken is settled why empty = absurd settled
+
+module _ {F S K E : Type 0} (files : OfFiles F) (source : OfSource S) (output : OfSink K) (errors : OfSink E) where
+  run-to : (asked : Asked) (old new : F) (began : Began S K E) (ended : Ended S K E) (input : List ℕ) → source.held began.input ≡ Some input → IsSettled ended.status
+      → (is : HasRun files source output errors asked old new began ended) → IsRunTo is.setup is.mode input ended.status ended.schedule.threads
+  run-to asked old new began ended input told settled is =
+      let same = settled-end files (record_of asked) is.finish.end is.finish.schedule.threads old new ended.status is.records settled in
+      let has = told-is (source.held began.input) input (λ bytes. HasMachine source output errors is.setup is.mode began is.finish bytes) told is.leaves.has_machine in
+      let still : IsSettled (ended_status is.finish.end) = let P : Status → Type 0 = λ s. IsSettled s in subst P same settled in
+      let view = end-view is.finish.end is.mode has.machine is.finish.schedule.threads still has.ends in
+      let found : IsRunTo is.setup is.mode input (ended_status is.finish.end) is.finish.schedule.threads =
+          record { machine = has.machine; allowed = is.leaves.allowed; ran = has.ran; chosen = has.chosen; view = view } in
+      subst (λ (s : Status). IsRunTo is.setup is.mode input s ended.schedule.threads) (sym same)
+      (subst (λ (steps : List ℕ). IsRunTo is.setup is.mode input (ended_status is.finish.end) steps) (sym is.schedule) found)
+
+  view : (asked : Asked) (names : Names) (input : List ℕ) (old new : F) (began : Began S K E) (ended : Ended S K E) → files.map old ≡ Some names → source.held began.input ≡ Some input → IsSettled ended.status
+      → AnswersTo files source output errors asked old new began ended → View (found_by asked names) input ended.status ended.schedule.threads
+  view asked names input old new began ended is told settled (answer.ran ran) =
+      ran-view asked (files.map old) names ran.setup ran.mode ended.status input ended.schedule.threads is ran.begins (run-to asked old new began ended input told settled ran)
+  view asked names input old new began ended is told settled (answer.refused why refuses untouched) =
+      let still : IsSettled (refused_status why) = let P : Status → Type 0 = λ s. IsSettled s in subst P untouched.status settled in
+      subst (λ (s : Status). View (found_by asked names) input s ended.schedule.threads) (sym untouched.status)
+      (refusal-view files asked why names old new input ended.schedule.threads is still refuses untouched.no_step)
 
 -- ---- the answer is one
 
@@ -331,17 +344,17 @@ same-steps setup mode input one other taken also a b same =
 same-run-end : (setup : Setup) (mode : Mode) (input : List ℕ) (one other : Status) (taken also : List ℕ) → IsRunTo setup mode input one taken → IsRunTo setup mode input other also → ((steps : ℕ) → mode ≡ Freely steps → taken ≡ also) → taken ≡ also
 same-run-end setup (Replaying given) input one other taken also a b free =
     let stop = stopped one given a.machine taken a.view in
-    let ends = stopped other given b.machine also b.view in
-    same-way (start_machine setup input) a.machine b.machine taken also stop.rest ends.rest a.ran b.ran stop.stops ends.stops (sym stop.cut ∙ ends.cut)
+    let stops = stopped other given b.machine also b.view in
+    same-way (start_machine setup input) a.machine b.machine taken also stop.rest stops.rest a.ran b.ran stop.stops stops.stops (sym stop.cut ∙ stops.cut)
 same-run-end setup (InTurn steps) input one other taken also a b free =
     same-turns (start_machine setup input) a.machine b.machine 0 0 steps taken also a.chosen b.chosen a.ran b.ran (omega (arith, a.allowed)) (omega (arith, b.allowed)) (rests one steps a.machine taken a.view) (rests other steps b.machine also b.view)
 same-run-end setup (Freely steps) input one other taken also a b free = free steps refl
 
 same-text : (setup : Setup) (text input : List ℕ) (one other : Status) (taken also : List ℕ) → TextView setup text input one taken → TextView setup text input other also → IsSame one other taken also
 same-text setup text input one other taken also (wrong_text {place = place} wrong no_text empty) (wrong_text {place = place'} wrong' no_text' empty') = (ap (λ (n : ℕ). BadSchedule (Byte n)) (one_place text place place' wrong wrong'), empty ∙ sym empty')
-same-text setup text input one other taken also (wrong_text wrong no_text empty) (ended is ran) = absurd (no_text _ is)
-same-text setup text input one other taken also (ended is ran) (wrong_text wrong no_text empty) = absurd (no_text _ is)
-same-text setup text input one other taken also (ended {given = given} is ran) (ended {given = given'} is' ran') =
+same-text setup text input one other taken also (wrong_text wrong no_text empty) (with_run is ran) = absurd (no_text _ is)
+same-text setup text input one other taken also (with_run is ran) (wrong_text wrong no_text empty) = absurd (no_text _ is)
+same-text setup text input one other taken also (with_run {given = given} is ran) (with_run {given = given'} is' ran') =
     let lists : given ≡ given' = one_list text given given' is is' in
     let moved = subst (λ (list : List ℕ). IsRunTo setup (Replaying list) input one taken) lists ran in
     same-steps setup (Replaying given') input one other taken also moved ran' (same-run-end setup (Replaying given') input one other taken also moved ran' (λ steps is. absurd (cc is)))
@@ -366,79 +379,87 @@ only-plain (replay named) names setup steps P then is = go (names named.script) 
     go (Some script) text is = inner script (names named.schedule) is
 only-plain (generate named) names setup steps P then is = absurd (cc is)
 
-no-unread : (status : Status) (words : List (List ℕ)) (asked : Asked) → WordsAskFor words asked → IsSettled status → answer.IsWordRefusal status words → ⊥
-no-unread Usage words asked reads settled is = is asked reads
-no-unread NoMemory words asked reads settled is = settled
-no-unread (Done code) words asked reads settled is = is
-no-unread (NoFile name) words asked reads settled is = is
-no-unread (BadSchedule place) words asked reads settled is = is
-no-unread ScheduleEnded words asked reads settled is = is
-no-unread Stalled words asked reads settled is = is
-no-unread (StepLimit steps) words asked reads settled is = is
-no-unread ReadFault words asked reads settled is = is
-no-unread WriteFault words asked reads settled is = is
+unread-usage : (why : Refusal) (words : List (List ℕ)) → IsSettled (refused_status why) → IsWordRefusal why words → (refused_status why ≡ Usage) × ((asked : Asked) → ¬ WordsAskFor words asked)
+unread-usage refusal.Usage words settled is = (refl, is)
+unread-usage refusal.NoMemory words settled is = absurd settled
+unread-usage (refusal.NoFile name) words settled is = absurd is
+unread-usage (refusal.BadText offset) words settled is = absurd is
+unread-usage refusal.ReadFault words settled is = absurd is
 
-unread-usage : (status : Status) (words : List (List ℕ)) → IsSettled status → answer.IsWordRefusal status words → status ≡ Usage
-unread-usage Usage words settled is = refl
-unread-usage NoMemory words settled is = absurd settled
-unread-usage (Done code) words settled is = absurd is
-unread-usage (NoFile name) words settled is = absurd is
-unread-usage (BadSchedule place) words settled is = absurd is
-unread-usage ScheduleEnded words settled is = absurd is
-unread-usage Stalled words settled is = absurd is
-unread-usage (StepLimit steps) words settled is = absurd is
-unread-usage ReadFault words settled is = absurd is
-unread-usage WriteFault words settled is = absurd is
+-- wrong words are answered by `Usage`
+wrong-words : (why : Refusal) (words : List (List ℕ)) (status : Status) → status ≡ refused_status why → IsSettled status → IsWordRefusal why words → (status ≡ Usage) × ((asked : Asked) → ¬ WordsAskFor words asked)
+wrong-words why words status same settled is =
+    let still : IsSettled (refused_status why) = let P : Status → Type 0 = λ s. IsSettled s in subst P same settled in
+    let found = unread-usage why words still is in
+    (same ∙ found.0, found.1)
 
-pub one_answer : (F S K E : Type 0) → OneAnswerLaw F S K E
-one_answer F S K E one other words names input files store left right is also told heard s t (answer.unread a idle) (answer.unread b still) free =
-    (unread-usage one words s a ∙ sym (unread-usage other words t b), idle.idle.no_step ∙ sym still.idle.no_step)
-one_answer F S K E one other words names input files store left right is also told heard s t (answer.unread a idle) (answer.read asked reads b) free = absurd (no-unread one words asked reads s a)
-one_answer F S K E one other words names input files store left right is also told heard s t (answer.read asked reads a) (answer.unread b still) free = absurd (no-unread other words asked reads t b)
-one_answer F S K E one other words names input files store left right is also told heard s t (answer.read asked reads a) (answer.read again rereads b) free =
-    let same : again ≡ asked = one_reading words again asked rereads reads in
-    let moved : AnswersTo asked other store right = subst (λ (x : Asked). AnswersTo x other store right) same b in
-    same-view (found_by asked names) input one other left.schedule right.schedule
-    (view asked one files names input left is told s a) (view asked other store names input right also heard t moved)
-    (λ setup steps begun. only-plain asked names setup steps (left.schedule ≡ right.schedule) (λ named plain_is. free named (subst (λ (x : Asked). WordsAskFor words x) plain_is reads)) begun)
+module _ {F S K E : Type 0} (files : OfFiles F) (source : OfSource S) (output : OfSink K) (errors : OfSink E) where
+  pub one_answer : OneAnswerLaw files source output errors
+  one_answer words names input old new store kept began again one other is also told heard s t (answer.unread why a idle) (answer.unread reason b still) free =
+      ((wrong-words why words one.status idle.status s a).0 ∙ sym (wrong-words reason words other.status still.status t b).0, idle.no_step ∙ sym still.no_step)
+  one_answer words names input old new store kept began again one other is also told heard s t (answer.unread why a idle) (answer.read asked reads b) free =
+      absurd ((wrong-words why words one.status idle.status s a).1 asked reads)
+  one_answer words names input old new store kept began again one other is also told heard s t (answer.read asked reads a) (answer.unread reason b still) free =
+      absurd ((wrong-words reason words other.status still.status t b).1 asked reads)
+  one_answer words names input old new store kept began again one other is also told heard s t (answer.read asked reads a) (answer.read repeated rereads b) free =
+      let same : repeated ≡ asked = one_reading words repeated asked rereads reads in
+      let moved : AnswersTo files source output errors asked store kept again other = subst (λ (x : Asked). AnswersTo files source output errors x store kept again other) same b in
+      same-view (found_by asked names) input one.status other.status one.schedule.threads other.schedule.threads
+      (view files source output errors asked names input old new began one is told s a) (view files source output errors asked names input store kept again other also heard t moved)
+      (λ setup steps begun. only-plain asked names setup steps (one.schedule.threads ≡ other.schedule.threads) (λ named plain_is. free named (subst (λ (x : Asked). WordsAskFor words x) plain_is reads)) begun)
 
 -- ---- a run that is replayed
 
 -- of a settled run each sink got what the machine wrote
-uncut : (status : Status) → IsSettled status → is_cut (kept_by status) ≡ false
-uncut (Done code) settled = refl
-uncut Usage settled = refl
-uncut (NoFile name) settled = refl
-uncut (BadSchedule place) settled = refl
-uncut ScheduleEnded settled = refl
-uncut Stalled settled = refl
-uncut (StepLimit steps) settled = refl
-uncut ReadFault settled = absurd settled
-uncut WriteFault settled = absurd settled
-uncut NoMemory settled = absurd settled
+uncut : (end : End) → IsSettled (ended_status end) → is_cut (cause_of end) ≡ false
+uncut (ends.Done code) settled = refl
+uncut ends.ScheduleEnded settled = refl
+uncut (ends.Barred number) settled = refl
+uncut ends.Stalled settled = refl
+uncut (ends.StepLimit steps) settled = refl
+uncut ends.ReadFault settled = absurd settled
+uncut ends.WriteFault settled = absurd settled
+uncut ends.NoMemory settled = absurd settled
+
+-- what sinks held and hold
+record Sinks : Type 0 where
+  old_out : Option (List ℕ)
+  new_out : Option (List ℕ)
+  old_err : Option (List ℕ)
+  new_err : Option (List ℕ)
 
 -- a settled run, with what its sinks got
-record IsWhollyRun {S K E : Type 0} (setup : Setup) (mode : Mode) (input : List ℕ) (status : Status) (left : Left S K E) : Type 0 where
+record IsWhollyRun (setup : Setup) (mode : Mode) (input : List ℕ) (status : Status) (schedule : List ℕ) (sinks : Sinks) : Type 0 where
   machine : Machine
-  ran : Runs (start_machine setup input) left.schedule machine
-  view : EndView mode machine left.schedule status
-  faithful : IsFaithful false (start_machine setup input) left.schedule
-      (left.output.tells left.output.old) (left.output.tells left.output.new)
-      (left.errors.tells left.errors.old) (left.errors.tells left.errors.new) machine
+  ran : Runs (start_machine setup input) schedule machine
+  view : EndView mode machine schedule status
+  faithful : IsFaithful false (start_machine setup input) schedule sinks.old_out sinks.new_out sinks.old_err sinks.new_err machine
 
-wholly-run : {F S K E : Type 0} (asked : Asked) (status : Status) (files : Store F) (left : Left S K E) (input : List ℕ) → left.input.tells left.input.old ≡ Some input → IsSettled status → (is : IsRun asked status files left) → IsWhollyRun is.setup is.mode input status left
-wholly-run asked status files left input told settled is =
-    let same = settled-end (kept_of asked) is.end status left.schedule files is.kept settled in
-    let has = told-is (left.input.tells left.input.old) input (λ bytes. HasRun is.end is.setup is.mode bytes left) told is.is_left.has_run in
-    let still : IsSettled is.end = let P : Status → Type 0 = λ s. IsSettled s in subst P same settled in
-    let view = end-view is.end is.mode has.machine left.schedule still has.ends in
-    let Faithful : Bool → Type 0 = λ b. IsFaithful b (start_machine is.setup input) left.schedule (left.output.tells left.output.old) (left.output.tells left.output.new) (left.errors.tells left.errors.old) (left.errors.tells left.errors.new) has.machine in
-    record {
-      machine = has.machine;
-      ran = has.ran;
-      view = subst (λ (s : Status). EndView is.mode has.machine left.schedule s) (sym same) view;
-      faithful = subst Faithful (uncut is.end still) has.faithful;
-    }
+module _ {F S K E : Type 0} (files : OfFiles F) (source : OfSource S) (output : OfSink K) (errors : OfSink E) where
+  abbrev sinks-of : {asked : Asked} {old new : F} {began : Began S K E} {ended : Ended S K E} → HasRun files source output errors asked old new began ended → Sinks
+  sinks-of {began = began} is = record {
+    old_out = output.got began.output;
+    new_out = output.got is.finish.output;
+    old_err = errors.got began.errors;
+    new_err = errors.got is.finish.errors;
+  }
+
+  wholly-run : (asked : Asked) (old new : F) (began : Began S K E) (ended : Ended S K E) (input : List ℕ) → source.held began.input ≡ Some input → IsSettled ended.status
+      → (is : HasRun files source output errors asked old new began ended) → IsWhollyRun is.setup is.mode input ended.status ended.schedule.threads (sinks-of is)
+  wholly-run asked old new began ended input told settled is =
+      let same = settled-end files (record_of asked) is.finish.end is.finish.schedule.threads old new ended.status is.records settled in
+      let has = told-is (source.held began.input) input (λ bytes. HasMachine source output errors is.setup is.mode began is.finish bytes) told is.leaves.has_machine in
+      let still : IsSettled (ended_status is.finish.end) = let P : Status → Type 0 = λ s. IsSettled s in subst P same settled in
+      let view = end-view is.finish.end is.mode has.machine is.finish.schedule.threads still has.ends in
+      let Faithful : Bool → Type 0 = λ b. IsFaithful b (start_machine is.setup input) is.finish.schedule.threads (output.got began.output) (output.got is.finish.output) (errors.got began.errors) (errors.got is.finish.errors) has.machine in
+      let found : IsWhollyRun is.setup is.mode input (ended_status is.finish.end) is.finish.schedule.threads (sinks-of is) = record {
+        machine = has.machine;
+        ran = has.ran;
+        view = view;
+        faithful = subst Faithful (uncut is.finish.end still) has.faithful;
+      } in
+      subst (λ (s : Status). IsWhollyRun is.setup is.mode input s ended.schedule.threads (sinks-of is)) (sym same)
+      (subst (λ (steps : List ℕ). IsWhollyRun is.setup is.mode input (ended_status is.finish.end) steps (sinks-of is)) (sym is.schedule) found)
 
 -- the end of a run and that of its replay, in one machine
 replayed-end : (one other : Status) (mode : Mode) (machine : Machine) (schedule : List ℕ) → IsSome (limit_of mode) → EndView mode machine schedule one → EndView (Replaying schedule) machine schedule other → other ≡ replayed_as one
@@ -456,32 +477,39 @@ replayed-end one other mode machine schedule free a (refused {number = number} b
 replayed-end one other mode machine schedule free a (stuck b is) = absurd (cc b)
 replayed-end one other mode machine schedule free a (full b) = absurd (cc b.limit)
 
-list-of : {F S K E : Type 0} (named : Replay) (status : Status) (store : Store F) (left : Left S K E) (names : Names) (text list : List ℕ) → store.map store.old ≡ Some names → names named.schedule ≡ Some text → IsScheduleText text list → (is : IsRun (replay named) status store left) → is.mode ≡ Replaying list
-list-of named status store left names text list told has is_text is =
-    let other = tells-is (store.map store.old) names named.schedule (Some is.asks.text) told is.asks.there.text_told in
-    let same : is.asks.text ≡ text = cc (sym other ∙ has) in
-    let lists : is.asks.given ≡ list = one_list text is.asks.given list (subst (λ (t : List ℕ). IsScheduleText t is.asks.given) same is.asks.is_text) is_text in
-    is.asks.chosen ∙ ap Replaying lists
+module _ {F S K E : Type 0} (files : OfFiles F) (source : OfSource S) (output : OfSink K) (errors : OfSink E) where
+  list-of : (named : Replay) (old new : F) (began : Began S K E) (ended : Ended S K E) (names : Names) (text list : List ℕ) → files.map old ≡ Some names → names named.schedule ≡ Some text → IsScheduleText text list
+      → (is : HasRun files source output errors (replay named) old new began ended) → is.mode ≡ Replaying list
+  list-of named old new began ended names text list told has is_text is =
+      let other = tells-is (files.map old) names named.schedule (Some is.begins.text) told is.begins.there.text_told in
+      let same : is.begins.text ≡ text = cc (sym other ∙ has) in
+      let lists : is.begins.given ≡ list = one_list text is.begins.given list (subst (λ (t : List ℕ). IsScheduleText t is.begins.given) same is.begins.is_text) is_text in
+      is.begins.chosen ∙ ap Replaying lists
 
 -- the same run, moved to the other's setup and mode
-moved-whole : {S K E : Type 0} (setup setup' : Setup) (mode mode' : Mode) (input : List ℕ) (status : Status) (left : Left S K E) → setup ≡ setup' → mode ≡ mode' → IsWhollyRun setup mode input status left → IsWhollyRun setup' mode' input status left
-moved-whole setup setup' mode mode' input status left a b is = subst (λ (m : Mode). IsWhollyRun setup' m input status left) b (subst (λ (s : Setup). IsWhollyRun s mode input status left) a is)
+moved-whole : (setup setup' : Setup) (mode mode' : Mode) (input : List ℕ) (status : Status) (schedule : List ℕ) (sinks : Sinks) → setup ≡ setup' → mode ≡ mode' → IsWhollyRun setup mode input status schedule sinks → IsWhollyRun setup' mode' input status schedule sinks
+moved-whole setup setup' mode mode' input status schedule sinks a b is = subst (λ (m : Mode). IsWhollyRun setup' m input status schedule sinks) b (subst (λ (s : Setup). IsWhollyRun s mode input status schedule sinks) a is)
 
-replayed : {S K E : Type 0} (setup : Setup) (mode : Mode) (input : List ℕ) (one other : Status) (left right : Left S K E) → IsSome (limit_of mode) → IsWhollyRun setup mode input one left → IsWhollyRun setup (Replaying left.schedule) input other right
-    → (right.schedule ≡ left.schedule) × (other ≡ replayed_as one) × GotSame left.output right.output × GotSame left.errors right.errors
-replayed setup mode input one other left right free a b =
-    let stop = stopped other left.schedule b.machine right.schedule b.view in
-    let same : right.schedule ≡ left.schedule = same-way (start_machine setup input) b.machine a.machine right.schedule left.schedule stop.rest [] b.ran a.ran stop.stops tt (sym stop.cut ∙ sym (append-nil left.schedule)) in
-    let ran : Runs (start_machine setup input) left.schedule b.machine = subst (λ (steps : List ℕ). Runs (start_machine setup input) steps b.machine) same b.ran in
-    let machines : b.machine ≡ a.machine = same_run (start_machine setup input) b.machine a.machine left.schedule ran a.ran in
-    let moved : EndView (Replaying left.schedule) a.machine left.schedule other = subst (λ (m : Machine). EndView (Replaying left.schedule) m left.schedule other) machines (subst (λ (steps : List ℕ). EndView (Replaying left.schedule) b.machine steps other) same b.view) in (
+replayed : (setup : Setup) (mode : Mode) (input : List ℕ) (one other : Status) (left right : List ℕ) (sinks others : Sinks) → IsSome (limit_of mode)
+    → IsWhollyRun setup mode input one left sinks → IsWhollyRun setup (Replaying left) input other right others
+    → (right ≡ left) × (other ≡ replayed_as one) × GotSame sinks.old_out sinks.new_out others.old_out others.new_out × GotSame sinks.old_err sinks.new_err others.old_err others.new_err
+replayed setup mode input one other left right sinks others free a b =
+    let stop = stopped other left b.machine right b.view in
+    let same : right ≡ left = same-way (start_machine setup input) b.machine a.machine right left stop.rest [] b.ran a.ran stop.stops tt (sym stop.cut ∙ sym (append-nil left)) in
+    let ran : Runs (start_machine setup input) left b.machine = subst (λ (steps : List ℕ). Runs (start_machine setup input) steps b.machine) same b.ran in
+    let machines : b.machine ≡ a.machine = same_run (start_machine setup input) b.machine a.machine left ran a.ran in
+    let moved : EndView (Replaying left) a.machine left other = subst (λ (m : Machine). EndView (Replaying left) m left other) machines (subst (λ (steps : List ℕ). EndView (Replaying left) b.machine steps other) same b.view) in (
       same,
-      replayed-end one other mode a.machine left.schedule free a.view moved,
-      record { bytes = a.machine.out; grew = a.faithful.out; grows = subst (λ (m : Machine). Grows (right.output.tells right.output.old) (right.output.tells right.output.new) m.out) machines b.faithful.out },
-      record { bytes = a.machine.err; grew = a.faithful.err; grows = subst (λ (m : Machine). Grows (right.errors.tells right.errors.old) (right.errors.tells right.errors.new) m.err) machines b.faithful.err },
+      replayed-end one other mode a.machine left free a.view moved,
+      record { bytes = a.machine.out; grew = a.faithful.out; grows = subst (λ (m : Machine). Grows others.old_out others.new_out m.out) machines b.faithful.out },
+      record { bytes = a.machine.err; grew = a.faithful.err; grows = subst (λ (m : Machine). Grows others.old_err others.new_err m.err) machines b.faithful.err },
     )
 
-pub replay_law : (F S K E : Type 0) → ReplayLaw F S K E
-replay_law F S K E one other asked named text input names files store left right first second told heard s t free setups is has is_text =
-    replayed first.setup first.mode input one other left right free (wholly-run asked one files left input told s first)
-    (moved-whole second.setup first.setup second.mode (Replaying left.schedule) input other right setups (list-of named other store right names text left.schedule is has is_text second) (wholly-run (replay named) other store right input heard t second))
+module _ {F S K E : Type 0} (files : OfFiles F) (source : OfSource S) (output : OfSink K) (errors : OfSink E) where
+  pub replay_law : ReplayLaw files source output errors
+  replay_law asked named text input names old new store kept began again one other first second told heard s t free setups is has is_text =
+      replayed first.setup first.mode input one.status other.status one.schedule.threads other.schedule.threads (sinks-of files source output errors first) (sinks-of files source output errors second) free
+      (wholly-run files source output errors asked old new began one input told s first)
+      (moved-whole second.setup first.setup second.mode (Replaying one.schedule.threads) input other.status other.schedule.threads (sinks-of files source output errors second) setups
+      (list-of files source output errors named store kept again other names text one.schedule.threads is has is_text second)
+      (wholly-run files source output errors (replay named) store kept again other input heard t second))

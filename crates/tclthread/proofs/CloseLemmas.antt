@@ -1,149 +1,124 @@
 -- From what the parts of a call leave to what it answers.
-use Rattle.std.proofs.Common.{◌≡◌, ◌≢◌, ◌∙◌, ◌≤◌, ◌⊎◌, ℕ, List, [], Option, None, Some, refl, sym, subst, inl, inr, arith}
-use Rattle.tt_devices.specs.Names.{KeepsOthers, Names, Tells}
-use Rattle.tt_interp.specs.declared.setup.Setup.{Setup}
-use Rattle.tt_machine.specs.Machine.{Machine}
+use Rattle.std.proofs.Common.{◌≡◌, ◌≢◌, ◌∙◌, ◌≤◌, ◌⊎◌, ℕ, List, [], Option, None, Some, refl, sym, inl, inr, arith}
+use Rattle.tt_core.specs.Stage.{Began}
+use Rattle.tt_devices.specs.Names.{HasName, Names, Tells}
+use Rattle.tt_devices.specs.declared.files.Files.{Ghosts as OfFiles}
+use Rattle.tt_devices.specs.declared.sink.Sink.{Ghosts as OfSink}
+use Rattle.tt_devices.specs.declared.source.Source.{Ghosts as OfSource}
 use Rattle.tt_schedule.specs.ScheduleText.{most_steps}
 use Rattle.tt_words.proofs.OneLemmas.{one_reading}
 use Rattle.tt_words.specs.Asked.{Asked, Generate, HasSteps, Plain, WordsAskFor, Replay, generate, plain, replay}
-use Rattle.tclthread.specs.Answer.{Answers, AnswersTo, AreCounted, IsAnswered, IsLeft, IsRefusal, IsRun, IsUntouched, IsUsage, IsWordRefusal}
+use Rattle.tclthread.specs.Answer.{AnswersTo, IsAnswered, IsRefusal, HasRun, IsUsage, IsWordRefusal}
 use Rattle.tclthread.specs.Answer as answer
-use Rattle.tclthread.specs.Asking.{AsksFor, kept_of}
-use Rattle.tclthread.specs.Choosing.{Freely, InTurn, Mode}
-use Rattle.tclthread.specs.Ending.{EndsAs, IsRunStatus}
-use Rattle.tclthread.specs.Keeping.{HasSteps as HasText, IsKept}
-use Rattle.tclthread.specs.Keeping as keeping
-use Rattle.tclthread.specs.Left.{IsIdle, IsReadSteady, IsUnwritten, Left, Store, with_errors}
-use Rattle.tclthread.specs.Lines.{IsTold}
-use Rattle.tclthread.specs.Prepared.{RanOrIdle}
-use Rattle.tclthread.specs.declared.status.Place.TheVariants.{Byte, Entry}
+use Rattle.tclthread.specs.Asking.{record_of}
+use Rattle.tclthread.specs.Lines.{PutsLine}
+use Rattle.tclthread.specs.Recording.{HasText, IsUnwritten, Records, RecordsUnder}
+use Rattle.tclthread.specs.Recording as recording
+use Rattle.tclthread.specs.Status.{ended_status, refused_status}
+use Rattle.tclthread.specs.declared.ended.Ended.{Ended}
+use Rattle.tclthread.specs.declared.status.End.{End}
+use Rattle.tclthread.specs.declared.status.End.TheVariants as ends
+use Rattle.tclthread.specs.declared.status.Refusal.{Refusal}
+use Rattle.tclthread.specs.declared.status.Refusal.TheVariants as refusal
 use Rattle.tclthread.specs.declared.status.Status.{Status}
-use Rattle.tclthread.specs.declared.status.Status.TheVariants.{Done, Usage, NoFile, BadSchedule, ScheduleEnded, Stalled, StepLimit, ReadFault, WriteFault, NoMemory}
+use Rattle.tclthread.specs.declared.status.Status.TheVariants.{Usage, NoMemory}
 
--- ---- no machine was started
+-- ---- files that were read meanwhile
 
-untouched : {F S K E : Type 0} (status : Status) (files : Store F) (left : Left S K E) → IsUnwritten files → (status ≢ ReadFault → IsReadSteady files)
-    → left.schedule ≡ [] → left.input.new ≡ left.input.old → left.output.new ≡ left.output.old
-    → IsUntouched status files (with_errors left left.errors.old)
-untouched status files left unwritten steady none input output = record {
-  idle = record { no_step = none; input = input; output = output; errors = refl };
-  unwritten = unwritten;
-  reads_steady = steady;
-}
+module _ {F : Type 0} (files : OfFiles F) where
+  under-after : (name : List ℕ) (end : End) (schedule : List ℕ) (old mid new : F) (status : Status)
+      → files.map mid ≡ files.map old → files.write_fault_count mid ≡ files.write_fault_count old
+      → RecordsUnder files name end schedule mid new status → RecordsUnder files name end schedule old new status
+  under-after name end schedule old mid new status same steady (recording.no_memory is unwritten) =
+      recording.no_memory is (record { same = unwritten.same ∙ same; steady = unwritten.steady ∙ steady })
+  under-after name end schedule old mid new status same steady (recording.written some is has) =
+      recording.written some is (record { text = has.text; is_text = has.is_text; found = has.found; steady = has.steady ∙ steady; others = rw (← same) has.others })
+  under-after name end schedule old mid new status same steady (recording.failed some is fails) =
+      recording.failed some is (record { rises = rw (← steady) fails.rises; others = rw (← same) fails.others })
 
-pub unread-answer : {F S K E : Type 0} (status : Status) (words : List (List ℕ)) (files : Store F) (left : Left S K E)
-    → IsWordRefusal status words → IsUnwritten files → IsReadSteady files
-    → left.schedule ≡ [] → left.input.new ≡ left.input.old → left.output.new ≡ left.output.old
-    → IsTold left.errors.tells left.errors.faults (left.errors.faults left.errors.old) status left.errors.old left.errors.new
-    → IsAnswered (Answers status words files) status left
-unread-answer status words files left is unwritten steady none input output told = record {
-  between = left.errors.old;
-  answered = answer.unread is (untouched status files left unwritten (λ other. steady) none input output);
-  told = told;
-}
-
-pub refused-answer : {F S K E : Type 0} (asked : Asked) (status : Status) (files : Store F) (left : Left S K E)
-    → IsRefusal asked status files → IsUnwritten files → (status ≢ ReadFault → IsReadSteady files)
-    → left.schedule ≡ [] → left.input.new ≡ left.input.old → left.output.new ≡ left.output.old
-    → IsTold left.errors.tells left.errors.faults (left.errors.faults left.errors.old) status left.errors.old left.errors.new
-    → IsAnswered (AnswersTo asked status files) status left
-refused-answer asked status files left is unwritten steady none input output told = record {
-  between = left.errors.old;
-  answered = answer.refused is (untouched status files left unwritten steady none input output);
-  told = told;
-}
-
--- ---- a machine was started
-
--- where memory was refused in the run, no file is written
-kept-none : {F : Type 0} (kept : Option (List ℕ)) (end status : Status) (schedule : List ℕ) (files : Store F) → IsKept kept end status schedule files → end ≡ NoMemory → (status ≡ NoMemory) × IsUnwritten files
-kept-none kept end status schedule files (keeping.nothing why is unwritten) ran_out = (is ∙ ran_out, unwritten)
-kept-none kept end status schedule files (keeping.no_text name named is unwritten) ran_out = (is, unwritten)
-kept-none kept end status schedule files (keeping.written name named some is has others) ran_out = absurd (some ran_out)
-kept-none kept end status schedule files (keeping.failed name named some is rises others) ran_out = absurd (some ran_out)
-
-idle-untouched : {F S K E : Type 0} (status : Status) (files : Store F) (left : Left S K E) → IsUnwritten files → IsReadSteady files → IsIdle left → IsUntouched status files left
-idle-untouched status files left unwritten steady idle = record { idle = idle; unwritten = unwritten; reads_steady = λ other. steady }
-
-out-of-memory : {F S K E : Type 0} (asked : Asked) (status : Status) (files : Store F) (left : Left S K E) → status ≡ NoMemory → IsUntouched status files left → AnswersTo asked status files left
-out-of-memory asked status files left is untouched = answer.refused (let P : Status → Type 0 = λ s. IsRefusal asked s files in subst P (sym is) tt) untouched
-
-pub ran-answer : {F S K E : Type 0} (asked : Asked) (end status : Status) (setup : Setup) (mode : Mode) (files : Store F) (left : Left S K E) (between : E)
-    → AsksFor asked (files.map files.old) setup mode → RanOrIdle end setup mode (with_errors left between) → IsRunStatus end → AreCounted end (with_errors left between)
-    → IsKept (kept_of asked) end status left.schedule files → IsReadSteady files
-    → IsTold left.errors.tells left.errors.faults (left.errors.faults left.errors.old) status between left.errors.new
-    → IsAnswered (AnswersTo asked status files) status left
-ran-answer asked end status setup mode files left between asks (inl is_left) run counted kept steady told = record {
-  between = between;
-  answered = answer.ran (record { setup = setup; mode = mode; end = end; asks = asks; run = run; is_left = is_left; counted = counted; kept = kept; reads_steady = steady });
-  told = told;
-}
-ran-answer asked end status setup mode files left between asks (inr (ran_out, idle)) run counted kept steady told =
-    let none = kept-none (kept_of asked) end status left.schedule files kept ran_out in
-    record {
-      between = between;
-      answered = out-of-memory asked status files (with_errors left between) none.0 (idle-untouched status files (with_errors left between) none.1 steady idle);
-      told = told;
-    }
-
--- files that were read meanwhile
-pub kept-after : {F : Type 0} (map : F → Option Names) (reads writes : F → ℕ) (kept : Option (List ℕ)) (end status : Status) (schedule : List ℕ) (old mid new : F)
-    → map mid ≡ map old → writes mid ≡ writes old
-    → IsKept kept end status schedule (record { map = map; reads = reads; writes = writes; old = mid; new = new })
-    → IsKept kept end status schedule (record { map = map; reads = reads; writes = writes; old = old; new = new })
-kept-after map reads writes kept end status schedule old mid new same steady (keeping.nothing why is unwritten) = keeping.nothing why is (record { same = unwritten.same ∙ same; steady = unwritten.steady ∙ steady })
-kept-after map reads writes kept end status schedule old mid new same steady (keeping.no_text name named is unwritten) = keeping.no_text name named is (record { same = unwritten.same ∙ same; steady = unwritten.steady ∙ steady })
-kept-after map reads writes kept end status schedule old mid new same steady (keeping.written name named some is has others) =
-    keeping.written name named some is (record { text = has.text; is_text = has.is_text; told = has.told; steady = has.steady ∙ steady }) (rw (← same) others)
-kept-after map reads writes kept end status schedule old mid new same steady (keeping.failed name named some is rises others) =
-    keeping.failed name named some is (rw (← steady) rises) (rw (← same) others)
+  pub records-after : (file : Option (List ℕ)) (end : End) (schedule : List ℕ) (old mid new : F) (status : Status)
+      → files.map mid ≡ files.map old → files.write_fault_count mid ≡ files.write_fault_count old
+      → Records files file end schedule mid new status → Records files file end schedule old new status
+  records-after None end schedule old mid new status same steady is = (is.0, record { same = is.1.same ∙ same; steady = is.1.steady ∙ steady })
+  records-after (Some name) end schedule old mid new status same steady is = under-after name end schedule old mid new status same steady is
 
 -- ---- by the words
 
-pub by-words : {F S K E : Type 0} (words : List (List ℕ)) (asked : Asked) (status : Status) (files : Store F) (left : Left S K E) → WordsAskFor words asked → IsAnswered (AnswersTo asked status files) status left → IsAnswered (Answers status words files) status left
-by-words words asked status files left reads is = record { between = is.between; answered = answer.read asked reads is.answered; told = is.told }
-
 -- a run isn't answered by `Usage`
-run-usage : {F S K E : Type 0} (asked : Asked) (files : Store F) (left : Left S K E) → IsRun asked Usage files left → ⊥
-run-usage asked files left is = go is.kept
-  where
-    ended : Usage ≡ is.end → ⊥
-    ended same = let P : Status → Type 0 = λ s. IsRunStatus s in subst P (sym same) is.run
+no-usage : (end : End) → ended_status end ≡ Usage → ⊥
+no-usage (ends.Done code) is = cc
+no-usage ends.ScheduleEnded is = cc
+no-usage (ends.Barred entry) is = cc
+no-usage ends.Stalled is = cc
+no-usage (ends.StepLimit steps) is = cc
+no-usage ends.ReadFault is = cc
+no-usage ends.WriteFault is = cc
+no-usage ends.NoMemory is = cc
 
-    go : IsKept (kept_of asked) is.end Usage left.schedule files → ⊥
-    go (keeping.nothing why same unwritten) = ended same
-    go (keeping.no_text name named same unwritten) = cc
-    go (keeping.written name named some same has others) = ended same
-    go (keeping.failed name named some same rises others) = cc
+-- wrong words are, and nothing else that is wrong
+wrong-usage : (why : Refusal) (words : List (List ℕ)) → IsWordRefusal why words → refused_status why ≡ Usage → (asked : Asked) → ¬ WordsAskFor words asked
+wrong-usage refusal.Usage words is same = is
+wrong-usage refusal.NoMemory words is same = absurd (cc same)
+wrong-usage (refusal.NoFile name) words is same = absurd is
+wrong-usage (refusal.BadText offset) words is same = absurd is
+wrong-usage refusal.ReadFault words is same = absurd is
 
-answered-usage : {F S K E : Type 0} (asked : Asked) (files : Store F) (left : Left S K E) → AnswersTo asked Usage files left → ⊥
-answered-usage asked files left (answer.refused is untouched) = is
-answered-usage asked files left (answer.ran is) = run-usage asked files left is
+unread-status : (why : Refusal) (words : List (List ℕ)) (status : Status) → IsWordRefusal why words → status ≡ refused_status why → (status ≡ Usage) ⊎ (status ≡ NoMemory)
+unread-status refusal.Usage words status is same = inl same
+unread-status refusal.NoMemory words status is same = inr same
+unread-status (refusal.NoFile name) words status is same = absurd is
+unread-status (refusal.BadText offset) words status is same = absurd is
+unread-status refusal.ReadFault words status is same = absurd is
 
-word-refusal : (status : Status) (words : List (List ℕ)) → IsWordRefusal status words → (status ≡ Usage) ⊎ (status ≡ NoMemory)
-word-refusal Usage words is = inl refl
-word-refusal NoMemory words is = inr refl
-word-refusal (Done code) words is = absurd is
-word-refusal (NoFile name) words is = absurd is
-word-refusal (BadSchedule place) words is = absurd is
-word-refusal ScheduleEnded words is = absurd is
-word-refusal Stalled words is = absurd is
-word-refusal (StepLimit steps) words is = absurd is
-word-refusal ReadFault words is = absurd is
-word-refusal WriteFault words is = absurd is
+module _ {F S K E : Type 0} (files : OfFiles F) (source : OfSource S) (output : OfSink K) (errors : OfSink E) where
+  refused-usage : (asked : Asked) (why : Refusal) (old new : F) → IsRefusal files asked why old new → refused_status why ≡ Usage → ⊥
+  refused-usage asked refusal.Usage old new is same = is
+  refused-usage asked refusal.NoMemory old new is same = cc
+  refused-usage asked (refusal.NoFile name) old new is same = cc
+  refused-usage asked (refusal.BadText offset) old new is same = cc
+  refused-usage asked refusal.ReadFault old new is same = cc
 
-usage-of : {F S K E : Type 0} (status : Status) (words : List (List ℕ)) (files : Store F) (left : Left S K E) → Answers status words files left → IsUsage status words
-usage-of status words files left (answer.unread is untouched) = record {
-  wrong = λ usage. let P : Status → Type 0 = λ s. IsWordRefusal s words in subst P usage is;
-  only = λ none. word-refusal status words is;
-}
-usage-of status words files left (answer.read asked reads is) = record {
-  wrong = λ usage. absurd (answered-usage asked files left (let P : Status → Type 0 = λ s. AnswersTo asked s files left in subst P usage is));
-  only = λ none. absurd (none asked reads);
-}
+  recorded-usage : (file : Option (List ℕ)) (end : End) (schedule : List ℕ) (old new : F) (status : Status) → Records files file end schedule old new status → status ≡ Usage → ⊥
+  recorded-usage None end schedule old new status is usage = no-usage end (sym is.0 ∙ usage)
+  recorded-usage (Some name) end schedule old new status (recording.no_memory is unwritten) usage = cc (sym is ∙ usage)
+  recorded-usage (Some name) end schedule old new status (recording.written some is has) usage = no-usage end (sym is ∙ usage)
+  recorded-usage (Some name) end schedule old new status (recording.failed some is fails) usage = cc (sym is ∙ usage)
 
-pub usage-answer : {F S K E : Type 0} (status : Status) (words : List (List ℕ)) (files : Store F) (left : Left S K E) → IsAnswered (Answers status words files) status left → IsUsage status words
-usage-answer status words files left is = usage-of status words files (with_errors left is.between) is.answered
+  answered-usage : (asked : Asked) (old new : F) (began : Began S K E) (ended : Ended S K E) → AnswersTo files source output errors asked old new began ended → ended.status ≡ Usage → ⊥
+  answered-usage asked old new began ended (answer.refused why is untouched) usage = refused-usage asked why old new is (sym untouched.status ∙ usage)
+  answered-usage asked old new began ended (answer.ran is) usage = recorded-usage (record_of asked) is.finish.end is.finish.schedule.threads old new ended.status is.records usage
+
+  pub usage-answer : (words : List (List ℕ)) (old new : F) (began : Began S K E) (ended : Ended S K E) → IsAnswered files source output errors words old new began ended → IsUsage ended.status words
+  usage-answer words old new began ended (answer.unread why is untouched) = record {
+    wrong = λ usage. wrong-usage why words is (sym untouched.status ∙ usage);
+    only = λ none. unread-status why words ended.status is untouched.status;
+  }
+  usage-answer words old new began ended (answer.read asked reads is) = record {
+    wrong = λ usage. absurd (answered-usage asked old new began ended is usage);
+    only = λ none. absurd (none asked reads);
+  }
+
+  -- words that aren't read
+  pub unread-answer : (words : List (List ℕ)) (why : Refusal) (now : F) (began : Began S K E) (ended : Ended S K E) → IsWordRefusal why words
+      → ended.status ≡ refused_status why → ended.schedule.threads ≡ [] → (ended.input ≡ began.input) × (ended.output ≡ began.output)
+      → PutsLine errors (errors.fault_count began.errors) ended.status began.errors ended.errors
+      → IsAnswered files source output errors words now now began ended
+  unread-answer words why now began ended is status no_step streams line = answer.unread why is (record {
+    status = status;
+    no_step = no_step;
+    input = streams.0;
+    output = streams.1;
+    line = line;
+    unwritten = record { same = refl; steady = refl };
+    reads_steady = λ other. refl;
+  })
+
+  -- streams that were handed back
+  pub moved-answer : (words : List (List ℕ)) (old mid new : F) (input in_again : S) (sink sink_again : K) (errs errs_again : E) (ended : Ended S K E)
+      → mid ≡ old → (in_again ≡ input) × (sink_again ≡ sink) × (errs_again ≡ errs)
+      → IsAnswered files source output errors words mid new (record { input = in_again; output = sink_again; errors = errs_again }) ended
+      → IsAnswered files source output errors words old new (record { input = input; output = sink; errors = errs }) ended
+  moved-answer words old mid new input in_again sink sink_again errs errs_again ended same (a, b, c) is = rw (← same, ← a, ← b, ← c) is
 
 -- what is asked for is one
 pub not-replay : (words : List (List ℕ)) (named : Plain) (other : Replay) → WordsAskFor words (plain named) → WordsAskFor words (replay other) → ⊥
@@ -160,15 +135,15 @@ few (Some text) steps is = is.at_most
 pub few-generated : (words : List (List ℕ)) (named : Generate) → WordsAskFor words (generate named) → named.steps ≤ most_steps
 few-generated words named is = few _ named.steps is.asks.steps
 
--- no plain run is asked for where the words were refused
-pub no-plain : (status : Status) (words : List (List ℕ)) → IsWordRefusal status words → status ≢ NoMemory → (named : Plain) → ¬ (WordsAskFor words (plain named))
-no-plain Usage words is some named = is (plain named)
-no-plain NoMemory words is some named = absurd (some refl)
-no-plain (Done code) words is some named = absurd is
-no-plain (NoFile name) words is some named = absurd is
-no-plain (BadSchedule place) words is some named = absurd is
-no-plain ScheduleEnded words is some named = absurd is
-no-plain Stalled words is some named = absurd is
-no-plain (StepLimit steps) words is some named = absurd is
-no-plain ReadFault words is some named = absurd is
-no-plain WriteFault words is some named = absurd is
+-- no plain run is asked for if the words were refused
+pub no-plain : (why : Refusal) (words : List (List ℕ)) (status : Status) → IsWordRefusal why words → status ≡ refused_status why → status ≢ NoMemory → (named : Plain) → ¬ (WordsAskFor words (plain named))
+no-plain refusal.Usage words status is same some named = is (plain named)
+no-plain refusal.NoMemory words status is same some named = absurd (some same)
+no-plain (refusal.NoFile name) words status is same some named = absurd is
+no-plain (refusal.BadText offset) words status is same some named = absurd is
+no-plain refusal.ReadFault words status is same some named = absurd is
+
+-- what a map tells is there
+pub has-name : (told : Option Names) (name bytes : List ℕ) → Tells told name (Some bytes) → HasName told name
+has-name None name bytes is = tt
+has-name (Some map) name bytes is = rw is refl

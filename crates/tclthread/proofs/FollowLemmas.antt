@@ -2,13 +2,14 @@
 use Rattle.std.proofs.Common.{◌≡◌, ◌∙◌, ◌<◌, ◌≤◌, ◌+◌, ℕ, zero, suc, refl, List, [], ◌∷◌, ◌++◌, length, take, drop, slice_index, ◌⊎◌, inl, inr, Option, None, Some, IfSome, sym, ap, subst, arith, add-one, append_assoc, drop-cons}
 use Rattle.std.proofs.lemmas.List.{length-take-le, take-append-drop}
 use Rattle.tt_devices.specs.Faults.{Rises}
+use Rattle.tt_core.specs.Faithful.{AsksLine}
 use Rattle.tt_core.specs.Stage.{OfMachine, SameBeginning, Stage}
 use Rattle.tt_machine.proofs.Steps.{same_run}
 use Rattle.tt_machine.specs.Machine.{IsBarred, Machine, Runs, start_machine}
 use Rattle.tclthread.specs.Choosing.{Replaying}
 use Rattle.tt_core.specs.Parts.{IsFirstPart}
-use Rattle.tclthread.specs.Ending.{IsRefused}
-use Rattle.tclthread.specs.Following.{AtRun}
+use Rattle.tclthread.specs.Ending.{StopsAtLine, IsRefused}
+use Rattle.tclthread.specs.inside.Following.{AtRun}
 
 -- a system has taken the steps of a list up to a place
 pub record IsFollowing {S K E : Type 0} (reads : S → ℕ) (faults : K → ℕ) (errors : E → ℕ) (old now : Stage S K E) (list : List ℕ) (place : ℕ) : Type 0 where
@@ -48,6 +49,14 @@ refused-at schedule list place thread machine within taken thread_is barred = re
   refused = rw (← thread_is) barred;
 }
 
+-- the thread of the next entry asks for a line
+pub reading-at : (schedule list : List ℕ) (place thread : ℕ) (machine : Machine) → place < length list → schedule ≡ take place list → thread ≡ slice_index list place → AsksLine thread machine → StopsAtLine (Replaying list) machine schedule
+reading-at schedule list place thread machine within taken thread_is asks = record {
+  thread = thread;
+  due = first-more schedule list place thread within taken thread_is;
+  asks = asks;
+}
+
 -- a list with an entry added isn't empty
 pub some-entry : (taken new : List ℕ) (thread : ℕ) → new ≡ taken ++ thread ∷ [] → new ≡ [] → ⊥
 some-entry [] new thread is none = cc
@@ -84,6 +93,11 @@ at-both held stage P Q R one other f = go (held stage.began.input) one other
         → IfSome told (λ input. (machine : Machine) → Runs (start_machine stage.setup input) stage.desk.schedule machine → R (start_machine stage.setup input) machine)
     go None one other = tt
     go (Some input) one other = λ machine ran. f (start_machine stage.setup input) machine (one machine ran) (other machine ran)
+
+-- of the same steps from the same beginning
+pub same-run-of : {S K E : Type 0} (held : S → Option (List ℕ)) (now new : Stage S K E) (Q : List ℕ → Machine → Machine → Type 0)
+    → SameBeginning now new → new.desk.schedule ≡ now.desk.schedule → AtRun held now (Q now.desk.schedule) → AtRun held new (Q new.desk.schedule)
+same-run-of held now new Q same steps is = rw (same.setup, same.began, steps) is
 
 -- ---- what stays ----
 

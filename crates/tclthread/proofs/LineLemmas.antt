@@ -1,9 +1,10 @@
 -- How a status line is put, piece by piece.
-use Rattle.std.proofs.Common.{◌≡◌, ◌∙◌, ℕ, List, [], ◌∷◌, ◌++◌, Option, Ok, Err, Result, IsTrue, IsFalse, OnOk, OnErr, sym, ap, append_assoc}
+use Rattle.std.proofs.Common.{◌≡◌, ◌∙◌, ℕ, List, ◌++◌, Option, Ok, Err, Result, OnOk, OnErr, sym, ap, append_assoc}
 use Rattle.tt_devices.proofs.StreamLemmas.{Grows-append}
 use Rattle.tt_devices.specs.Faults.{Rises}
 use Rattle.tt_devices.specs.Streams.{Grows, GrowsByPart}
-use Rattle.tclthread.specs.Lines.{IsSilent, IsTold, line_of, part, silent, whole}
+use Rattle.tt_devices.specs.declared.sink.Sink.{Ghosts as OfSink}
+use Rattle.tclthread.specs.Lines.{HasNoLine, PutsLine, line_of, part, whole}
 use Rattle.tclthread.specs.declared.status.Status.{Status}
 
 -- a first part of a piece is one of a longer piece
@@ -47,10 +48,10 @@ on-err (Ok x) P is = tt
 on-err (Err x) P is = is
 
 -- the line was put, or a first part of it
-pub told-by : {E U X : Type 0} (got : E → Option (List ℕ)) (faults : E → ℕ) (before : ℕ) (status : Status) (old new : E) (result : Result U X)
-    → ¬ (IsSilent faults before status old)
-    → OnOk result (Grows (got old) (got new) (line_of status)) → OnErr result (GrowsByPart (got old) (got new) (line_of status))
-    → OnOk result (faults new ≡ faults old) → OnErr result (Rises (faults old) (faults new))
-    → IsTold got faults before status old new
-told-by got faults before status old new (Ok x) loud grows cut steady rises = whole loud grows steady
-told-by got faults before status old new (Err x) loud grows cut steady rises = part loud cut rises
+pub put-by : {E U X : Type 0} (errors : OfSink E) (before : ℕ) (status : Status) (old new : E) (result : Result U X)
+    → ¬ (HasNoLine errors before status old)
+    → OnOk result (Grows (errors.got old) (errors.got new) (line_of status)) → OnErr result (GrowsByPart (errors.got old) (errors.got new) (line_of status))
+    → OnOk result (errors.fault_count new ≡ errors.fault_count old) → OnErr result (Rises (errors.fault_count old) (errors.fault_count new))
+    → PutsLine errors before status old new
+put-by errors before status old new (Ok x) loud grows cut steady rises = whole loud grows steady
+put-by errors before status old new (Err x) loud grows cut steady rises = part loud cut rises

@@ -1,19 +1,15 @@
 -- How threads take turns.
-use Rattle.std.proofs.Common.{◌≡◌, ◌∙◌, ◌≤◌, ◌+◌, ◌⊎◌, ℕ, suc, List, [], ◌∷◌, ◌++◌, length, Option, None, Some, IfSome, IsSome, refl, sym, ap, subst, arith, inl, inr, length-append}
+use Rattle.std.proofs.Common.{◌≡◌, ◌∙◌, ◌≤◌, ◌+◌, ◌⊎◌, ℕ, List, [], ◌∷◌, ◌++◌, length, Option, None, Some, IfSome, IsSome, refl, sym, ap, subst, arith, inl, inr, length-append}
+use Rattle.tt_core.specs.Faithful.{AsksLine}
 use Rattle.tt_core.specs.Stage.{IsNextAfter, OfMachine, SameBeginning, Stage}
 use Rattle.tt_machine.proofs.Steps.{not_barred, same_run, same_step}
 use Rattle.tt_machine.specs.Machine.{CanStep, IsBarred, IsStuck, Machine, Runs, Steps, start_machine}
 use Rattle.tt_machine.specs.Machine as run
-use Rattle.tclthread.proofs.FollowLemmas.{at-both, at-run, of-any, some-entry}
-use Rattle.tclthread.specs.Choosing.{InTurn, TakesTurns}
+use Rattle.tclthread.proofs.FollowLemmas.{at-both, at-run, of-any, same-run-of, some-entry}
+use Rattle.tclthread.specs.Choosing.{InTurn, TakesTurns, last_of}
 use Rattle.tclthread.specs.Choosing as turn
-use Rattle.tclthread.specs.Ending.{IsFull}
-use Rattle.tclthread.specs.Following.{AtRun}
-
--- the last thread of a schedule, or one before it
-abbrev pub last_of : ℕ → List ℕ → ℕ
-last_of after [] = after
-last_of after (thread ∷ threads) = last_of thread threads
+use Rattle.tclthread.specs.Ending.{IsFull, StopsAtLine}
+use Rattle.tclthread.specs.inside.Following.{AtRun}
 
 pub last-more : (after thread : ℕ) (threads : List ℕ) → last_of after (threads ++ thread ∷ []) ≡ thread
 last-more after thread [] = refl
@@ -107,6 +103,19 @@ never-refused held stage last thread Q nexts barred =
     (at-run held stage (IsNextAfter last (Some thread)) (λ begun machine. CanStep machine thread) nexts (λ begun machine next. next.0))
     (at-run held stage (λ machine. IsBarred machine thread) (λ begun machine. IsBarred machine thread) barred (λ begun machine is. is))
     (λ begun machine can is. absurd (not_barred machine thread can is))
+
+-- the thread that is next asks for a line
+pub ends-reading : {S K E : Type 0} (held : S → Option (List ℕ)) (now new : Stage S K E) (last thread steps : ℕ)
+    → SameBeginning now new → new.desk.schedule ≡ now.desk.schedule → last ≡ last_of 0 now.desk.schedule
+    → OfMachine held now (IsNextAfter last (Some thread)) → OfMachine held now (AsksLine thread) → TookTurns held now
+    → TookAnd held new (λ machine. StopsAtLine (InTurn steps) machine new.desk.schedule)
+ends-reading held now new last thread steps same stays is nexts asks took =
+    same-run-of held now new (λ taken begun machine. TakesTurns 0 begun taken × StopsAtLine (InTurn steps) machine taken) same stays
+    (at-both held now (λ begun machine. TakesTurns 0 begun now.desk.schedule × IsNextAfter last (Some thread) machine) (λ begun machine. AsksLine thread machine)
+    (λ begun machine. TakesTurns 0 begun now.desk.schedule × StopsAtLine (InTurn steps) machine now.desk.schedule)
+    (and-of held now (IsNextAfter last (Some thread)) (IsNextAfter last (Some thread)) took nexts (λ machine next. next))
+    (at-run held now (AsksLine thread) (λ begun machine. AsksLine thread machine) asks (λ begun machine line. line))
+    (λ begun machine both line. (both.0, record { thread = thread; due = rw (← is) both.1; asks = line })))
 
 -- a run that was cut off
 pub ends-cut : {S K E : Type 0} (held : S → Option (List ℕ)) (stage : Stage S K E) → TookTurns held stage → TookAnd held stage (λ machine. Unit {0})

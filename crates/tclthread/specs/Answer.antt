@@ -1,119 +1,94 @@
--- What the program answers and leaves, by its words, its files and its input.
-use Rattle.std.specs.Prelude.{◌≡◌, ◌≢◌, ◌⊎◌, ⊤, ℕ, List, [], Option, IfSome}
-use Rattle.tt_core.specs.Faithful.{IsFaithful, is_cut}
+-- What the program answers and leaves, by its words, its files and its streams.
+use Rattle.std.specs.Prelude.{◌≡◌, ◌≢◌, ◌⊎◌, ⊤, ℕ, List, []}
+use Rattle.std.specs.IoError.{error_kind}
+use Rattle.std.specs.declared.io.Error.{Error}
+use Rattle.std.specs.declared.io.ErrorKind.TheVariants.{OutOfMemory}
+use Rattle.tt_core.specs.Stage.{Began}
 use Rattle.tt_devices.specs.Faults.{Rises}
+use Rattle.tt_devices.specs.declared.files.Files.{Ghosts as OfFiles}
+use Rattle.tt_devices.specs.declared.sink.Sink.{Ghosts as OfSink}
+use Rattle.tt_devices.specs.declared.source.Source.{Ghosts as OfSource}
 use Rattle.tt_interp.specs.declared.setup.Setup.{Setup}
-use Rattle.tt_machine.specs.Machine.{Machine, Runs, start_machine}
 use Rattle.tt_words.specs.Asked.{Asked, WordsAskFor}
-use Rattle.tclthread.specs.Asking.{AsksFor, HasWrongText, IsMissing, kept_of}
-use Rattle.tclthread.specs.Choosing.{Allows, Chooses, Mode}
-use Rattle.tclthread.specs.Ending.{EndsAs, IsRunStatus, kept_by}
-use Rattle.tclthread.specs.Keeping.{IsKept}
-use Rattle.tclthread.specs.Left.{HasFailed, HasFailedRead, IsIdle, IsReadSteady, IsSteady, IsUnwritten, Left, Store, Stream, with_errors}
-use Rattle.tclthread.specs.Lines.{IsTold}
-use Rattle.tclthread.specs.declared.status.Place.TheVariants.{Byte, Entry}
+use Rattle.tclthread.specs.Asking.{BeginsAs, HasWrongText, IsMissing, MayFail, record_of}
+use Rattle.tclthread.specs.Choosing.{Mode}
+use Rattle.tclthread.specs.Lines.{PutsLine}
+use Rattle.tclthread.specs.Recording.{IsUnwritten, Records}
+use Rattle.tclthread.specs.Running.{RunLeaves}
+use Rattle.tclthread.specs.Status.{refused_status}
+use Rattle.tclthread.specs.declared.ended.Ended.{Ended}
+use Rattle.tclthread.specs.declared.ended.Finish.{Finish}
+use Rattle.tclthread.specs.declared.status.Refusal.{Refusal}
+use Rattle.tclthread.specs.declared.status.Refusal.TheVariants as refusal
 use Rattle.tclthread.specs.declared.status.Status.{Status}
-use Rattle.tclthread.specs.declared.status.Status.TheVariants.{Done, Usage, NoFile, BadSchedule, ScheduleEnded, Stalled, StepLimit, ReadFault, WriteFault, NoMemory}
+use Rattle.tclthread.specs.declared.status.Status.TheVariants.{Usage, NoMemory}
 
 -- ---- no machine was started
 
--- memory to read the words was refused, or they ask for nothing
-abbrev pub IsWordRefusal : Status → (words : List (List ℕ)) → Type 0
-IsWordRefusal Usage words = (asked : Asked) → ¬ WordsAskFor words asked
-IsWordRefusal NoMemory words = ⊤
-IsWordRefusal (Done code) words = ⊥
-IsWordRefusal (NoFile name) words = ⊥
-IsWordRefusal (BadSchedule place) words = ⊥
-IsWordRefusal ScheduleEnded words = ⊥
-IsWordRefusal Stalled words = ⊥
-IsWordRefusal (StepLimit steps) words = ⊥
-IsWordRefusal ReadFault words = ⊥
-IsWordRefusal WriteFault words = ⊥
+-- the system gives no words: memory was refused, or one of them is no UTF-8
+pub record IsNoWords (error : Error) (why : Refusal) : Type 0 where
+  pub no_memory : error_kind error ≡ OutOfMemory → why ≡ refusal.NoMemory
+  pub no_text : error_kind error ≢ OutOfMemory → why ≡ refusal.Usage
 
--- a named file is missing, the schedule's text is none, a read failed, or memory was refused
-abbrev pub IsRefusal : {F : Type 0} → Asked → Status → Store F → Type 0
-IsRefusal asked (NoFile name) files = IsMissing asked (files.map files.old) name
-IsRefusal asked (BadSchedule (Byte offset)) files = HasWrongText asked (files.map files.old) offset
-IsRefusal asked ReadFault files = HasFailedRead files
-IsRefusal asked NoMemory files = ⊤
-IsRefusal asked Usage files = ⊥
-IsRefusal asked (Done code) files = ⊥
-IsRefusal asked (BadSchedule (Entry number)) files = ⊥
-IsRefusal asked ScheduleEnded files = ⊥
-IsRefusal asked Stalled files = ⊥
-IsRefusal asked (StepLimit steps) files = ⊥
-IsRefusal asked WriteFault files = ⊥
+-- the words ask for nothing, or memory to read them was refused
+abbrev pub IsWordRefusal : Refusal → (words : List (List ℕ)) → Type 0
+IsWordRefusal refusal.Usage words = (asked : Asked) → ¬ WordsAskFor words asked
+IsWordRefusal refusal.NoMemory words = ⊤
+IsWordRefusal why words = ⊥
 
--- no step was taken, no stream was touched, no file was written, and a failed read is answered
-pub record IsUntouched {F S K E : Type 0} (status : Status) (files : Store F) (left : Left S K E) : Type 0 where
-  pub idle : IsIdle left
-  pub unwritten : IsUnwritten files
-  pub reads_steady : status ≢ ReadFault → IsReadSteady files
+module _ {F : Type 0} (files : OfFiles F) where
+  -- a named file is missing, the schedule's text is none, a read failed, or memory was refused
+  abbrev pub IsRefusal : Asked → Refusal → (old new : F) → Type 0
+  IsRefusal asked (refusal.NoFile name) old new = IsMissing asked (files.map old) name
+  IsRefusal asked (refusal.BadText offset) old new = HasWrongText asked (files.map old) offset
+  IsRefusal asked refusal.ReadFault old new =
+      MayFail asked (files.map old) × Rises (files.read_fault_count old) (files.read_fault_count new)
+  IsRefusal asked refusal.NoMemory old new = ⊤
+  IsRefusal asked refusal.Usage old new = ⊥
 
--- ---- a machine was started
+module _ {F S K E : Type 0} (files : OfFiles F) (source : OfSource S) (sink : OfSink K) (errors : OfSink E) where
+  -- no step was taken, no stream was touched but for the status line, no file was written, a failed read is reported
+  pub record IsUntouched (why : Refusal) (old new : F) (began : Began S K E) (ended : Ended S K E) : Type 0 where
+    pub status : ended.status ≡ refused_status why
+    pub no_step : ended.schedule.threads ≡ []
+    pub input : ended.input ≡ began.input
+    pub output : ended.output ≡ began.output
+    pub line : PutsLine errors (errors.fault_count began.errors) ended.status began.errors ended.errors
+    pub unwritten : IsUnwritten files old new
+    pub reads_steady : why ≢ refusal.ReadFault → files.read_fault_count new ≡ files.read_fault_count old
 
--- the steps have a run, and are chosen as the mode says; the sinks got what the machine after them wrote, less at most a
--- part of the last entry's piece where a write failed; and that machine is at this end
-pub record HasRun {S K E : Type 0} (end : Status) (setup : Setup) (mode : Mode) (input : List ℕ)
-    (left : Left S K E) : Type 0 where
-  pub machine : Machine
-  pub ran : Runs (start_machine setup input) left.schedule machine
-  pub chosen : Chooses mode (start_machine setup input) left.schedule
-  pub faithful :
-      IsFaithful (is_cut (kept_by end)) (start_machine setup input) left.schedule
-      (left.output.tells left.output.old) (left.output.tells left.output.new)
-      (left.errors.tells left.errors.old) (left.errors.tells left.errors.new) machine
-  pub ends : EndsAs end mode machine left.schedule
+  -- ---- a machine was started, or memory for it was refused
 
--- The steps are some that the mode allows; without a step nothing was written; and where standard input told its bytes
--- there is that run.
-pub record IsLeft {S K E : Type 0} (end : Status) (setup : Setup) (mode : Mode) (left : Left S K E) : Type 0 where
-  pub allowed : Allows mode left.schedule
-  pub no_output : left.schedule ≡ [] → left.output.new ≡ left.output.old
-  pub no_errors : left.schedule ≡ [] → left.errors.new ≡ left.errors.old
-  pub has_run : IfSome (left.input.tells left.input.old) (λ input. HasRun end setup mode input left)
+  -- A run that was asked for. Its schedule is recorded if that is asked for, and then the status line is put.
+  pub record HasRun (asked : Asked) (old new : F) (began : Began S K E) (ended : Ended S K E) : Type 0 where
+    pub setup : Setup
+    pub mode : Mode
+    pub finish : Finish S K E
+    pub begins : BeginsAs asked (files.map old) setup mode
+    pub leaves : RunLeaves source sink errors setup mode began finish
+    pub records : Records files (record_of asked) finish.end finish.schedule.threads old new ended.status
+    pub line : PutsLine errors (errors.fault_count began.errors) ended.status finish.errors ended.errors
+    pub schedule : ended.schedule.threads ≡ finish.schedule.threads
+    pub input : ended.input ≡ finish.input
+    pub output : ended.output ≡ finish.output
+    pub reads_steady : files.read_fault_count new ≡ files.read_fault_count old
 
--- a fault ends the run, and comes of its own stream alone
-pub record AreCounted {S K E : Type 0} (end : Status) (left : Left S K E) : Type 0 where
-  pub read_fault : end ≡ ReadFault → HasFailed left.input
-  pub reads_steady : end ≢ ReadFault → IsSteady left.input
-  pub write_fault : end ≡ WriteFault → HasFailed left.output ⊎ HasFailed left.errors
-  pub writes_steady : end ≢ WriteFault → IsSteady left.output × IsSteady left.errors
+  -- ---- the answer
 
--- A run that was asked for, and how it ended. No machine was started where memory for it was refused.
-pub record IsRun {F S K E : Type 0} (asked : Asked) (status : Status) (files : Store F)
-    (left : Left S K E) : Type 0 where
-  pub setup : Setup
-  pub mode : Mode
-  pub end : Status
-  pub asks : AsksFor asked (files.map files.old) setup mode
-  pub run : IsRunStatus end
-  pub is_left : IsLeft end setup mode left
-  pub counted : AreCounted end left
-  pub kept : IsKept (kept_of asked) end status left.schedule files
-  pub reads_steady : IsReadSteady files
+  -- what is answered and left if the words ask for this
+  pub data AnswersTo (asked : Asked) (old new : F) (began : Began S K E) (ended : Ended S K E) : Type 0 where
+    refused : (why : Refusal) → IsRefusal files asked why old new → IsUntouched why old new began ended →
+        AnswersTo asked old new began ended
+    ran : HasRun asked old new began ended → AnswersTo asked old new began ended
 
--- ---- the answer
+  -- what is answered and left, by the words
+  pub data IsAnswered (words : List (List ℕ)) (old new : F) (began : Began S K E) (ended : Ended S K E) : Type 0 where
+    unread : (why : Refusal) → IsWordRefusal why words → IsUntouched why old new began ended →
+        IsAnswered words old new began ended
+    read : (asked : Asked) → WordsAskFor words asked → AnswersTo asked old new began ended →
+        IsAnswered words old new began ended
 
--- what is answered and left where the words ask for this, but for the status line
-pub data AnswersTo {F S K E : Type 0} (asked : Asked) (status : Status) (files : Store F)
-    (left : Left S K E) : Type 0 where
-  refused : IsRefusal asked status files → IsUntouched status files left → AnswersTo asked status files left
-  ran : IsRun asked status files left → AnswersTo asked status files left
-
--- what is answered and left, by the words
-pub data Answers {F S K E : Type 0} (status : Status) (words : List (List ℕ)) (files : Store F)
-    (left : Left S K E) : Type 0 where
-  unread : IsWordRefusal status words → IsUntouched status files left → Answers status words files left
-  read : (asked : Asked) → WordsAskFor words asked → AnswersTo asked status files left → Answers status words files left
-
--- what is answered and left: standard error was `between` before the status line
-pub record IsAnswered {S K E : Type 0} (answers : Left S K E → Type 0) (status : Status) (left : Left S K E) : Type 0 where
-  pub between : E
-  pub answered : answers (with_errors left between)
-  pub told : IsTold left.errors.tells left.errors.faults (left.errors.faults left.errors.old) status between left.errors.new
-
--- wrong words are answered by `Usage`, where memory suffices to read them, and no others are
+-- wrong words are answered by `Usage`, if memory suffices to read them, and no others are
 pub record IsUsage (status : Status) (words : List (List ℕ)) : Type 0 where
   pub wrong : status ≡ Usage → (asked : Asked) → ¬ WordsAskFor words asked
   pub only : ((asked : Asked) → ¬ WordsAskFor words asked) → (status ≡ Usage) ⊎ (status ≡ NoMemory)

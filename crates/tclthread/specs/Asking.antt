@@ -1,6 +1,6 @@
 -- What a call asks for: its script, its schedule, and what its run begins with.
 use Rattle.std.specs.Prelude.{◌≡◌, ◌⊎◌, ℕ, List, [], Option, Some, None}
-use Rattle.tt_devices.specs.Names.{Names, Tells}
+use Rattle.tt_devices.specs.Names.{HasName, Names, Tells}
 use Rattle.tt_generate.specs.Workload.{workload_text}
 use Rattle.tt_interp.specs.declared.setup.Setup.{Setup}
 use Rattle.tt_schedule.specs.ScheduleText.{IsFirstWrong, IsScheduleText}
@@ -50,16 +50,11 @@ pub record BeginsReplay (named : Replay) (names : Option Names) (setup : Setup) 
   pub begins : setup ≡ replay_setup named script
   pub chosen : mode ≡ Replaying given
 
--- no file is read
-pub record BeginsGenerated (named : Generate) (setup : Setup) (mode : Mode) : Type 0 where
-  pub begins : setup ≡ generate_setup named
-  pub chosen : mode ≡ InTurn named.steps
-
--- a run that begins so, whose steps are chosen so
-abbrev pub AsksFor : Asked → Option Names → Setup → Mode → Type 0
-AsksFor (plain named) names setup mode = BeginsPlain named names setup mode
-AsksFor (replay named) names setup mode = BeginsReplay named names setup mode
-AsksFor (generate named) names setup mode = BeginsGenerated named setup mode
+-- a run that begins so, whose steps are chosen so; no file is read of one that is generated
+abbrev pub BeginsAs : Asked → Option Names → Setup → Mode → Type 0
+BeginsAs (plain named) names setup mode = BeginsPlain named names setup mode
+BeginsAs (replay named) names setup mode = BeginsReplay named names setup mode
+BeginsAs (generate named) names setup mode = (setup ≡ generate_setup named) × (mode ≡ InTurn named.steps)
 
 -- ---- what can be wrong with it
 
@@ -82,12 +77,17 @@ pub record IsWrongText (named : Replay) (names : Option Names) (place : ℕ) : T
   pub no_text : (threads : List ℕ) → ¬ (IsScheduleText text threads)
 
 abbrev pub HasWrongText : Asked → Option Names → (place : ℕ) → Type 0
-HasWrongText (plain named) names place = ⊥
 HasWrongText (replay named) names place = IsWrongText named names place
-HasWrongText (generate named) names place = ⊥
+HasWrongText asked names place = ⊥
 
--- ---- the file that keeps the schedule, if one does
-abbrev pub kept_of : Asked → Option (List ℕ)
-kept_of (plain named) = named.kept
-kept_of (replay named) = None
-kept_of (generate named) = named.kept
+-- a file can fail to be read if the script is there, which is read first; a generated run reads none
+abbrev pub MayFail : Asked → Option Names → Type 0
+MayFail (plain named) names = HasName names named.script
+MayFail (replay named) names = HasName names named.script
+MayFail (generate named) names = ⊥
+
+-- ---- the file under which the schedule is recorded, if one is
+abbrev pub record_of : Asked → Option (List ℕ)
+record_of (plain named) = named.kept
+record_of (replay named) = None
+record_of (generate named) = named.kept

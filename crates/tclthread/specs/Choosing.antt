@@ -1,5 +1,5 @@
 -- How the steps of a run are chosen.
-use Rattle.std.specs.Prelude.{◌≤◌, ⊤, ℕ, List, [], ◌∷◌, length, Option, Some, None}
+use Rattle.std.specs.Prelude.{◌≤◌, ⊤, ℕ, List, [], ◌∷◌, ◌++◌, length, Option, Some, None}
 use Rattle.tt_core.specs.Stage.{IsNextAfter}
 use Rattle.tt_machine.specs.Machine.{Machine, Steps}
 use Rattle.tt_core.specs.Parts.{IsFirstPart}
@@ -10,7 +10,7 @@ pub data Mode : Type 0 where
   InTurn : (steps : ℕ) → Mode
   Freely : (steps : ℕ) → Mode
 
--- the most steps, where no list is given
+-- the most steps, if no list is given
 abbrev pub limit_of : Mode → Option ℕ
 limit_of (Replaying given) = None
 limit_of (InTurn steps) = Some steps
@@ -31,8 +31,19 @@ pub data TakesTurns : (after : ℕ) → Machine → (schedule : List ℕ) → Ty
       TakesTurns thread new schedule →
       TakesTurns after old (thread ∷ schedule)
 
--- the machine before each step has a say in it where threads take turns
+-- the machine before each step has a say in it if threads take turns
 abbrev pub Chooses : Mode → (begun : Machine) → (schedule : List ℕ) → Type 0
 Chooses (Replaying given) begun schedule = ⊤
 Chooses (InTurn steps) begun schedule = TakesTurns 0 begun schedule
 Chooses (Freely steps) begun schedule = ⊤
+
+-- the thread of the last step, or this number if there is none
+abbrev pub last_of : (before : ℕ) → (schedule : List ℕ) → ℕ
+last_of before [] = before
+last_of before (thread ∷ schedule) = last_of thread schedule
+
+-- the thread of the next step: the list's next, the one that is next in turn, or any
+abbrev pub IsDue : Mode → Machine → (schedule : List ℕ) → (thread : ℕ) → Type 0
+IsDue (Replaying given) machine schedule thread = IsFirstPart (schedule ++ thread ∷ []) given
+IsDue (InTurn steps) machine schedule thread = IsNextAfter (last_of 0 schedule) (Some thread) machine
+IsDue (Freely steps) machine schedule thread = ⊤

@@ -1,12 +1,11 @@
 pub mod Answer
+pub mod AnswerLaws
 pub mod Asking
 pub mod Choosing
 pub mod Ended
 pub mod Ending
-pub mod Following
-pub mod Keeping
-pub mod Laws
-pub mod Left
 pub mod Lines
-pub mod Prepared
+pub mod Recording
+pub mod Running
 pub mod Status
+pub mod inside

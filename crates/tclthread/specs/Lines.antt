@@ -1,49 +1,48 @@
 -- The status line on standard error.
-use Rattle.std.specs.Prelude.{◌≡◌, ◌⊎◌, ℕ, List, [], ◌∷◌, ◌++◌, Option, codes}
+use Rattle.std.specs.Prelude.{◌≡◌, ◌⊎◌, ℕ, List, [], ◌∷◌, ◌++◌, codes}
 use Rattle.std.specs.Fmt.{decimal}
 use Rattle.tt_devices.specs.Faults.{Rises}
 use Rattle.tt_devices.specs.Streams.{Grows, GrowsByPart}
+use Rattle.tt_devices.specs.declared.sink.Sink.{Ghosts as OfSink}
 use Rattle.tclthread.specs.declared.status.Place.TheVariants.{Byte, Entry}
 use Rattle.tclthread.specs.declared.status.Status.{Status}
-use Rattle.tclthread.specs.declared.status.Status.TheVariants.{Done, Usage, NoFile, BadSchedule, ScheduleEnded, Stalled, StepLimit, ReadFault, WriteFault, NoMemory}
+use Rattle.tclthread.specs.declared.status.Status.TheVariants.{Done, Usage, NoFile, BadSchedule, ScheduleEnded, Stalled}
+use Rattle.tclthread.specs.declared.status.Status.TheVariants.{StepLimit, ReadFault, WriteFault, NoMemory}
 
--- what is told of each status
-abbrev pub message_of : Status → List ℕ
-message_of (Done code) = []
-message_of Usage =
+-- what is reported of each status
+abbrev pub status_message : Status → List ℕ
+status_message (Done code) = []
+status_message Usage =
     codes "usage: tclthread [--workers N] [--steps N] [--limit N] [--record FILE]" ++
     codes " [--replay FILE] [--generate NUMBER] SCRIPT [ARG ...]"
-message_of (NoFile name) = codes "no file " ++ name
-message_of (BadSchedule (Byte offset)) = codes "bad schedule at byte " ++ decimal offset
-message_of (BadSchedule (Entry number)) = codes "bad schedule at entry " ++ decimal number
-message_of ScheduleEnded = codes "schedule ended"
-message_of Stalled = codes "stalled"
-message_of (StepLimit steps) = codes "step limit " ++ decimal steps
-message_of ReadFault = codes "read fault"
-message_of WriteFault = codes "write fault"
-message_of NoMemory = codes "no memory"
+status_message (NoFile name) = codes "no file " ++ name
+status_message (BadSchedule (Byte offset)) = codes "bad schedule at byte " ++ decimal offset
+status_message (BadSchedule (Entry number)) = codes "bad schedule at entry " ++ decimal number
+status_message ScheduleEnded = codes "schedule ended"
+status_message Stalled = codes "stalled"
+status_message (StepLimit steps) = codes "step limit " ++ decimal steps
+status_message ReadFault = codes "read fault"
+status_message WriteFault = codes "write fault"
+status_message NoMemory = codes "no memory"
 
--- a line: the program's name, what is told, and a newline
+-- a line: the program's name, what is reported, and a newline
 abbrev pub framed : (message : List ℕ) → List ℕ
 framed message = codes "tclthread: " ++ (message ++ (10 ∷ []))
 
 abbrev pub line_of : Status → List ℕ
-line_of status = framed (message_of status)
+line_of status = framed (status_message status)
 
--- nothing is told of a run that is over, or after a failure of standard error, whose count was this when the call began
-abbrev pub IsSilent : {E : Type 0} → (faults : E → ℕ) → (before : ℕ) → Status → E → Type 0
-IsSilent faults before status errors =
-    ((code : ℕ) × (status ≡ Done code)) ⊎ ((status ≡ WriteFault) × Rises before (faults errors))
+module _ {E : Type 0} (errors : OfSink E) where
+  -- a run that is over has no line, and after a failure of standard error nothing is put: its count of faults was this
+  -- when the call began
+  abbrev pub HasNoLine : (before : ℕ) → Status → E → Type 0
+  HasNoLine before status sink = ((code : ℕ) × (status ≡ Done code)) ⊎ Rises before (errors.fault_count sink)
 
--- what standard error got last, by what it tells and by its count of faults
-pub data IsTold {E : Type 0} (got : E → Option (List ℕ)) (faults : E → ℕ) (before : ℕ) (status : Status)
-    (old new : E) : Type 0 where
-  silent : IsSilent faults before status old → new ≡ old → IsTold got faults before status old new
-  -- the line
-  whole : ¬ IsSilent faults before status old → Grows (got old) (got new) (line_of status) →
-      faults new ≡ faults old →
-      IsTold got faults before status old new
-  -- a first part of it, where standard error failed
-  part : ¬ IsSilent faults before status old → GrowsByPart (got old) (got new) (line_of status) →
-      Rises (faults old) (faults new) →
-      IsTold got faults before status old new
+  -- the line of a call is put last on standard error, as far as that takes it
+  pub data PutsLine (before : ℕ) (status : Status) (old new : E) : Type 0 where
+    silent : HasNoLine before status old → new ≡ old → PutsLine before status old new
+    whole : ¬ HasNoLine before status old → Grows (errors.got old) (errors.got new) (line_of status) →
+        errors.fault_count new ≡ errors.fault_count old → PutsLine before status old new
+    -- a first part of it, if standard error fails then
+    part : ¬ HasNoLine before status old → GrowsByPart (errors.got old) (errors.got new) (line_of status) →
+        Rises (errors.fault_count old) (errors.fault_count new) → PutsLine before status old new

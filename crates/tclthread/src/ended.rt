@@ -1,5 +1,20 @@
-use crate::status::Status;
+use crate::status::{End, Status};
 use tt_schedule::Schedule;
+
+/// How a run finished, and what it leaves.
+#[derive(Debug, Drop)]
+pub struct Finish<S, K, E> {
+    /// How it ended.
+    pub end: End,
+    /// The steps that were taken, in order.
+    pub schedule: Schedule,
+    /// Standard input.
+    pub input: S,
+    /// Standard output.
+    pub output: K,
+    /// Standard error.
+    pub errors: E,
+}
 
 /// What a call of the program leaves.
 #[derive(Debug, Drop)]

@@ -1,13 +1,15 @@
 //! What holds of the definitions.
-ghost use Rattle.tclthread.specs.Laws.{OneAnswerLaw, ReplayLaw};
+ghost use Rattle.tclthread.specs.AnswerLaws.{OneAnswerLaw, ReplayLaw};
 
-/// Two answers to the same words, files and input, neither of which is a fault or want of memory, are the same, and so
-/// are the steps: of a plain run, where the steps are the same.
-pub fn one_answer<F, S, K, E>()
-    ensures { OneAnswerLaw F S K E }
+use tt_devices::{Files, Sink, Source};
+
+/// Two answers to the same words, files and input, neither of which is a fault or out of memory, are the same, and so
+/// are the steps: of a plain run, if the steps are the same.
+pub fn one_answer<F: Files, S: Source, K: Sink, E: Sink>()
+    ensures { OneAnswerLaw F.Files S.Source K.Sink E.Sink }
 {}
 
 /// A run is replayed after its own schedule with the same steps and the same bytes.
-pub fn kept_runs_are_replayed<F, S, K, E>()
-    ensures { ReplayLaw F S K E }
+pub fn recorded_runs_are_replayed<F: Files, S: Source, K: Sink, E: Sink>()
+    ensures { ReplayLaw F.Files S.Source K.Sink E.Sink }
 {}

@@ -2,7 +2,7 @@ ghost use Rattle.std.specs.Prelude.{◌≡◌, ◌++◌, ◌↔◌, OnOk, OnErr,
 ghost use Rattle.std.specs.Fmt.{decimal};
 ghost use Rattle.tt_devices.specs.Faults.{Rises};
 ghost use Rattle.tt_devices.specs.Streams.{Grows, GrowsByPart};
-ghost use Rattle.tclthread.specs.Lines.{IsSilent, IsTold, framed, line_of};
+ghost use Rattle.tclthread.specs.Lines.{HasNoLine, PutsLine, framed, line_of};
 
 use crate::status::{Place, Status};
 use itoa::Buffer;
@@ -11,24 +11,20 @@ use tt_words::USAGE;
 
 /// Puts the status line, for every status but `Done`. `before` is the count of faults of standard error when the call
 /// began: after a failure nothing is put. It takes no memory.
-pub(crate) fn tell<E: Sink>(status: &Status, before: u64, errors: &mut E)
-    ensures { IsTold E.got E.fault_count before status.now errors.old errors.new }
+pub(crate) fn put_status<E: Sink>(status: &Status, before: u64, errors: &mut E)
+    ensures { PutsLine E.Sink before status.now errors.old errors.new }
 {
-    if is_silent(status, before, errors) {
+    if has_no_line(status, before, errors) {
         return;
     }
     let _ = put_line(status, errors);
 }
 
-/// Whether nothing is told.
-fn is_silent<E: Sink>(status: &Status, before: u64, errors: &E) -> bool
-    ensures { IsTrue result ↔ IsSilent E.fault_count before status.now errors.now }
+/// Whether nothing is put.
+fn has_no_line<E: Sink>(status: &Status, before: u64, errors: &E) -> bool
+    ensures { IsTrue result ↔ HasNoLine E.Sink before status.now errors.now }
 {
-    match status {
-        Status::Done(_) => true,
-        Status::WriteFault => has_risen(before, errors.faults()),
-        _ => false,
-    }
+    matches!(status, Status::Done(_)) || has_risen(before, errors.faults())
 }
 
 /// Whether a count of faults rose, or stands at its greatest.
@@ -62,7 +58,8 @@ fn put_line<E: Sink>(status: &Status, errors: &mut E) -> Result<(), Failed>
 /// Puts the line of a wrong place.
 fn put_place<E: Sink>(errors: &mut E, place: Place) -> Result<(), Failed>
     ensures put { OnOk result (Grows (E.got errors.old) (E.got errors.new) (line_of (Status.BadSchedule place))) }
-    ensures part { OnErr result (GrowsByPart (E.got errors.old) (E.got errors.new) (line_of (Status.BadSchedule place))) }
+    ensures part { OnErr result
+        (GrowsByPart (E.got errors.old) (E.got errors.new) (line_of (Status.BadSchedule place))) }
     ensures steady { OnOk result (E.fault_count errors.new ≡ E.fault_count errors.old) }
     ensures cause { OnErr result (Rises (E.fault_count errors.old) (E.fault_count errors.new)) }
 {
@@ -75,7 +72,8 @@ fn put_place<E: Sink>(errors: &mut E, place: Place) -> Result<(), Failed>
 /// Puts a line of words and a number.
 fn put_number<E: Sink>(errors: &mut E, words: &[u8], number: u64) -> Result<(), Failed>
     ensures put { OnOk result (Grows (E.got errors.old) (E.got errors.new) (framed (words.now ++ decimal number))) }
-    ensures part { OnErr result (GrowsByPart (E.got errors.old) (E.got errors.new) (framed (words.now ++ decimal number))) }
+    ensures part { OnErr result
+        (GrowsByPart (E.got errors.old) (E.got errors.new) (framed (words.now ++ decimal number))) }
     ensures steady { OnOk result (E.fault_count errors.new ≡ E.fault_count errors.old) }
     ensures cause { OnErr result (Rises (E.fault_count errors.old) (E.fault_count errors.new)) }
 {

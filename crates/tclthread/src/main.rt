@@ -3,10 +3,11 @@
 
 mod alone;
 mod ended;
-mod keep;
 pub mod laws;
 mod line;
 mod prepare;
+mod program;
+mod recording;
 mod run;
 mod session;
 mod status;
@@ -14,31 +15,19 @@ mod status;
 mod tests;
 mod words;
 
-use ended::Ended;
-use line::tell;
-use session::session;
+use program::program;
+use std::env;
 use std::process::ExitCode;
-use tt_devices::{OpenGate, RealFiles, StdSink, StdSource, SystemDisk};
-use words::words;
+use tt_devices::{RealFiles, StdSink, StdSource, SystemDisk};
 
 fn main(rt: HostRuntime) -> ExitCode {
-    let words = match words(&rt) {
-        Ok(words) => words,
-        Err(status) => {
-            tell(&status, 0, &mut StdSink::new(rt.stderr()));
-            return ExitCode::from(status.exit());
-        }
-    };
-    let mut files = RealFiles::new(SystemDisk::new(&rt));
-    let Ended { status, .. } = session(
+    let (code, _) = program(
         &rt,
-        rt.alloc(),
-        &words,
-        &mut files,
+        env::args(&rt),
+        &mut RealFiles::new(SystemDisk::new(&rt)),
         StdSource::new(rt.stdin()),
         StdSink::new(rt.stdout()),
         StdSink::new(rt.stderr()),
-        &OpenGate,
     );
-    ExitCode::from(status.exit())
+    code
 }

@@ -6,11 +6,11 @@ ghost use Rattle.tt_words.specs.Asked.{WordsAskFor};
 ghost use Rattle.tt_words.specs.Asked as words_asked;
 ghost use Rattle.tt_words.specs.CodeValues.{text_of, told_asked, told_generate, told_plain, told_replay};
 ghost use Rattle.tclthread.specs.Answer.{IsRefusal, IsWordRefusal};
-ghost use Rattle.tclthread.specs.Asking.{BeginsGenerated, BeginsPlain, BeginsReplay};
-ghost use Rattle.tclthread.specs.Choosing.{Freely, InTurn, Replaying};
-ghost use Rattle.tclthread.specs.Prepared.{IsFileRefusal};
+ghost use Rattle.tclthread.specs.Asking.{BeginsPlain, BeginsReplay, generate_setup};
+ghost use Rattle.tclthread.specs.Choosing.{Freely, Replaying};
+ghost use Rattle.tclthread.specs.inside.Following.{IsFileRefusal};
 
-use crate::status::{Place, Status};
+use crate::status::Refusal;
 use std::alloc::Global;
 use tt_core::Setup;
 use tt_devices::{Files, ReadAnswer};
@@ -21,45 +21,41 @@ use tt_words::{Asked, Generate, Plain, Replay, read_words};
 
 /// What the words ask for.
 ///
-/// `Usage` exactly where they ask for nothing, and `NoMemory` where memory to read them is refused.
-pub(crate) fn ask(alloc: Global, words: &[String]) -> Result<Asked<'_>, Status>
+/// `Usage` exactly if they ask for nothing, and `NoMemory` if memory to read them is refused.
+pub(crate) fn ask(alloc: Global, words: &[String]) -> Result<Asked<'_>, Refusal>
     ensures asked { IfOk result (λ asked. WordsAskFor (map string_bytes words.now) (told_asked asked)) }
-    ensures refused { IfErr result (λ status. IsWordRefusal status (map string_bytes words.now)) }
+    ensures refused { IfErr result (λ why. IsWordRefusal why (map string_bytes words.now)) }
 {
     match read_words(alloc, words) {
         Ok(Some(asked)) => Ok(asked),
-        Ok(None) => Err(Status::Usage),
-        Err(_) => Err(Status::NoMemory),
+        Ok(None) => Err(Refusal::Usage),
+        Err(_) => Err(Refusal::NoMemory),
     }
 }
 
 /// What a plain run begins with.
 ///
-/// Else the status that says why there is none.
+/// Else why there is none.
 pub(crate) fn prepare_plain<F: Files>(
     alloc: Global,
     plain: &Plain<'_>,
     files: &mut F,
-) -> Result<Setup, Status>
-    ensures ready { IfOk result (λ setup. BeginsPlain (told_plain plain.now) (F.map files.old) setup (Freely plain.now.steps)) }
-    ensures refused { IfErr result (λ status. IsRefusal (words_asked.plain (told_plain plain.now)) status (record {
-      map = F.map;
-      reads = F.read_fault_count;
-      writes = F.write_fault_count;
-      old = files.old;
-      new = files.new;
-    })) }
-    ensures steady { (result ≢ Err Status.ReadFault) → F.read_fault_count files.new ≡ F.read_fault_count files.old }
+) -> Result<Setup, Refusal>
+    ensures ready { IfOk result (λ setup.
+        BeginsPlain (told_plain plain.now) (F.map files.old) setup (Freely plain.now.steps)) }
+    ensures refused { IfErr result (λ why.
+        IsRefusal F.Files (words_asked.plain (told_plain plain.now)) why files.old files.new) }
+    ensures steady { (result ≢ Err Refusal.ReadFault) → F.read_fault_count files.new ≡ F.read_fault_count files.old }
     ensures same { F.map files.new ≡ F.map files.old }
     ensures no_write { F.write_fault_count files.new ≡ F.write_fault_count files.old }
 {
     let script = match read_file(alloc, files, plain.script) {
         Ok(script) => script,
-        Err(status) => return Err(status),
+        Err(why) => return Err(why),
     };
     match setup_of(alloc, &script, plain.script, &plain.arguments, plain.limit) {
         Ok(setup) => Ok(setup),
-        Err(_) => Err(Status::NoMemory),
+        Err(_) => Err(Refusal::NoMemory),
     }
 }
 
@@ -72,39 +68,34 @@ pub(crate) struct Prepared {
 
 /// What a replay begins with: reads the script, the schedule and its text, in this order.
 ///
-/// Else the status that says which of them is wrong.
+/// Else which of them is wrong.
 pub(crate) fn prepare_replay<F: Files>(
     alloc: Global,
     replay: &Replay<'_>,
     files: &mut F,
-) -> Result<Prepared, Status>
+) -> Result<Prepared, Refusal>
     ensures ready { IfOk result (λ prepared. BeginsReplay (told_replay replay.now) (F.map files.old) prepared.setup
         (Replaying prepared.given.threads)) }
-    ensures refused { IfErr result (λ status. IsRefusal (words_asked.replay (told_replay replay.now)) status (record {
-      map = F.map;
-      reads = F.read_fault_count;
-      writes = F.write_fault_count;
-      old = files.old;
-      new = files.new;
-    })) }
-    ensures steady { (result ≢ Err Status.ReadFault) → F.read_fault_count files.new ≡ F.read_fault_count files.old }
+    ensures refused { IfErr result (λ why.
+        IsRefusal F.Files (words_asked.replay (told_replay replay.now)) why files.old files.new) }
+    ensures steady { (result ≢ Err Refusal.ReadFault) → F.read_fault_count files.new ≡ F.read_fault_count files.old }
     ensures same { F.map files.new ≡ F.map files.old }
     ensures no_write { F.write_fault_count files.new ≡ F.write_fault_count files.old }
 {
     let script = match read_file(alloc, files, replay.script) {
         Ok(script) => script,
-        Err(status) => return Err(status),
+        Err(why) => return Err(why),
     };
     let text = match read_file(alloc, files, replay.schedule) {
         Ok(text) => text,
-        Err(status) => return Err(status),
+        Err(why) => return Err(why),
     };
     let Ok(read) = read(alloc, &text) else {
-        return Err(Status::NoMemory);
+        return Err(Refusal::NoMemory);
     };
     let given = match read {
         ReadSchedule::Read(given) => given,
-        ReadSchedule::Bad(fault) => return Err(Status::BadSchedule(Place::Byte(fault.place))),
+        ReadSchedule::Bad(fault) => return Err(Refusal::BadText(fault.place)),
     };
     let Ok(setup) = setup_of(
         alloc,
@@ -113,14 +104,14 @@ pub(crate) fn prepare_replay<F: Files>(
         &replay.arguments,
         replay.limit,
     ) else {
-        return Err(Status::NoMemory);
+        return Err(Refusal::NoMemory);
     };
     Ok(Prepared { setup, given })
 }
 
 /// What a run of a script begins with that is made of a number.
 pub(crate) fn prepare_generated(alloc: Global, generate: &Generate<'_>) -> Result<Setup, NoMemory>
-    ensures { IfOk result (λ setup. BeginsGenerated (told_generate generate.now) setup (InTurn generate.now.steps)) }
+    ensures { IfOk result (λ setup. setup ≡ generate_setup (told_generate generate.now)) }
 {
     Ok(Setup {
         script: workload(alloc, generate.number, generate.size)?,
@@ -163,29 +154,30 @@ fn texts(alloc: Global, words: &[&str]) -> Result<Texts, NoMemory>
 }
 /// The bytes of a file.
 ///
-/// Else the status that says why there are none.
-fn read_file<F: Files>(alloc: Global, files: &mut F, name: &str) -> Result<Vec<u8>, Status>
+/// Else why there are none.
+fn read_file<F: Files>(alloc: Global, files: &mut F, name: &str) -> Result<Vec<u8>, Refusal>
     ensures found { IfOk result (λ bytes. Tells (F.map files.old) name.now (Some bytes.items)) }
-    ensures refused { IfErr result (λ status. IsFileRefusal status (F.map files.old) name.now) }
-    ensures cause { IsErrOf result Status.ReadFault → Rises (F.read_fault_count files.old) (F.read_fault_count files.new) }
-    ensures steady { (result ≢ Err Status.ReadFault) → F.read_fault_count files.new ≡ F.read_fault_count files.old }
+    ensures refused { IfErr result (λ why. IsFileRefusal why (F.map files.old) name.now) }
+    ensures cause { IsErrOf result Refusal.ReadFault →
+        Rises (F.read_fault_count files.old) (F.read_fault_count files.new) }
+    ensures steady { (result ≢ Err Refusal.ReadFault) → F.read_fault_count files.new ≡ F.read_fault_count files.old }
     ensures same { F.map files.new ≡ F.map files.old }
     ensures no_write { F.write_fault_count files.new ≡ F.write_fault_count files.old }
 {
     match files.read(alloc, name) {
         Ok(bytes) => Ok(bytes),
         Err(ReadAnswer::Missing) => Err(missing(alloc, name)),
-        Err(ReadAnswer::Failed) => Err(Status::ReadFault),
-        Err(ReadAnswer::NoMemory) => Err(Status::NoMemory),
+        Err(ReadAnswer::Failed) => Err(Refusal::ReadFault),
+        Err(ReadAnswer::NoMemory) => Err(Refusal::NoMemory),
     }
 }
 
 /// That there is no file of this name.
-fn missing(alloc: Global, name: &str) -> Status
-    ensures { (result ≡ Status.NoFile name.now) ⊎ (result ≡ Status.NoMemory) }
+fn missing(alloc: Global, name: &str) -> Refusal
+    ensures { (result ≡ Refusal.NoFile name.now) ⊎ (result ≡ Refusal.NoMemory) }
 {
     match Text::from_bytes(alloc, name.as_bytes()) {
-        Ok(name) => Status::NoFile(name),
-        Err(_) => Status::NoMemory,
+        Ok(name) => Refusal::NoFile(name),
+        Err(_) => Refusal::NoMemory,
     }
 }

@@ -3,12 +3,12 @@ ghost use Rattle.tt_core.specs.Stage.{SameBeginning};
 ghost use Rattle.tt_devices.specs.Faults.{Rises};
 ghost use Rattle.tt_schedule.specs.ScheduleText.{most_steps};
 ghost use Rattle.tclthread.specs.Choosing.{Allows, Chooses, InTurn, Replaying};
-ghost use Rattle.tclthread.specs.Ending.{EndsAs, IsRunStatus, kept_by};
-ghost use Rattle.tclthread.specs.Following.{AtRun, HasRoom, mode_of};
-ghost use Rattle.tclthread.specs.Prepared.{RanOrIdle};
+ghost use Rattle.tclthread.specs.Ending.{EndsAs, cause_of};
+ghost use Rattle.tclthread.specs.Running.{RunLeaves};
+ghost use Rattle.tclthread.specs.inside.Following.{AtRun, HasRoom, mode_of};
 
-use crate::ended::Ended;
-use crate::status::{Place, Status};
+use crate::ended::Finish;
+use crate::status::End;
 use std::alloc::Global;
 use tt_core::{Setup, StepFault, System};
 use tt_devices::{Sink, Source};
@@ -31,35 +31,24 @@ pub(crate) fn run<S: Source, K: Sink, E: Sink>(
     input: S,
     output: K,
     errors: E,
-) -> Ended<S, K, E>
+) -> Finish<S, K, E>
     requires { HasRoom course.now }
-    ensures left { RanOrIdle result.status setup (mode_of course.now) (record {
-      schedule = result.schedule.threads;
-      input = record { tells = S.held; faults = S.fault_count; old = input; new = result.input };
-      output = record { tells = K.got; faults = K.fault_count; old = output; new = result.output };
-      errors = record { tells = E.got; faults = E.fault_count; old = errors; new = result.errors };
-    }) }
-    ensures ran { IsRunStatus result.status }
-    ensures read_fault { result.status ≡ Status.ReadFault → Rises (S.fault_count input) (S.fault_count result.input) }
-    ensures reads_steady { result.status ≢ Status.ReadFault → S.fault_count result.input ≡ S.fault_count input }
-    ensures write_fault { result.status ≡ Status.WriteFault →
-        Rises (K.fault_count output) (K.fault_count result.output) ⊎ Rises (E.fault_count errors) (E.fault_count result.errors) }
-    ensures writes_steady { result.status ≢ Status.WriteFault →
-        (K.fault_count result.output ≡ K.fault_count output) × (E.fault_count result.errors ≡ E.fault_count errors) }
+    ensures { RunLeaves S.Source K.Sink E.Sink setup (mode_of course.now)
+        (record { input = input; output = output; errors = errors }) result }
 {
     match System::new(alloc, setup, input, output, errors) {
-        Err(fault) => Ended {
-            status: Status::NoMemory,
+        Err(fault) => Finish {
+            end: End::NoMemory,
             schedule: Schedule::new(alloc),
             input: fault.input,
             output: fault.output,
             errors: fault.errors,
         },
         Ok(mut system) => {
-            let status = take(&mut system, course);
+            let end = take(&mut system, course);
             let (schedule, input, output, errors) = system.finish();
-            Ended {
-                status,
+            Finish {
+                end,
                 schedule,
                 input,
                 output,
@@ -70,25 +59,26 @@ pub(crate) fn run<S: Source, K: Sink, E: Sink>(
 }
 
 /// Takes the steps.
-fn take<S: Source, K: Sink, E: Sink>(system: &mut System<S, K, E>, course: &Course) -> Status
+fn take<S: Source, K: Sink, E: Sink>(system: &mut System<S, K, E>, course: &Course) -> End
     requires fresh { system.old.desk.schedule ≡ [] }
     requires going { system.old.desk.kept ≡ None }
     requires room { HasRoom course.now }
     ensures allowed { Allows (mode_of course.now) system.new.desk.schedule }
     ensures ends { AtRun S.held system.new (λ begun machine. Chooses (mode_of course.now) begun system.new.desk.schedule
         × EndsAs result (mode_of course.now) machine system.new.desk.schedule) }
-    ensures no_output { system.new.desk.schedule ≡ [] → system.new.desk.devices.output ≡ system.old.desk.devices.output }
-    ensures no_errors { system.new.desk.schedule ≡ [] → system.new.desk.devices.errors ≡ system.old.desk.devices.errors }
-    ensures kept { system.new.desk.kept ≡ kept_by result }
-    ensures ran { IsRunStatus result }
-    ensures read_fault { result ≡ Status.ReadFault →
+    ensures no_output { system.new.desk.schedule ≡ [] →
+        system.new.desk.devices.output ≡ system.old.desk.devices.output }
+    ensures no_errors { system.new.desk.schedule ≡ [] →
+        system.new.desk.devices.errors ≡ system.old.desk.devices.errors }
+    ensures kept { system.new.desk.kept ≡ cause_of result }
+    ensures read_fault { result ≡ End.ReadFault →
         Rises (S.fault_count system.old.desk.devices.input) (S.fault_count system.new.desk.devices.input) }
-    ensures reads_steady { result ≢ Status.ReadFault →
+    ensures reads_steady { result ≢ End.ReadFault →
         S.fault_count system.new.desk.devices.input ≡ S.fault_count system.old.desk.devices.input }
-    ensures write_fault { result ≡ Status.WriteFault →
+    ensures write_fault { result ≡ End.WriteFault →
         Rises (K.fault_count system.old.desk.devices.output) (K.fault_count system.new.desk.devices.output)
         ⊎ Rises (E.fault_count system.old.desk.devices.errors) (E.fault_count system.new.desk.devices.errors) }
-    ensures writes_steady { result ≢ Status.WriteFault →
+    ensures writes_steady { result ≢ End.WriteFault →
         (K.fault_count system.new.desk.devices.output ≡ K.fault_count system.old.desk.devices.output)
         × (E.fault_count system.new.desk.devices.errors ≡ E.fault_count system.old.desk.devices.errors) }
     ensures same_beginning { SameBeginning system.old system.new }
@@ -100,23 +90,25 @@ fn take<S: Source, K: Sink, E: Sink>(system: &mut System<S, K, E>, course: &Cour
 }
 
 /// Takes the steps of the schedule, as far as they go.
-fn follow<S: Source, K: Sink, E: Sink>(system: &mut System<S, K, E>, given: &Schedule) -> Status
+fn follow<S: Source, K: Sink, E: Sink>(system: &mut System<S, K, E>, given: &Schedule) -> End
     requires fresh { system.old.desk.schedule ≡ [] }
     requires going { system.old.desk.kept ≡ None }
     ensures allowed { Allows (Replaying given.now.threads) system.new.desk.schedule }
-    ensures ends { AtRun S.held system.new (λ begun machine. EndsAs result (Replaying given.now.threads) machine system.new.desk.schedule) }
-    ensures no_output { system.new.desk.schedule ≡ [] → system.new.desk.devices.output ≡ system.old.desk.devices.output }
-    ensures no_errors { system.new.desk.schedule ≡ [] → system.new.desk.devices.errors ≡ system.old.desk.devices.errors }
-    ensures kept { system.new.desk.kept ≡ kept_by result }
-    ensures ran { IsRunStatus result }
-    ensures read_fault { result ≡ Status.ReadFault →
+    ensures ends { AtRun S.held system.new (λ begun machine.
+        EndsAs result (Replaying given.now.threads) machine system.new.desk.schedule) }
+    ensures no_output { system.new.desk.schedule ≡ [] →
+        system.new.desk.devices.output ≡ system.old.desk.devices.output }
+    ensures no_errors { system.new.desk.schedule ≡ [] →
+        system.new.desk.devices.errors ≡ system.old.desk.devices.errors }
+    ensures kept { system.new.desk.kept ≡ cause_of result }
+    ensures read_fault { result ≡ End.ReadFault →
         Rises (S.fault_count system.old.desk.devices.input) (S.fault_count system.new.desk.devices.input) }
-    ensures reads_steady { result ≢ Status.ReadFault →
+    ensures reads_steady { result ≢ End.ReadFault →
         S.fault_count system.new.desk.devices.input ≡ S.fault_count system.old.desk.devices.input }
-    ensures write_fault { result ≡ Status.WriteFault →
+    ensures write_fault { result ≡ End.WriteFault →
         Rises (K.fault_count system.old.desk.devices.output) (K.fault_count system.new.desk.devices.output)
         ⊎ Rises (E.fault_count system.old.desk.devices.errors) (E.fault_count system.new.desk.devices.errors) }
-    ensures writes_steady { result ≢ Status.WriteFault →
+    ensures writes_steady { result ≢ End.WriteFault →
         (K.fault_count system.new.desk.devices.output ≡ K.fault_count system.old.desk.devices.output)
         × (E.fault_count system.new.desk.devices.errors ≡ E.fault_count system.old.desk.devices.errors) }
     ensures same_beginning { SameBeginning system.old system.new }
@@ -124,39 +116,40 @@ fn follow<S: Source, K: Sink, E: Sink>(system: &mut System<S, K, E>, given: &Sch
     for place in 0..given.len() {
         match system.step(given.at(place)) {
             Ok(()) => {}
-            Err(StepFault::NotEnabled) => return Status::BadSchedule(Place::Entry(place + 1)),
-            Err(StepFault::ReadFault) => return Status::ReadFault,
-            Err(StepFault::WriteFault) => return Status::WriteFault,
-            Err(StepFault::NoMemory) => return Status::NoMemory,
+            Err(StepFault::NotEnabled) => return End::Barred(place + 1),
+            Err(StepFault::ReadFault) => return End::ReadFault,
+            Err(StepFault::WriteFault) => return End::WriteFault,
+            Err(StepFault::NoMemory) => return End::NoMemory,
         }
     }
     match system.ended() {
-        Some(code) => Status::Done(code),
-        None => Status::ScheduleEnded,
+        Some(code) => End::Done(code),
+        None => End::ScheduleEnded,
     }
 }
 
 /// Lets the threads take their steps in turn: the first that can take one, and after each the next above it that can,
 /// or else the first of all. There are at most so many steps.
-fn take_turns<S: Source, K: Sink, E: Sink>(system: &mut System<S, K, E>, steps: u32) -> Status
+fn take_turns<S: Source, K: Sink, E: Sink>(system: &mut System<S, K, E>, steps: u32) -> End
     requires fresh { system.old.desk.schedule ≡ [] }
     requires going { system.old.desk.kept ≡ None }
     requires room { steps ≤ most_steps }
     ensures allowed { Allows (InTurn steps) system.new.desk.schedule }
     ensures ends { AtRun S.held system.new (λ begun machine. Chooses (InTurn steps) begun system.new.desk.schedule
         × EndsAs result (InTurn steps) machine system.new.desk.schedule) }
-    ensures no_output { system.new.desk.schedule ≡ [] → system.new.desk.devices.output ≡ system.old.desk.devices.output }
-    ensures no_errors { system.new.desk.schedule ≡ [] → system.new.desk.devices.errors ≡ system.old.desk.devices.errors }
-    ensures kept { system.new.desk.kept ≡ kept_by result }
-    ensures ran { IsRunStatus result }
-    ensures read_fault { result ≡ Status.ReadFault →
+    ensures no_output { system.new.desk.schedule ≡ [] →
+        system.new.desk.devices.output ≡ system.old.desk.devices.output }
+    ensures no_errors { system.new.desk.schedule ≡ [] →
+        system.new.desk.devices.errors ≡ system.old.desk.devices.errors }
+    ensures kept { system.new.desk.kept ≡ cause_of result }
+    ensures read_fault { result ≡ End.ReadFault →
         Rises (S.fault_count system.old.desk.devices.input) (S.fault_count system.new.desk.devices.input) }
-    ensures reads_steady { result ≢ Status.ReadFault →
+    ensures reads_steady { result ≢ End.ReadFault →
         S.fault_count system.new.desk.devices.input ≡ S.fault_count system.old.desk.devices.input }
-    ensures write_fault { result ≡ Status.WriteFault →
+    ensures write_fault { result ≡ End.WriteFault →
         Rises (K.fault_count system.old.desk.devices.output) (K.fault_count system.new.desk.devices.output)
         ⊎ Rises (E.fault_count system.old.desk.devices.errors) (E.fault_count system.new.desk.devices.errors) }
-    ensures writes_steady { result ≢ Status.WriteFault →
+    ensures writes_steady { result ≢ End.WriteFault →
         (K.fault_count system.new.desk.devices.output ≡ K.fault_count system.old.desk.devices.output)
         × (E.fault_count system.new.desk.devices.errors ≡ E.fault_count system.old.desk.devices.errors) }
     ensures same_beginning { SameBeginning system.old system.new }
@@ -165,24 +158,24 @@ fn take_turns<S: Source, K: Sink, E: Sink>(system: &mut System<S, K, E>, steps: 
     for _ in 0..steps {
         let Some(thread) = system.next_enabled(last) else {
             return match system.ended() {
-                Some(code) => Status::Done(code),
-                None => Status::Stalled,
+                Some(code) => End::Done(code),
+                None => End::Stalled,
             };
         };
         match system.step(thread) {
             Ok(()) => last = thread,
             // Who was found able to take a step takes it.
-            Err(StepFault::NotEnabled) => return Status::Stalled,
-            Err(StepFault::ReadFault) => return Status::ReadFault,
-            Err(StepFault::WriteFault) => return Status::WriteFault,
-            Err(StepFault::NoMemory) => return Status::NoMemory,
+            Err(StepFault::NotEnabled) => return End::Stalled,
+            Err(StepFault::ReadFault) => return End::ReadFault,
+            Err(StepFault::WriteFault) => return End::WriteFault,
+            Err(StepFault::NoMemory) => return End::NoMemory,
         }
     }
     match system.next_enabled(last) {
-        Some(_) => Status::StepLimit(u64::from(steps)),
+        Some(_) => End::StepLimit(u64::from(steps)),
         None => match system.ended() {
-            Some(code) => Status::Done(code),
-            None => Status::Stalled,
+            Some(code) => End::Done(code),
+            None => End::Stalled,
         },
     }
 }

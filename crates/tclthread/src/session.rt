@@ -1,20 +1,18 @@
-ghost use Rattle.std.specs.Prelude.{◌≡◌, ◌≢◌, ◌≤◌, ◌⊎◌, map, string_bytes};
-ghost use Rattle.tt_devices.specs.Faults.{Rises};
+ghost use Rattle.std.specs.Prelude.{◌≡◌, ◌≤◌, map, string_bytes};
 ghost use Rattle.tt_schedule.specs.ScheduleText.{most_steps};
 ghost use Rattle.tt_words.specs.Asked.{WordsAskFor};
 ghost use Rattle.tt_words.specs.Asked as words_asked;
 ghost use Rattle.tt_words.specs.CodeValues.{told_plain};
-ghost use Rattle.tclthread.specs.Answer.{Answers, AnswersTo, IsAnswered, IsUsage};
+ghost use Rattle.tclthread.specs.Answer.{AnswersTo, IsAnswered, IsUsage};
 ghost use Rattle.tclthread.specs.Choosing.{Freely};
-ghost use Rattle.tclthread.specs.Ending.{IsRunStatus};
-ghost use Rattle.tclthread.specs.Ending as ending;
-ghost use Rattle.tclthread.specs.Prepared.{RanOrIdle};
+ghost use Rattle.tclthread.specs.Running.{RunLeaves};
+ghost use Rattle.tclthread.specs.inside.Following.{worker_end};
 
 use crate::alone::{alone, refuse};
-use crate::ended::{Alone, Ended};
-use crate::keep::close;
+use crate::ended::{Alone, Ended, Finish};
 use crate::prepare::{ask, prepare_plain};
-use crate::status::Status;
+use crate::recording::close;
+use crate::status::End;
 use std::alloc::Global;
 use std::sync::Wait;
 use std::thread::Threads;
@@ -23,7 +21,7 @@ use tt_devices::{Files, Gate, Sink, Source};
 use tt_words::{Asked, Plain};
 use tt_workers::{Ran, RunEnd, run};
 
-/// Runs a script as the words say, over these files and streams, and tells on standard error how that ended.
+/// Runs a script as the words say, over these files and streams, and reports on standard error how that ended.
 ///
 /// The words are those of `tt_words::read_words`. With `--replay` the steps are those of a schedule, and with
 /// `--generate` the threads take their steps in turn; else workers carry the threads, whose steps come in any order. A
@@ -46,14 +44,8 @@ pub fn session<
     gate: &G,
 ) -> Ended<S, K, E>
     // What is answered, and what is left of the run.
-    ensures answer { IsAnswered
-        (Answers result.status (map string_bytes words.now) (record { map = F.map; reads = F.read_fault_count; writes = F.write_fault_count; old = files.old; new = files.new }))
-        result.status (record {
-          schedule = result.schedule.threads;
-          input = record { tells = S.held; faults = S.fault_count; old = input; new = result.input };
-          output = record { tells = K.got; faults = K.fault_count; old = output; new = result.output };
-          errors = record { tells = E.got; faults = E.fault_count; old = errors; new = result.errors };
-        }) }
+    ensures answer { IsAnswered F.Files S.Source K.Sink E.Sink (map string_bytes words.now)
+        files.old files.new (record { input = input; output = output; errors = errors }) result }
     ensures usage { IsUsage result.status (map string_bytes words.now) }
 {
     match alone(alloc, words, files, input, output, errors) {
@@ -83,17 +75,11 @@ fn plain<
     gate: &G,
 ) -> Ended<S, K, E>
     requires { (named : words_asked.Plain) × WordsAskFor (map string_bytes words.now) (words_asked.plain named) }
-    ensures { IsAnswered
-        (Answers result.status (map string_bytes words.now) (record { map = F.map; reads = F.read_fault_count; writes = F.write_fault_count; old = files.old; new = files.new }))
-        result.status (record {
-          schedule = result.schedule.threads;
-          input = record { tells = S.held; faults = S.fault_count; old = input; new = result.input };
-          output = record { tells = K.got; faults = K.fault_count; old = output; new = result.output };
-          errors = record { tells = E.got; faults = E.fault_count; old = errors; new = result.errors };
-        }) }
+    ensures { IsAnswered F.Files S.Source K.Sink E.Sink (map string_bytes words.now)
+        files.old files.new (record { input = input; output = output; errors = errors }) result }
 {
     match ask(alloc, words) {
-        Err(status) => refuse(alloc, status, input, output, errors),
+        Err(why) => refuse(alloc, why, input, output, errors),
         Ok(Asked::Plain(asked)) => start(rt, alloc, &asked, files, input, output, errors, gate),
         Ok(Asked::Replay(_)) => unreachable!(),
         Ok(Asked::Generate(_)) => unreachable!(),
@@ -120,20 +106,14 @@ fn start<
 ) -> Ended<S, K, E>
     requires workers { (1 ≤ asked.now.workers) × (asked.now.workers ≤ 64) }
     requires steps { (1 ≤ asked.now.steps) × (asked.now.steps ≤ most_steps) }
-    ensures { IsAnswered
-        (AnswersTo (words_asked.plain (told_plain asked.now)) result.status (record { map = F.map; reads = F.read_fault_count; writes = F.write_fault_count; old = files.old; new = files.new }))
-        result.status (record {
-          schedule = result.schedule.threads;
-          input = record { tells = S.held; faults = S.fault_count; old = input; new = result.input };
-          output = record { tells = K.got; faults = K.fault_count; old = output; new = result.output };
-          errors = record { tells = E.got; faults = E.fault_count; old = errors; new = result.errors };
-        }) }
+    ensures { AnswersTo F.Files S.Source K.Sink E.Sink (words_asked.plain (told_plain asked.now))
+        files.old files.new (record { input = input; output = output; errors = errors }) result }
 {
     let before = errors.faults();
     match prepare_plain(alloc, asked, files) {
-        Err(status) => refuse(alloc, status, input, output, errors),
+        Err(why) => refuse(alloc, why, input, output, errors),
         Ok(setup) => {
-            let ran = run_freely(
+            let finish = run_freely(
                 rt,
                 alloc,
                 setup,
@@ -144,7 +124,7 @@ fn start<
                 errors,
                 gate,
             );
-            close(alloc, asked.kept, files, before, ran)
+            close(alloc, asked.kept, files, before, finish)
         }
     }
 }
@@ -166,22 +146,11 @@ fn run_freely<
     output: K,
     errors: E,
     gate: &G,
-) -> Ended<S, K, E>
+) -> Finish<S, K, E>
     requires workers { (1 ≤ workers) × (workers ≤ 64) }
     requires steps { (1 ≤ steps) × (steps ≤ most_steps) }
-    ensures left { RanOrIdle result.status setup (Freely steps) (record {
-      schedule = result.schedule.threads;
-      input = record { tells = S.held; faults = S.fault_count; old = input; new = result.input };
-      output = record { tells = K.got; faults = K.fault_count; old = output; new = result.output };
-      errors = record { tells = E.got; faults = E.fault_count; old = errors; new = result.errors };
-    }) }
-    ensures ran { IsRunStatus result.status }
-    ensures read_fault { result.status ≡ Status.ReadFault → Rises (S.fault_count input) (S.fault_count result.input) }
-    ensures reads_steady { result.status ≢ Status.ReadFault → S.fault_count result.input ≡ S.fault_count input }
-    ensures write_fault { result.status ≡ Status.WriteFault →
-        Rises (K.fault_count output) (K.fault_count result.output) ⊎ Rises (E.fault_count errors) (E.fault_count result.errors) }
-    ensures writes_steady { result.status ≢ Status.WriteFault →
-        (K.fault_count result.output ≡ K.fault_count output) × (E.fault_count result.errors ≡ E.fault_count errors) }
+    ensures { RunLeaves S.Source K.Sink E.Sink setup (Freely steps)
+        (record { input = input; output = output; errors = errors }) result }
 {
     let Ran {
         end,
@@ -192,8 +161,8 @@ fn run_freely<
     } = run(
         rt, alloc, setup, input, output, errors, workers, steps, gate,
     );
-    Ended {
-        status: status_of(end, steps),
+    Finish {
+        end: end_of(end, steps),
         schedule,
         input,
         output,
@@ -201,16 +170,16 @@ fn run_freely<
     }
 }
 
-/// How a call ends whose run on workers ended so, in at most so many steps.
-fn status_of(end: RunEnd, steps: u32) -> Status
-    ensures { result ≡ ending.status_of end steps }
+/// How a run on workers ended, in at most so many steps.
+fn end_of(end: RunEnd, steps: u32) -> End
+    ensures { result ≡ worker_end end steps }
 {
     match end {
-        RunEnd::Over(code) => Status::Done(code),
-        RunEnd::Stuck => Status::Stalled,
-        RunEnd::Limit => Status::StepLimit(u64::from(steps)),
-        RunEnd::Read => Status::ReadFault,
-        RunEnd::Write => Status::WriteFault,
-        RunEnd::Memory => Status::NoMemory,
+        RunEnd::Over(code) => End::Done(code),
+        RunEnd::Stuck => End::Stalled,
+        RunEnd::Limit => End::StepLimit(u64::from(steps)),
+        RunEnd::Read => End::ReadFault,
+        RunEnd::Write => End::WriteFault,
+        RunEnd::Memory => End::NoMemory,
     }
 }

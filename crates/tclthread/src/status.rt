@@ -1,5 +1,5 @@
 ghost use Rattle.std.specs.Prelude.{◌≡◌};
-ghost use Rattle.tclthread.specs.Status.{exit_of};
+ghost use Rattle.tclthread.specs.Status.{ended_status, exit_of, refused_status};
 
 use tt_text::Text;
 
@@ -31,10 +31,79 @@ pub enum Status {
     StepLimit(u64),
     /// A file or standard input could not be read.
     ReadFault,
-    /// Standard output, standard error or the file that keeps the schedule could not be written.
+    /// Standard output, standard error or the file that records the schedule could not be written.
     WriteFault,
     /// Memory was refused.
     NoMemory,
+}
+
+/// How a run ended.
+#[derive(Clone, Copy, Debug, PartialEq, Eq)]
+pub enum End {
+    /// It is over, with this code.
+    Done(u8),
+    /// All steps of the schedule were taken, and it isn't over.
+    ScheduleEnded,
+    /// The thread of this entry of the schedule, counted from 1, can't take its step.
+    Barred(u64),
+    /// No thread can take a step, and it isn't over.
+    Stalled,
+    /// As many steps were taken as there may be, and a thread could go on.
+    StepLimit(u64),
+    /// Standard input could not be read.
+    ReadFault,
+    /// Standard output or standard error could not be written.
+    WriteFault,
+    /// Memory was refused.
+    NoMemory,
+}
+
+/// Why there was no run.
+#[derive(Debug, Drop)]
+pub enum Refusal {
+    /// The words ask for nothing.
+    Usage,
+    /// There is no file of this name.
+    NoFile(Text),
+    /// The schedule's text is none; this is the offset of its first wrong line, in bytes.
+    BadText(u64),
+    /// A file could not be read.
+    ReadFault,
+    /// Memory was refused.
+    NoMemory,
+}
+
+impl End {
+    /// How a call ends whose run ended so.
+    pub fn status(self) -> Status
+        ensures { result ≡ ended_status self }
+    {
+        match self {
+            End::Done(code) => Status::Done(code),
+            End::ScheduleEnded => Status::ScheduleEnded,
+            End::Barred(entry) => Status::BadSchedule(Place::Entry(entry)),
+            End::Stalled => Status::Stalled,
+            End::StepLimit(steps) => Status::StepLimit(steps),
+            End::ReadFault => Status::ReadFault,
+            End::WriteFault => Status::WriteFault,
+            End::NoMemory => Status::NoMemory,
+        }
+    }
+}
+
+impl Refusal {
+    /// How a call ends that had no run for this reason.
+    pub fn status(self) -> Status
+        ensures { result ≡ refused_status self }
+    {
+        match self {
+            Refusal::Usage => Status::Usage,
+            Refusal::NoFile(name) => Status::NoFile(name),
+            Refusal::BadText(offset) => Status::BadSchedule(Place::Byte(offset)),
+            Refusal::ReadFault => Status::ReadFault,
+            Refusal::NoMemory => Status::NoMemory,
+        }
+    }
 }
 
 impl Status {

@@ -1,17 +1,12 @@
-mod command_lines;
-mod environment;
+mod calls;
 mod faults;
 mod laws;
-mod many_threads;
-mod recordings;
-mod replays;
 mod workers;
 
 use crate::ended::Ended;
 use crate::session::session;
 use crate::status::{Place, Status};
 use std::alloc::Global;
-use std::process::Abort;
 use std::sync::Wait;
 use std::test::Fail;
 use std::thread::Threads;
@@ -133,80 +128,3 @@ fn left_of(
 
 /// The words of a replay.
 const WORDS: [&str; 3] = ["--replay", "schedule", "script"];
-
-/// A script, its schedule, and what the run comes to: status, steps, output and standard error.
-type Row<'a> = (&'a [u8], &'a [u8], &'a str, u64, &'a [u8], &'a [u8]);
-
-/// Rows hold.
-fn hold<R: Threads + Wait + Sync + AllocGlobal + Abort>(rt: &R, rows: &[Row]) -> Result<(), Fail> {
-    for (script, schedule, status, steps, output, errors) in rows {
-        let left = call(rt, &WORDS, script, schedule, b"", NEVER)?;
-        assert_eq!(rt; left.status.as_str(), *status);
-        assert_eq!(rt; left.schedule.len(), *steps);
-        assert_eq!(rt; left.output.as_slice(), *output);
-        assert_eq!(rt; left.errors.as_slice(), *errors);
-    }
-    Ok(())
-}
-
-/// A command line over a script, and what the call comes to.
-#[derive(Clone, Copy)]
-struct Line<'a> {
-    words: &'a [&'a str],
-    script: &'a [u8],
-    status: &'a str,
-    exit: u8,
-    steps: u64,
-    output: &'a [u8],
-    errors: &'a [u8],
-    kept: Option<&'a [u8]>,
-}
-
-/// A line that is wrong.
-const USAGE: Line = Line {
-    words: &[],
-    script: b"puts hi",
-    status: "usage",
-    exit: 106,
-    steps: 0,
-    output: b"",
-    errors: b"tclthread: usage: tclthread [--workers N] [--steps N] [--limit N] [--record FILE] [--replay FILE] [--generate NUMBER] SCRIPT [ARG ...]\n",
-    kept: None,
-};
-
-/// A line that runs to the end, without output.
-const DONE: Line = Line {
-    words: &[],
-    script: b"",
-    status: "done 0",
-    exit: 0,
-    steps: 1,
-    output: b"",
-    errors: b"",
-    kept: None,
-};
-
-/// Lines hold. The schedule's file has the steps of `puts hi`.
-fn all_hold<R: Threads + Wait + Sync + AllocGlobal + Abort>(
-    rt: &R,
-    lines: &[Line],
-) -> Result<(), Fail> {
-    for line in lines {
-        let left = call(
-            rt,
-            line.words,
-            line.script,
-            b"schedule 1\n1 2\n",
-            b"",
-            NEVER,
-        )?;
-        assert_eq!(rt; left.status.as_str(), line.status);
-        assert_eq!(rt; left.exit, line.exit);
-        assert_eq!(rt; left.schedule.len(), line.steps);
-        assert_eq!(rt; left.output.as_slice(), line.output);
-        assert_eq!(rt; left.errors.as_slice(), line.errors);
-        let kept = left.kept.as_ref().map(|bytes| bytes.as_slice());
-        assert_eq!(rt; kept, line.kept);
-    }
-    Ok(())
-}

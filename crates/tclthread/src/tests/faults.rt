@@ -4,7 +4,7 @@ use super::{Fails, NEVER, WORDS, call};
 use std::test::Fail;
 
 /// Calls that fail, and what that comes to: status, exit code, steps, output, standard error, and whether the schedule
-/// was kept.
+/// was recorded.
 type Fault<'a> = (Fails, &'a str, u8, u64, &'a [u8], &'a [u8], bool);
 
 #[test]

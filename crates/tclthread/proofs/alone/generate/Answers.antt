@@ -1,9 +1,32 @@
-use Rattle.tclthread.proofs.CloseLemmas.{ran-answer}
+use Rattle.std.proofs.Common.{refl}
+use Rattle.tclthread.specs.Answer.{ran, refused}
+use Rattle.tclthread.specs.declared.status.Refusal.TheVariants.{NoMemory}
 use Rattle.tclthread.proofs.alone.generate.Goals as goal
 
 pub returns-in-Ok : goal.returns-in-Ok
 returns-in-Ok g c =
-    rw (c.close.ensures.schedule, c.close.ensures.streams.0, c.close.ensures.streams.1)
-    (ran-answer _ c.run-ran.result.status _ _ _ _ _ c.run-ran.result.errors c.in-Ok.ensures c.run-ran.ensures.left c.run-ran.ensures.ran
-    (record { read_fault = c.run-ran.ensures.read_fault; reads_steady = c.run-ran.ensures.reads_steady; write_fault = c.run-ran.ensures.write_fault; writes_steady = c.run-ran.ensures.writes_steady })
-    c.close.ensures.kept c.close.ensures.no_read (rw c.faults-before.ensures at c.close.ensures.told))
+    ran (record {
+      setup = _;
+      mode = _;
+      finish = c.run-finish.result;
+      begins = (c.in-Ok.ensures, refl);
+      leaves = c.run-finish.ensures;
+      records = c.close.ensures.records;
+      line = rw c.faults-before.ensures at c.close.ensures.line;
+      schedule = c.close.ensures.schedule;
+      input = c.close.ensures.streams.0;
+      output = c.close.ensures.streams.1;
+      reads_steady = c.close.ensures.no_read;
+    })
+
+pub returns-in-Err : goal.returns-in-Err
+returns-in-Err g c =
+    refused NoMemory tt (record {
+      status = c.refuse.ensures.status;
+      no_step = c.refuse.ensures.no_step;
+      input = c.refuse.ensures.streams.0;
+      output = c.refuse.ensures.streams.1;
+      line = c.refuse.ensures.line;
+      unwritten = record { same = refl; steady = refl };
+      reads_steady = λ other. refl;
+    })

@@ -1,6 +1,7 @@
-use Rattle.std.proofs.Common.{◌≡◌, ◌∙◌, ◌≤◌, ◌<◌, ◌⊎◌, Err, None, Some, ap, arith, inl, inr, length, refl, sym}
-use Rattle.tclthread.proofs.FollowLemmas.{at-run, either-rises, first-more, first-or-more, first-part, followed, nothing-put, refused-at, rises-from, same-beginning}
+use Rattle.std.proofs.Common.{◌≡◌, ◌≤◌, ◌<◌, Err, None, Some, ap, arith, inl, inr, length, refl, sym}
+use Rattle.tclthread.proofs.FollowLemmas.{at-run, either-rises, first-more, first-or-more, first-part, followed, nothing-put, reading-at, refused-at, rises-from, same-beginning, same-run-of}
 use Rattle.tclthread.specs.Choosing.{Replaying}
+use Rattle.tclthread.specs.Ending.{StopsAtLine}
 use Rattle.tclthread.proofs.run.follow.Goals as goal
 
 pub returns-in-Err-NotEnabled-clause-allowed : goal.returns-in-Err-NotEnabled-clause-allowed
@@ -47,6 +48,14 @@ pub returns-in-Err-ReadFault-clause-allowed : goal.returns-in-Err-ReadFault-clau
 returns-in-Err-ReadFault-clause-allowed g c =
     let same = c.in-Err-ReadFault.ensures.no_entry (ap Err c.in-Err-ReadFault.field-0-is) in
     rw same (first-part c.loop-place.system.desk.schedule c.args.given.now.threads c.loop-place.place c.loop-place.invariant.taken)
+
+pub returns-in-Err-ReadFault-clause-ends : goal.returns-in-Err-ReadFault-clause-ends
+returns-in-Err-ReadFault-clause-ends g c =
+    let same = c.in-Err-ReadFault.ensures.no_entry (ap Err c.in-Err-ReadFault.field-0-is) in
+    let within : c.loop-place.place < length c.args.given.now.threads = omega arith in
+    same-run-of g.S.Source.held c.loop-place.system c.step.new.self (λ steps begun machine. StopsAtLine (Replaying c.args.given.now.threads) machine steps) c.in-Err-ReadFault.ensures.same_beginning same
+    (at-run g.S.Source.held c.loop-place.system _ _ (c.in-Err-ReadFault.ensures.a_line (ap Err c.in-Err-ReadFault.field-0-is) c.loop-place.invariant.going) (λ begun machine asks.
+    reading-at c.loop-place.system.desk.schedule c.args.given.now.threads c.loop-place.place c.at.result machine within c.loop-place.invariant.taken c.at.ensures.thread asks))
 
 pub returns-in-Err-ReadFault-clause-no_output : goal.returns-in-Err-ReadFault-clause-no_output
 returns-in-Err-ReadFault-clause-no_output g c =

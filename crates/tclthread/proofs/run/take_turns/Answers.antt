@@ -1,7 +1,7 @@
-use Rattle.std.proofs.Common.{◌≡◌, ◌∙◌, ◌≤◌, ◌+◌, ◌⊎◌, Err, Some, IsSome, ap, arith, inl, inr, length, refl, sym}
+use Rattle.std.proofs.Common.{◌≡◌, ◌∙◌, ◌≤◌, ◌+◌, Err, Some, IsSome, ap, arith, inl, inr, length, refl, sym}
 use Rattle.tt_machine.specs.Machine.{IsStuck}
 use Rattle.tclthread.proofs.FollowLemmas.{either-rises, rises-from, same-beginning}
-use Rattle.tclthread.proofs.TurnLemmas.{either-turns, ends-cut, ends-full, ends-over, ends-stuck, last-more, length-more, more-turns, never-refused, none-took, nothing-put-yet, stay-turns, within-more}
+use Rattle.tclthread.proofs.TurnLemmas.{either-turns, ends-cut, ends-full, ends-over, ends-reading, ends-stuck, last-more, length-more, more-turns, never-refused, none-took, nothing-put-yet, within-more}
 use Rattle.tclthread.specs.Choosing.{TakesTurns}
 use Rattle.tclthread.proofs.run.take_turns.Goals as goal
 
@@ -159,7 +159,8 @@ returns-in-Err-ReadFault-clause-allowed g c =
 pub returns-in-Err-ReadFault-clause-ends : goal.returns-in-Err-ReadFault-clause-ends
 returns-in-Err-ReadFault-clause-ends g c =
     let same = c.in-Err-ReadFault.ensures.no_entry (ap Err c.in-Err-ReadFault.field-0-is) in
-    ends-cut g.S.Source.held c.step.new.self (stay-turns g.S.Source.held c.loop.system c.step.new.self c.in-Err-ReadFault.ensures.same_beginning same c.loop.invariant.took)
+    ends-reading g.S.Source.held c.loop.system c.step.new.self c.loop.last c.in-Some.thread c.args.steps c.in-Err-ReadFault.ensures.same_beginning same c.loop.invariant.last_is
+    (c.in-Some.ensures.next c.loop.invariant.going) (c.in-Err-ReadFault.ensures.a_line (ap Err c.in-Err-ReadFault.field-0-is) c.loop.invariant.going) c.loop.invariant.took
 
 pub returns-in-Err-ReadFault-clause-no_output : goal.returns-in-Err-ReadFault-clause-no_output
 returns-in-Err-ReadFault-clause-no_output g c =
