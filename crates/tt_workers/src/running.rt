@@ -1,6 +1,6 @@
 //! A run on workers.
 ghost use Rattle.std.specs.Prelude.{◌≡◌, ◌≤◌, ℕ, None, replicate};
-ghost use Rattle.tt_noted.specs.Passes.{AreFresh, IsPassOf, IsSamePass, count_of, note_after, turn_of};
+ghost use Rattle.tt_noted.specs.Passes.{AreFresh, IsPassOf, IsSamePass, count_of, note_of, turn_of};
 ghost use Rattle.tt_schedule.specs.ScheduleText.{most_steps};
 ghost use Rattle.tt_workers.specs.Ran.{IsRan};
 ghost use Rattle.tt_workers.specs.inside.Turns.{note_after};
@@ -148,8 +148,8 @@ fn carried<
 {
     let shared = &lock;
     let each = |_: usize, pass: &mut Pass<Tied<S, K, E>>|
-        requires { IsPassOf shared.now pass.now × (turn_of pass.now ≡ None) × IsNoted (λ note. note.out ≡ None) (note_after pass.now) }
-        ensures { IsSamePass shared.entry.now pass.entry.now pass.exit.now × (turn_of pass.exit.now ≡ None) × (note_after pass.exit.now ≡ note_after pass.entry.now) }
+        requires { IsPassOf shared.now pass.now × (turn_of pass.now ≡ None) × IsNoted (λ note. note.out ≡ None) (note_of pass.now) }
+        ensures { IsSamePass shared.entry.now pass.entry.now pass.exit.now × (turn_of pass.exit.now ≡ None) × (note_of pass.exit.now ≡ note_of pass.entry.now) }
     { carry(rt, shared, pass, gate) };
     thread::for_each_mut(rt, passes.as_mut_slice(), workers as usize, &each);
     lock.close(passes)
