@@ -315,7 +315,7 @@ module _ {F S K E : Type 0} (files : OfFiles F) (source : OfSource S) (output : 
       let still : IsSettled (ended_status is.finish.end) = let P : Status → Type 0 = λ s. IsSettled s in subst P same settled in
       let view = end-view is.finish.end is.mode has.machine is.finish.schedule.threads still has.ends in
       let found : IsRunTo is.setup is.mode input (ended_status is.finish.end) is.finish.schedule.threads =
-          record { machine = has.machine; allowed = is.leaves.allowed; ran = has.ran; chosen = has.chosen; view = view } in
+      record { machine = has.machine; allowed = is.leaves.allowed; ran = has.ran; chosen = has.chosen; view = view } in
       subst (λ (s : Status). IsRunTo is.setup is.mode input s ended.schedule.threads) (sym same)
       (subst (λ (steps : List ℕ). IsRunTo is.setup is.mode input (ended_status is.finish.end) steps) (sym is.schedule) found)
 

@@ -13,7 +13,7 @@ use std::thread::Threads;
 use tt_devices::{MemoryFiles, MemorySink, MemorySource, OpenGate};
 use tt_schedule::Schedule;
 
-/// What a call left: the words of its status, its exit code, its steps, what it wrote, and the file that it kept.
+/// What a call left: the words of its status, its exit code, its steps, what it wrote, and the file that it recorded.
 #[derive(Drop)]
 struct Left {
     status: String,
@@ -61,7 +61,7 @@ fn status_words(alloc: Global, status: &Status) -> Result<String, Fail> {
 }
 
 /// Calls the program over devices in memory: the files `script` and `schedule` and an empty file `--x`, this input, and
-/// these calls that fail. The file that it keeps is `kept`.
+/// these calls that fail. The file that it records is `kept`.
 fn call<R: Threads + Wait + Sync + AllocGlobal>(
     rt: &R,
     words: &[&str],

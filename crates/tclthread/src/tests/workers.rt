@@ -199,7 +199,7 @@ fn all_hold_on_workers<R: Threads + Wait + Sync + AllocGlobal + Abort>(
     Ok(())
 }
 
-/// A row holds on so many workers, and its kept schedule is replayed.
+/// A row holds on so many workers, and its recorded schedule is replayed.
 fn holds_on<R: Threads + Wait + Sync + AllocGlobal + Abort>(
     rt: &R,
     workers: &str,
@@ -227,7 +227,7 @@ fn holds_on<R: Threads + Wait + Sync + AllocGlobal + Abort>(
     is_replayed(rt, row, &left, kept)
 }
 
-/// The kept schedule is replayed to the same bytes, and to the same end where the run was over.
+/// The recorded schedule is replayed to the same bytes, and to the same end if the run was over.
 fn is_replayed<R: Threads + Wait + Sync + AllocGlobal + Abort>(
     rt: &R,
     row: &Row,
@@ -374,7 +374,8 @@ fn two_slices_at_once(rt: HostRuntime) -> Result<(), Fail> {
 }
 
 /// Four threads, each of which adds one to a number.
-const FOUR: &[u8] = b"for {set i 0} {$i < 4} {incr i} {lappend ids [thread::create -joinable {tsv::incr a n}]}
+const FOUR: &[u8] =
+    b"for {set i 0} {$i < 4} {incr i} {lappend ids [thread::create -joinable {tsv::incr a n}]}
 foreach id $ids {thread::join $id}
 puts [tsv::get a n]
 ";
