@@ -5,3 +5,4 @@ pub mod CharacterLemmas
 mod DefinitionExamples
 pub mod GlobLaw
 pub mod GlobLemmas
+pub mod RoomLemmas

@@ -1,3 +1,4 @@
 pub mod BraceScan
 pub mod GlobScan
+pub mod Room
 pub mod TextBytes

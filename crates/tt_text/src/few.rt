@@ -1,4 +1,4 @@
-ghost use Rattle.std.specs.Prelude.{◌≡◌, ◌+◌, ◌≤◌, ◌++◌, [], length, take};
+ghost use Rattle.std.specs.Prelude.{◌≡◌, ◌+◌, ◌≤◌, ◌++◌, [], bytes_eq, drop, length, take};
 
 use std::marker::Model;
 
@@ -6,6 +6,8 @@ use std::marker::Model;
 pub(crate) const ROOM: usize = 14;
 
 /// At most 14 bytes, in place. Contracts see the list.
+///
+/// What the room has beyond them is 0, so that two are compared by their rooms.
 #[derive(Debug, Drop)]
 pub(crate) struct Few {
     len: u8,
@@ -14,12 +16,13 @@ pub(crate) struct Few {
 
 impl Model for Few {
     ghost use Rattle.std.specs.Prelude.{ℕ, List, take, ◌≤◌};
+    ghost use Rattle.tt_text.specs.inside.Room.{IsRoom};
 
     ghost Value = { List ℕ };
 
     ghost view = { λ few. take few.len few.room };
 
-    ghost invariant = { λ few. few.len ≤ 14 };
+    ghost invariant = { λ few. (few.len ≤ 14) × IsRoom few.len few.room };
 }
 
 impl Few {
@@ -47,6 +50,14 @@ impl Few {
         }
     }
 
+    /// Whether the other has the same bytes.
+    #[tactic(auto, using(crate::proofs::RoomLemmas::by_rooms, crate::proofs::RoomLemmas::by_lengths))]
+    pub(crate) fn is_same(&self, other: &Few) -> bool
+        ensures same { result ≡ bytes_eq self.now other.now }
+    {
+        self.len == other.len && self.room == other.room
+    }
+
     // How many bytes more there is room for.
     pub(crate) fn spare(&self) -> usize
         ensures spare { result + length self.now ≡ ROOM }
@@ -68,6 +79,7 @@ impl Few {
 fn write_at(room: &mut [u8], start: usize, bytes: &[u8])
     requires within { start + length bytes.now ≤ length room.old }
     ensures written { take (start + length bytes.now) room.new ≡ take start room.old ++ bytes.now }
+    ensures rest { drop (start + length bytes.now) room.new ≡ drop (start + length bytes.now) room.old }
     ensures len { length room.new ≡ length room.old }
 {
     room[start..start + bytes.len()].copy_from_slice(bytes);

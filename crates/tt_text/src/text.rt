@@ -1,4 +1,4 @@
-ghost use Rattle.std.specs.Prelude.{◌≡◌, ◌++◌, ◌≤◌, [], length, IfOk, OnOk, OnErr, ◌↔◌, IsTrue};
+ghost use Rattle.std.specs.Prelude.{◌≡◌, ◌++◌, ◌≤◌, [], bytes_eq, length, IfOk, OnOk, OnErr, ◌↔◌, IsTrue};
 ghost use Rattle.tt_text.specs.inside.TextBytes.{bytes_of};
 
 use crate::NoMemory;
@@ -110,6 +110,16 @@ impl Text {
         ensures empty { IsTrue result ↔ (self.now ≡ []) }
     {
         self.as_bytes().is_empty()
+    }
+
+    /// Whether the other text has the same bytes. Two that are stored in place are compared as they are stored.
+    pub(crate) fn is_same(&self, other: &Text) -> bool
+        ensures same { result ≡ bytes_eq self.now other.now }
+    {
+        match (&self.storage, &other.storage) {
+            (Storage::Short(few), Storage::Short(others)) => few.is_same(others),
+            _ => self.as_bytes() == other.as_bytes(),
+        }
     }
 
     /// Adds these bytes at the end.
