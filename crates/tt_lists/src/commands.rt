@@ -1,4 +1,4 @@
-ghost use Rattle.std.specs.Prelude.{◌≡◌, IfOk, decimal};
+ghost use Rattle.std.specs.Prelude.{◌≡◌, IfOk, IfErr, decimal};
 ghost use Rattle.std.specs.Option.{option_map};
 ghost use Rattle.tt_lists.specs.Commands.{count_answer, insert_among, insert_answer, item_among, item_answer, item_of};
 ghost use Rattle.tt_lists.specs.Commands.{range_among, range_answer, replace_among, replace_answer};
@@ -60,13 +60,16 @@ fn item_of(alloc: Global, list: &[u8], word: &[u8]) -> Result<ListAnswer, NoMemo
     }
 }
 
-fn item_among(alloc: Global, items: &[Text], word: &[u8]) -> Result<ListAnswer, NoMemory>
-    ensures { IfOk result (λ answer. answer ≡ item_among items.now word.now) }
+/// Of these items the one that the index names (lindex(n)), in constant time. Outside the list it is empty.
+///
+/// `Bad` where the word is no index. `NoMemory` where memory is refused.
+pub fn item_among(alloc: Global, items: &[Text], word: &[u8]) -> Result<ListAnswer, NoMemory>
+    ensures answer { IfOk result (λ answer. answer ≡ item_among items.now word.now) }
 {
     let Some(place) = place_in(word, items.len()) else {
         return no_index(alloc, word);
     };
-    let item = Text::from_bytes(alloc, parts::item_in(items, place))?;
+    let item = parts::item_in(alloc, items, place)?;
     Ok(ListAnswer::Made(item))
 }
 
@@ -127,13 +130,33 @@ fn range_of(
 ) -> Result<ListAnswer, NoMemory>
     ensures { IfOk result (λ answer. answer ≡ range_among items.now first.now last.now) }
 {
+    match range_among(alloc, items, first, last)? {
+        Ok(part) => made(alloc, part),
+        Err(message) => Ok(ListAnswer::Bad(message)),
+    }
+}
+
+/// Of these items those from the first index up to the last one (lrange(n)), or the message where a word is no index.
+///
+/// `NoMemory` where the memory for the message is refused.
+pub fn range_among<'a>(
+    alloc: Global,
+    items: &'a [Text],
+    first: &[u8],
+    last: &[u8],
+) -> Result<Result<&'a [Text], Text>, NoMemory>
+    ensures part { IfOk result (λ found. IfOk found (λ part.
+        range_among items.now first.now last.now ≡ ListAnswer.Made (list_of part.now))) }
+    ensures bad { IfOk result (λ found. IfErr found (λ message.
+        range_among items.now first.now last.now ≡ ListAnswer.Bad message)) }
+{
     let Some(from) = place_in(first, items.len()) else {
-        return no_index(alloc, first);
+        return Ok(Err(bad_index(alloc, first)?));
     };
     let Some(to) = place_in(last, items.len()) else {
-        return no_index(alloc, last);
+        return Ok(Err(bad_index(alloc, last)?));
     };
-    made(alloc, parts::range(items, from, to))
+    Ok(Ok(parts::range(items, from, to)))
 }
 
 /// The list with others put before the item at the index, where `end` is the place after the last item (linsert(n)).

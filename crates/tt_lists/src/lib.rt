@@ -17,7 +17,7 @@ mod spelling;
 mod splitting;
 
 pub use answer::ListAnswer;
-pub use commands::{count, count_text, insert, item, range, replace};
+pub use commands::{count, count_text, insert, item, item_among, range, range_among, replace};
 pub use growing::push_item;
 pub use indices::index;
 pub use items::{ListFault, Split};

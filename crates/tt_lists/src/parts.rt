@@ -4,13 +4,13 @@ ghost use Rattle.tt_lists.specs.Parts.{after, before, from, item_in, range, up_t
 use std::alloc::Global;
 use tt_text::{NoMemory, Text, Texts};
 
-/// The item at a place, and none outside the list.
-pub(crate) fn item_in(items: &[Text], place: i128) -> &[u8]
-    ensures { result.now ≡ item_in items.now place }
+/// A copy of the item at a place, which is empty outside the list.
+pub(crate) fn item_in(alloc: Global, items: &[Text], place: i128) -> Result<Text, NoMemory>
+    ensures { IfOk result (λ item. item ≡ item_in items.now place) }
 {
     match usize::try_from(place) {
-        Ok(place) if place < items.len() => items[place].as_bytes(),
-        _ => &[],
+        Ok(place) if place < items.len() => items[place].copy(),
+        _ => Ok(Text::new(alloc)),
     }
 }
 
