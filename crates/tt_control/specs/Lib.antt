@@ -1,5 +1,6 @@
 pub mod Branches
 pub mod Choices
+pub mod Dictionaries
 pub mod Endings
 pub mod Evaluating
 pub mod Refusals

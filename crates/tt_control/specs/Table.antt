@@ -4,6 +4,7 @@ use Rattle.std.specs.List.{find}
 use Rattle.tt_control.specs.Refusals.{Meaning, wrong_number}
 use Rattle.tt_control.specs.Branches.{branch}
 use Rattle.tt_control.specs.Choices.{switch}
+use Rattle.tt_control.specs.Dictionaries.{dict}
 use Rattle.tt_control.specs.Endings.{break_loop, continue_loop, error, return_value}
 use Rattle.tt_control.specs.Evaluating.{catch, expression, for_loop, while_loop}
 use Rattle.tt_control.specs.Turns.{foreach}
@@ -28,6 +29,7 @@ abbrev pub row_of : Command → Row
 row_of command.Break = row (codes "break") (codes "break") break_loop
 row_of command.Catch = row (codes "catch") (codes "catch script ?varName?") catch
 row_of command.Continue = row (codes "continue") (codes "continue") continue_loop
+row_of command.Dict = row (codes "dict") (codes "dict for {k v} d body") dict
 row_of command.Error = row (codes "error") (codes "error message ?info? ?code?") error
 row_of command.Expr = row (codes "expr") (codes "expr arg ?arg ...?") expression
 row_of command.For = row (codes "for") (codes "for start test next body") for_loop
@@ -45,8 +47,8 @@ row_of command.While = row (codes "while") (codes "while test body") while_loop
 -- the commands of the table
 abbrev pub commands : List Command
 commands =
-    command.Break ∷ command.Catch ∷ command.Continue ∷ command.Error ∷ command.Expr ∷ command.For ∷ command.Foreach ∷
-    command.If ∷ command.Return ∷ command.Switch ∷ command.While ∷ []
+    command.Break ∷ command.Catch ∷ command.Continue ∷ command.Dict ∷ command.Error ∷ command.Expr ∷ command.For ∷
+    command.Foreach ∷ command.If ∷ command.Return ∷ command.Switch ∷ command.While ∷ []
 
 -- the first of these that has a name
 abbrev pub first_named : List Command → (name : List ℕ) → Option Command

@@ -8,6 +8,7 @@ pub(crate) enum Command {
     Break,
     Catch,
     Continue,
+    Dict,
     Error,
     Expr,
     For,
@@ -18,10 +19,11 @@ pub(crate) enum Command {
     While,
 }
 
-const COMMANDS: [Command; 11] = [
+const COMMANDS: [Command; 12] = [
     Command::Break,
     Command::Catch,
     Command::Continue,
+    Command::Dict,
     Command::Error,
     Command::Expr,
     Command::For,
@@ -57,6 +59,7 @@ fn row_of(command: Command) -> Row
         Command::Break => Row::new(b"break", b"break"),
         Command::Catch => Row::new(b"catch", b"catch script ?varName?"),
         Command::Continue => Row::new(b"continue", b"continue"),
+        Command::Dict => Row::new(b"dict", b"dict for {k v} d body"),
         Command::Error => Row::new(b"error", b"error message ?info? ?code?"),
         Command::Expr => Row::new(b"expr", b"expr arg ?arg ...?"),
         Command::For => Row::new(b"for", b"for start test next body"),

@@ -47,7 +47,7 @@ pub enum Control {
         next: Text,
         body: Text,
     },
-    /// The body is evaluated for each turn (foreach(n)). `names` are the variables of all lists; `values` has for
+    /// The body is evaluated for each turn (foreach(n), dict(n)). `names` are the variables of all lists; `values` has for
     /// each turn one value for each of them, turn after turn.
     Foreach {
         names: Texts,

@@ -6,6 +6,7 @@ use crate::Control;
 use crate::branches::branch;
 use crate::choices::switch;
 use crate::command::{Command, command_of, usage};
+use crate::dictionaries::dict;
 use crate::endings::{break_loop, continue_loop, error, return_value};
 use crate::evaluating::{catch, expression, for_loop, while_loop};
 use crate::turns::foreach;
@@ -15,9 +16,9 @@ use tt_text::{NoMemory, Text};
 
 /// What the words of a command mean, its name first. A leading `::` of the name is dropped.
 ///
-/// `Other` comes exactly if the first word is no command of the table, or there is no word. Errors come in this order:
-/// an option that isn't known, from the left; a wrong number of words; what the words say. `NoMemory` if memory is
-/// refused.
+/// `Other` comes exactly if the first word is no command of the table, or is `dict` without `for` after it, or there is
+/// no word. Errors come in this order: an option that isn't known, from the left; a wrong number of words; what the
+/// words say. `NoMemory` if memory is refused.
 pub fn read_control(alloc: Global, words: &[Text]) -> Result<Control, NoMemory>
     ensures control { IfOk result (λ control. control ≡ table.control_of words.now) }
 {
@@ -48,6 +49,7 @@ fn meaning(
         Command::Break => break_loop(alloc, usage, words),
         Command::Catch => catch(alloc, usage, words),
         Command::Continue => continue_loop(alloc, usage, words),
+        Command::Dict => dict(alloc, usage, words),
         Command::Error => error(alloc, usage, words),
         Command::Expr => expression(alloc, usage, words),
         Command::For => for_loop(alloc, usage, words),

@@ -2,6 +2,7 @@
 -- (proc(n), info(n), unknown(n)).
 use Rattle.std.specs.Prelude.{◌≡◌, ℕ, Bool, true, false, ◌&&◌, bytes_eq, List, [], ◌∷◌, codes, drop, Option, Some, None}
 use Rattle.tt_calls.specs.declared.outcome.Outcome.{Outcome}
+use Rattle.tt_dictionaries.specs.Commands as dictionaries
 use Rattle.tt_variable_commands.specs.ArrayCommands as arrays
 use Rattle.tt_variable_commands.specs.LevelCommands as levels
 use Rattle.tt_procedures.specs.Procedures as procedures
@@ -77,9 +78,9 @@ abbrev pub Either : (one other : Table) → Table
 Either one other words old answer new =
     (first : Answer) × (next : Held) × one words old first next × Continues first other words next answer new
 
--- single variables, then levels and links, then arrays
+-- single variables, then levels and links, then arrays, then dictionaries
 abbrev pub OnVariables : Table
-OnVariables = Either variables.Runs (Either levels.Runs arrays.Runs)
+OnVariables = Either variables.Runs (Either levels.Runs (Either arrays.Runs dictionaries.Runs))
 
 -- ---- all commands ----
 

@@ -1,5 +1,6 @@
 //! The commands that an interpreter does itself (proc(n), info(n)).
 ghost use Rattle.std.specs.Prelude.{◌≡◌, IfOk, codes, drop};
+ghost use Rattle.tt_dictionaries.specs.Commands as dictionaries;
 ghost use Rattle.tt_interp.specs.Commands as commands;
 ghost use Rattle.tt_variable_commands.specs.ArrayCommands as arrays;
 ghost use Rattle.tt_variable_commands.specs.LevelCommands as levels;
@@ -72,10 +73,22 @@ fn on_variables(alloc: Global, store: &mut Store, words: &[Text]) -> Result<Answ
 }
 
 fn on_levels(alloc: Global, store: &mut Store, words: &[Text]) -> Result<Answer, NoMemory>
-    ensures { IfOk result (λ answer. commands.Either levels.Runs arrays.Runs words.now store.old answer store.new) }
+    ensures { IfOk result (λ answer.
+        commands.Either levels.Runs (commands.Either arrays.Runs dictionaries.Runs) words.now store.old answer
+        store.new) }
 {
     match tt_variable_commands::levels::run(alloc, store, words)? {
-        Answer::Other => tt_variable_commands::arrays::run(alloc, store, words),
+        Answer::Other => on_arrays(alloc, store, words),
+        Answer::Outcome(outcome) => Ok(Answer::Outcome(outcome)),
+        Answer::Body { body, text } => Ok(Answer::Body { body, text }),
+    }
+}
+
+fn on_arrays(alloc: Global, store: &mut Store, words: &[Text]) -> Result<Answer, NoMemory>
+    ensures { IfOk result (λ answer. commands.Either arrays.Runs dictionaries.Runs words.now store.old answer store.new) }
+{
+    match tt_variable_commands::arrays::run(alloc, store, words)? {
+        Answer::Other => tt_dictionaries::run(alloc, store, words),
         Answer::Outcome(outcome) => Ok(Answer::Outcome(outcome)),
         Answer::Body { body, text } => Ok(Answer::Body { body, text }),
     }

@@ -1,0 +1,3 @@
+pub mod DictLaws
+pub mod Inwards
+pub mod Merging

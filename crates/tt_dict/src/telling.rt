@@ -1,0 +1,238 @@
+//! Subcommands that change no variable.
+ghost use Rattle.std.specs.Prelude.{◌≡◌, [], IfOk, decimal, is_ok, length, map};
+ghost use Rattle.std.specs.Map.{keys_of, values_of};
+ghost use Rattle.std.specs.Option.{option_copied};
+ghost use Rattle.tt_calls.specs.Outcomes.{failed};
+ghost use Rattle.tt_calls.specs.Usages.{wrong_number};
+ghost use Rattle.tt_dict.specs.Paths as paths;
+ghost use Rattle.tt_dict.specs.Rows.{reads};
+ghost use Rattle.tt_dict.specs.Telling as telling;
+ghost use Rattle.tt_pairs.specs.Pairs.{joined, text_of};
+ghost use Rattle.tt_pairs.specs.Reading.{reading_of};
+
+use crate::answers::{answered, like, truth, whole, whole_of};
+use crate::paths::value_at;
+use std::alloc::Global;
+use tt_calls::Outcome;
+use tt_lists::count_text;
+use tt_pairs::{Dictionary, paired, read};
+use tt_text::{NoMemory, Text};
+
+/// `dict create`.
+pub(crate) fn create(alloc: Global, usage: &[u8], words: &[Text]) -> Result<Outcome, NoMemory>
+    ensures { IfOk result (λ outcome. outcome ≡ telling.create (failed (wrong_number usage.now)) words.now) }
+{
+    match paired(alloc, words)? {
+        Some(pairs) => whole(alloc, &pairs),
+        None => Outcome::wrong_number(alloc, usage),
+    }
+}
+
+/// `dict get`.
+pub(crate) fn get(alloc: Global, usage: &[u8], words: &[Text]) -> Result<Outcome, NoMemory>
+    ensures { IfOk result (λ outcome. outcome ≡ reads telling.get (failed (wrong_number usage.now)) words.now) }
+{
+    match words {
+        [dictionary] => whole_of(alloc, read(alloc, dictionary.as_bytes())?),
+        [dictionary, key, keys @ ..] => get_at(alloc, dictionary, key, keys),
+        [] => Outcome::wrong_number(alloc, usage),
+    }
+}
+
+fn get_at(alloc: Global, dictionary: &Text, key: &Text, keys: &[Text]) -> Result<Outcome, NoMemory>
+    ensures { IfOk result (λ outcome.
+        outcome ≡ telling.answered
+        (paths.for_pairs (λ pairs. paths.value_at pairs key.now keys.now) (reading_of dictionary.now))) }
+{
+    match read(alloc, dictionary.as_bytes())? {
+        Ok(pairs) => answered(alloc, value_at(alloc, pairs, key, keys)?),
+        Err(message) => Outcome::failed(message),
+    }
+}
+
+/// `dict exists`.
+pub(crate) fn exists(alloc: Global, usage: &[u8], words: &[Text]) -> Result<Outcome, NoMemory>
+    ensures { IfOk result (λ outcome. outcome ≡ reads telling.exists (failed (wrong_number usage.now)) words.now) }
+{
+    match words {
+        [dictionary, key, keys @ ..] => exists_at(alloc, dictionary, key, keys),
+        _ => Outcome::wrong_number(alloc, usage),
+    }
+}
+
+fn exists_at(
+    alloc: Global,
+    dictionary: &Text,
+    key: &Text,
+    keys: &[Text],
+) -> Result<Outcome, NoMemory>
+    ensures { IfOk result (λ outcome.
+        outcome ≡ telling.told (λ pairs. telling.truth (is_ok (paths.value_at pairs key.now keys.now)))
+        (reading_of dictionary.now)) }
+{
+    match read(alloc, dictionary.as_bytes())? {
+        Ok(pairs) => truth(alloc, value_at(alloc, pairs, key, keys)?.is_ok()),
+        Err(message) => Outcome::failed(message),
+    }
+}
+
+/// `dict size`.
+pub(crate) fn size(alloc: Global, usage: &[u8], words: &[Text]) -> Result<Outcome, NoMemory>
+    ensures { IfOk result (λ outcome. outcome ≡ reads telling.size (failed (wrong_number usage.now)) words.now) }
+{
+    match words {
+        [dictionary] => size_of(alloc, dictionary),
+        _ => Outcome::wrong_number(alloc, usage),
+    }
+}
+
+fn size_of(alloc: Global, dictionary: &Text) -> Result<Outcome, NoMemory>
+    ensures { IfOk result (λ outcome.
+        outcome ≡ telling.told (λ pairs. decimal (length pairs)) (reading_of dictionary.now)) }
+{
+    match read(alloc, dictionary.as_bytes())? {
+        Ok(pairs) => Ok(Outcome::fine(alloc, count_text(alloc, pairs.len())?)),
+        Err(message) => Outcome::failed(message),
+    }
+}
+
+/// `dict keys`.
+pub(crate) fn keys(alloc: Global, usage: &[u8], words: &[Text]) -> Result<Outcome, NoMemory>
+    ensures { IfOk result (λ outcome. outcome ≡ reads telling.keys (failed (wrong_number usage.now)) words.now) }
+{
+    match words {
+        [dictionary] => keys_like(alloc, dictionary, None),
+        [dictionary, pattern] => keys_like(alloc, dictionary, Some(pattern)),
+        _ => Outcome::wrong_number(alloc, usage),
+    }
+}
+
+fn keys_like(alloc: Global, dictionary: &Text, pattern: Option<&Text>) -> Result<Outcome, NoMemory>
+    ensures { IfOk result (λ outcome.
+        outcome ≡ telling.told (λ pairs. telling.like (option_copied pattern.entry) (keys_of pairs))
+        (reading_of dictionary.now)) }
+{
+    match read(alloc, dictionary.as_bytes())? {
+        Ok(pairs) => like(alloc, pattern, pairs.keys()?.as_slice()),
+        Err(message) => Outcome::failed(message),
+    }
+}
+
+/// `dict values`.
+pub(crate) fn values(alloc: Global, usage: &[u8], words: &[Text]) -> Result<Outcome, NoMemory>
+    ensures { IfOk result (λ outcome. outcome ≡ reads telling.values (failed (wrong_number usage.now)) words.now) }
+{
+    match words {
+        [dictionary] => values_like(alloc, dictionary, None),
+        [dictionary, pattern] => values_like(alloc, dictionary, Some(pattern)),
+        _ => Outcome::wrong_number(alloc, usage),
+    }
+}
+
+fn values_like(
+    alloc: Global,
+    dictionary: &Text,
+    pattern: Option<&Text>,
+) -> Result<Outcome, NoMemory>
+    ensures { IfOk result (λ outcome.
+        outcome ≡ telling.told (λ pairs. telling.like (option_copied pattern.entry) (values_of pairs))
+        (reading_of dictionary.now)) }
+{
+    match read(alloc, dictionary.as_bytes())? {
+        Ok(pairs) => like(alloc, pattern, pairs.values()?.as_slice()),
+        Err(message) => Outcome::failed(message),
+    }
+}
+
+/// `dict remove`.
+pub(crate) fn remove(alloc: Global, usage: &[u8], words: &[Text]) -> Result<Outcome, NoMemory>
+    ensures { IfOk result (λ outcome. outcome ≡ reads telling.remove (failed (wrong_number usage.now)) words.now) }
+{
+    match words {
+        [dictionary, keys @ ..] => remove_from(alloc, dictionary, keys),
+        [] => Outcome::wrong_number(alloc, usage),
+    }
+}
+
+fn remove_from(alloc: Global, dictionary: &Text, keys: &[Text]) -> Result<Outcome, NoMemory>
+    ensures { IfOk result (λ outcome.
+        outcome ≡ telling.told (λ pairs. text_of (telling.without_keys pairs keys.now)) (reading_of dictionary.now)) }
+{
+    match read(alloc, dictionary.as_bytes())? {
+        Ok(mut pairs) => {
+            remove_keys(&mut pairs, keys);
+            whole(alloc, &pairs)
+        }
+        Err(message) => Outcome::failed(message),
+    }
+}
+
+fn remove_keys(pairs: &mut Dictionary, keys: &[Text])
+    ensures { pairs.new ≡ telling.without_keys pairs.old keys.now }
+{
+    for key in keys {
+        pairs.remove(key);
+    }
+}
+
+/// `dict replace`.
+pub(crate) fn replace(alloc: Global, usage: &[u8], words: &[Text]) -> Result<Outcome, NoMemory>
+    ensures { IfOk result (λ outcome. outcome ≡ reads telling.replace (failed (wrong_number usage.now)) words.now) }
+{
+    match words {
+        [dictionary, words @ ..] => replace_in(alloc, usage, dictionary, words),
+        [] => Outcome::wrong_number(alloc, usage),
+    }
+}
+
+fn replace_in(
+    alloc: Global,
+    usage: &[u8],
+    dictionary: &Text,
+    words: &[Text],
+) -> Result<Outcome, NoMemory>
+    ensures { IfOk result (λ outcome.
+        outcome ≡ telling.replace (failed (wrong_number usage.now)) (reading_of dictionary.now) words.now) }
+{
+    match paired(alloc, words)? {
+        Some(more) => join_to(alloc, dictionary, &more),
+        None => Outcome::wrong_number(alloc, usage),
+    }
+}
+
+fn join_to(alloc: Global, dictionary: &Text, more: &Dictionary) -> Result<Outcome, NoMemory>
+    ensures { IfOk result (λ outcome.
+        outcome ≡ telling.told (λ pairs. text_of (joined pairs more.now)) (reading_of dictionary.now)) }
+{
+    match read(alloc, dictionary.as_bytes())? {
+        Ok(mut pairs) => {
+            pairs.join(more)?;
+            whole(alloc, &pairs)
+        }
+        Err(message) => Outcome::failed(message),
+    }
+}
+
+/// `dict merge`.
+pub(crate) fn merge(alloc: Global, words: &[Text]) -> Result<Outcome, NoMemory>
+    ensures { IfOk result (λ outcome. outcome ≡ telling.told text_of (telling.merged [] (map reading_of words.now))) }
+{
+    let all = merged(alloc, words)?;
+    whole_of(alloc, all)
+}
+
+#[tactic(auto, using(crate::proofs::Merging::merge_more, crate::proofs::Merging::merge_stops, crate::proofs::Merging::merge_last))]
+fn merged(alloc: Global, words: &[Text]) -> Result<Result<Dictionary, Text>, NoMemory>
+    ensures { IfOk result (λ all. all ≡ telling.merged [] (map reading_of words.now)) }
+{
+    let mut all = Dictionary::new(alloc);
+    let mut rest = words;
+    while let Some((word, later)) = rest.split_first() {
+        match read(alloc, word.as_bytes())? {
+            Ok(more) => all.join(&more)?,
+            Err(message) => return Ok(Err(message)),
+        }
+        rest = later;
+    }
+    Ok(Ok(all))
+}

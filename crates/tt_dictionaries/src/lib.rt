@@ -1,0 +1,8 @@
+//! The command dict(n) over what one interpreter keeps of variables, but for its loops, which evaluate scripts.
+#![tactic(auto)]
+
+mod command;
+mod messages;
+mod variable;
+
+pub use command::run;
