@@ -1,5 +1,7 @@
 -- An action of a desk as a step of the machine, wherever its threads are said to be.
-use Rattle.std.proofs.Common.{◌≡◌, ◌≢◌, ◌∙◌, ◌+◌, ◌<◌, ◌&&◌, arith, length, ℕ, Bool, true, false, IsTrue, IsFalse, List, [], ◌∷◌, ◌++◌, Option, Some, None, IfSome, IfErr, OnOk, Result, is_err, Ok, Err, ◌⊎◌, inl, inr, is_none, is_some, not, ap, append-nil, append_assoc, refl, sym, subst}
+use Rattle.std.proofs.Common.{◌≡◌, ◌≢◌, ◌∙◌, ◌+◌, ◌<◌, ◌&&◌, arith, length, ℕ, Bool, true, false, IsTrue, IsFalse, List, [], ◌∷◌}
+use Rattle.std.proofs.Common.{◌++◌, Option, Some, None, IfSome, IfErr, OnOk, Result, is_err, Ok, Err, ◌⊎◌, inl, inr, is_none}
+use Rattle.std.proofs.Common.{not, ap, append-nil, append_assoc, refl, sym, subst}
 use Rattle.tt_calls.specs.declared.reply.Reply.{Reply}
 use Rattle.tt_calls.specs.declared.request.Request.{Request}
 use Rattle.tt_calls.specs.declared.start.Start.TheVariants as start
@@ -18,7 +20,8 @@ use Rattle.tt_machine.proofs.RunActionLemmas.{few_channels, steps_orderly}
 use Rattle.tt_machine.proofs.Steps.{one_more}
 use Rattle.tt_machine.specs.RunActions.{StepsOrderly}
 use Rattle.tt_schedule.specs.ScheduleText.{most_steps}
-use Rattle.tt_machine.specs.Machine.{Asks, CanStep, IsBarred, Machine, ReadsInput, Runs, Steps, after_act, with_new_threads, none, with_reply, start_machine, over, silent, waits}
+use Rattle.tt_machine.specs.Machine.{Asks, CanStep, IsBarred, Machine, ReadsInput, Runs, Steps, after_act, with_new_threads, none}
+use Rattle.tt_machine.specs.Machine.{with_reply, start_machine, over, silent, waits}
 use Rattle.tt_shared.specs.Acts.{act}
 use Rattle.tt_shared.specs.Enabled.{enabled}
 use Rattle.tt_shared.specs.State.{State, start_state}
@@ -72,7 +75,7 @@ able desk number request is =
     let c = both (is_none desk.kept) (is_none desk.shared.over) b.0 in
     record { nothing_met = none-of desk.kept c.0; going = none-of desk.shared.over c.1; lives = b.1; enabled = a.1 }
 
--- it could have been answered, where something else was met
+-- it could have been answered, if something else was met
 pub could-be : {S K E T : Type 0} (desk : Ground S K E) (number : ℕ) (request : Request) (result : Result T StepFault) (is : StepFault)
     → desk.kept ≡ None → (desk.kept ≡ None → IsFalse (can_act desk number request) → result ≡ Err fault.NotEnabled)
     → result ≡ Err is → is ≢ fault.NotEnabled → IsTrue (can_act desk number request)
@@ -104,7 +107,7 @@ was-read held false old new input line told reads = record {
 
 -- ---- a step of the machine ----
 
--- wherever its threads are, this one asks so, where it lives
+-- wherever its threads are, this one asks so, if it lives
 abbrev pub AsksIn : (Machine → Type 0) → (number : ℕ) → Request → (serving : List ℕ) → Type 0
 AsksIn Where number request serving =
     (machine : Machine) → Where machine → IsTrue (is_living machine.shared.rows number) → Asks machine number request serving
@@ -134,7 +137,8 @@ pub record Goes {S K E : Type 0} (held : S → Option (List ℕ)) (old new : Gro
   pub out : next.out ≡ machine.out ++ (act old.shared number request line).gives.out
   pub err : next.err ≡ machine.err ++ (act old.shared number request line).gives.err
 
-goes : {S K E : Type 0} (held : S → Option (List ℕ)) (old new : Ground S K E) (number : ℕ) (request : Request) (serving : List ℕ) (line : Line) (machine : Machine)
+goes : {S K E : Type 0} (held : S → Option (List ℕ)) (old new : Ground S K E) (number : ℕ) (request : Request) (serving : List ℕ)
+    (line : Line) (machine : Machine)
     → IsIts old.shared (unread held old.devices) machine
     → Able old number request
     → Asks machine number request serving
@@ -225,13 +229,14 @@ ran-on : (begun machine next : Machine) (earlier schedule : List ℕ) (number : 
 ran-on begun machine next earlier schedule number ran step is =
     subst (λ (numbers : List ℕ). Runs begun numbers next) (sym is) (one_more begun machine next earlier number ran step)
 
-faithful-by : (kept : Option StepFault) (cut : Bool) (begun : Machine) (schedule : List ℕ) (old_out new_out old_err new_err : Option (List ℕ)) (machine : Machine)
+faithful-by : (kept : Option StepFault) (cut : Bool) (begun : Machine) (schedule : List ℕ)
+    (old_out new_out old_err new_err : Option (List ℕ)) (machine : Machine)
     → is_cut kept ≡ cut → IsFaithful cut begun schedule old_out new_out old_err new_err machine
     → IsFaithful (is_cut kept) begun schedule old_out new_out old_err new_err machine
 faithful-by kept cut begun schedule old_out new_out old_err new_err machine is faithful =
     subst (λ (b : Bool). IsFaithful b begun schedule old_out new_out old_err new_err machine) (sym is) faithful
 
--- ---- where a run stands ----
+-- ---- the state of a run ----
 
 pub told-map : (found : Option (List ℕ)) (P Q : List ℕ → Type 0) → IfSome found P → ((input : List ℕ) → P input → Q input) → IfSome found Q
 told-map None P Q is f = tt
@@ -242,12 +247,12 @@ pub going : (kept : Option StepFault) (shared : State) (left : Option (List ℕ)
     → kept ≡ None → IsAt kept shared left Where machine → IsIts shared left machine × Where machine
 going kept shared left Where machine unmet at = subst (λ (k : Option StepFault). IsAt k shared left Where machine) unmet at
 
--- a fault is met where this stands
+-- a fault is met, and the run stands so
 at-met : (kept met : Option StepFault) (shared : State) (left : Option (List ℕ)) (Where : Machine → Type 0) (machine : Machine)
     → kept ≡ met → IsAt met shared left Where machine → IsAt kept shared left Where machine
 at-met kept met shared left Where machine is at = subst (λ (k : Option StepFault). IsAt k shared left Where machine) (sym is) at
 
--- where its threads are is said anew, if anything is said of them
+-- the places of its threads are said anew, if anything is said of them
 at-anew : (kept : Option StepFault) (shared : State) (left : Option (List ℕ)) (Old New : Machine → Type 0) (machine : Machine)
     → (IsIts shared left machine → Old machine → New machine)
     → IsAt kept shared left Old machine → IsAt kept shared left New machine
@@ -291,7 +296,7 @@ pub at-none : (kept : Option StepFault) (shared : State) (left : Option (List �
     → kept ≡ None → IsIts shared left machine × Where machine → IsAt kept shared left Where machine
 at-none kept shared left Where machine unmet its = subst (λ (k : Option StepFault). IsAt k shared left Where machine) (sym unmet) its
 
--- where its threads are after a reply, and those that were made with it
+-- the places of its threads after a reply, and of those that were made with it
 abbrev pub Becomes : Setup → (Old New : Machine → Type 0) → (number : ℕ) → Reply → List Row → Type 0
 Becomes setup Old New number reply rows =
     (machine next : Machine)
@@ -312,7 +317,7 @@ module _ {S K E : Type 0} (held : S → Option (List ℕ)) (got_out : K → Opti
   abbrev pub Of : (setup : Setup) → (began : Began S K E) → (desk : Ground S K E) → (Machine → Type 0) → Type 0
   Of setup began desk fact = OfMachine held (record { setup = setup; began = began; desk = desk }) fact
 
-  -- it follows from where the threads are
+  -- it follows from the places of the threads
   pub of-machine : (setup : Setup) (began : Began S K E) (desk : Ground S K E) (Where fact : Machine → Type 0)
       → desk.kept ≡ None → Stood setup began desk Where
       → ((machine : Machine) → IsIts desk.shared (unread held desk.devices) machine → Where machine → fact machine)
@@ -326,11 +331,13 @@ module _ {S K E : Type 0} (held : S → Option (List ℕ)) (got_out : K → Opti
   -- what a machine that goes on is faithful to
   whole-so-far : (setup : Setup) (began : Began S K E) (desk : Ground S K E) (Where : Machine → Type 0) (input : List ℕ) (machine : Machine)
       → desk.kept ≡ None → StandsAt setup began desk Where input machine
-      → IsFaithful false (start_machine setup input) desk.schedule (got_out began.output) (got_out desk.devices.output) (got_err began.errors) (got_err desk.devices.errors) machine
+      → IsFaithful false (start_machine setup input) desk.schedule (got_out began.output) (got_out desk.devices.output)
+      (got_err began.errors) (got_err desk.devices.errors) machine
   whole-so-far setup began desk Where input machine unmet is =
-      subst (λ (k : Option StepFault). IsFaithful (is_cut k) (start_machine setup input) desk.schedule (got_out began.output) (got_out desk.devices.output) (got_err began.errors) (got_err desk.devices.errors) machine) unmet is.faithful
+      subst (λ (k : Option StepFault). IsFaithful (is_cut k) (start_machine setup input) desk.schedule (got_out began.output)
+      (got_out desk.devices.output) (got_err began.errors) (got_err desk.devices.errors) machine) unmet is.faithful
 
-  -- where its threads are is said anew
+  -- the places of its threads are said anew
   pub restood : (setup : Setup) (began : Began S K E) (desk : Ground S K E) (Old New : Machine → Type 0)
       → ((machine : Machine) → machine.setup ≡ setup → IsIts desk.shared (unread held desk.devices) machine → Old machine → New machine)
       → Stood setup began desk Old → Stood setup began desk New
@@ -356,13 +363,16 @@ module _ {S K E : Type 0} (held : S → Option (List ℕ)) (got_out : K → Opti
       told-map (held began.input) _ _ stood (λ bytes standing. (standing.0, standing.1.ran, rw is standing.1.input))
 
   -- the machine after the step, with what sinks got of it
-  record After (setup : Setup) (began : Began S K E) (old new : Ground S K E) (number : ℕ) (request : Request) (line : Line) (cut : Bool) (input : List ℕ) (machine : Machine) : Type 0 where
+  record After (setup : Setup) (began : Began S K E) (old new : Ground S K E) (number : ℕ) (request : Request) (line : Line) (cut : Bool)
+      (input : List ℕ) (machine : Machine) : Type 0 where
     goes : Goes held old new number request line machine
     same : goes.next.setup ≡ setup
     ran : Runs (start_machine setup input) new.schedule goes.next
-    faithful : IsFaithful cut (start_machine setup input) new.schedule (got_out began.output) (got_out new.devices.output) (got_err began.errors) (got_err new.devices.errors) goes.next
+    faithful : IsFaithful cut (start_machine setup input) new.schedule (got_out began.output) (got_out new.devices.output)
+        (got_err began.errors) (got_err new.devices.errors) goes.next
 
-  after-whole : (setup : Setup) (began : Began S K E) (old new : Ground S K E) (number : ℕ) (request : Request) (serving : List ℕ) (line : Line) (Where : Machine → Type 0) (input : List ℕ) (machine : Machine)
+  after-whole : (setup : Setup) (began : Began S K E) (old new : Ground S K E) (number : ℕ) (request : Request) (serving : List ℕ)
+      (line : Line) (Where : Machine → Type 0) (input : List ℕ) (machine : Machine)
       → StandsAt setup began old Where input machine
       → IsTrue (can_act old number request) → AsksIn Where number request serving
       → Happens held got_out got_err Grows old number request line new
@@ -378,12 +388,15 @@ module _ {S K E : Type 0} (held : S → Option (List ℕ)) (got_out : K → Opti
         same = went.setup ∙ is.setup;
         ran = ran-on (start_machine setup input) machine went.next old.schedule new.schedule number is.ran went.steps did.entry;
         faithful = record {
-          out = whole (got_out began.output) (got_out old.devices.output) (got_out new.devices.output) machine.out (act old.shared number request line).gives.out went.next.out far.out did.out went.out;
-          err = whole (got_err began.errors) (got_err old.devices.errors) (got_err new.devices.errors) machine.err (act old.shared number request line).gives.err went.next.err far.err did.err went.err;
+          out = whole (got_out began.output) (got_out old.devices.output) (got_out new.devices.output) machine.out
+              (act old.shared number request line).gives.out went.next.out far.out did.out went.out;
+          err = whole (got_err began.errors) (got_err old.devices.errors) (got_err new.devices.errors) machine.err
+              (act old.shared number request line).gives.err went.next.err far.err did.err went.err;
         };
       }
 
-  after-cut : (setup : Setup) (began : Began S K E) (old new : Ground S K E) (number : ℕ) (request : Request) (serving : List ℕ) (line : Line) (Where : Machine → Type 0) (input : List ℕ) (machine : Machine)
+  after-cut : (setup : Setup) (began : Began S K E) (old new : Ground S K E) (number : ℕ) (request : Request) (serving : List ℕ)
+      (line : Line) (Where : Machine → Type 0) (input : List ℕ) (machine : Machine)
       → StandsAt setup began old Where input machine
       → IsTrue (can_act old number request) → AsksIn Where number request serving
       → Happens held got_out got_err GrowsByPart old number request line new
@@ -399,13 +412,18 @@ module _ {S K E : Type 0} (held : S → Option (List ℕ)) (got_out : K → Opti
         same = went.setup ∙ is.setup;
         ran = ran-on (start_machine setup input) machine went.next old.schedule new.schedule number is.ran went.steps did.entry;
         faithful = record {
-          out = cut-at (start_machine setup input) machine went.next old.schedule new.schedule number (got_out began.output) (got_out old.devices.output) (got_out new.devices.output) (λ m. m.out) (act old.shared number request line).gives.out is.ran far.out did.out went.out did.entry;
-          err = cut-at (start_machine setup input) machine went.next old.schedule new.schedule number (got_err began.errors) (got_err old.devices.errors) (got_err new.devices.errors) (λ m. m.err) (act old.shared number request line).gives.err is.ran far.err did.err went.err did.entry;
+          out = cut-at (start_machine setup input) machine went.next old.schedule new.schedule number (got_out began.output)
+              (got_out old.devices.output) (got_out new.devices.output) (λ m. m.out) (act old.shared number request line).gives.out is.ran
+              far.out did.out went.out did.entry;
+          err = cut-at (start_machine setup input) machine went.next old.schedule new.schedule number (got_err began.errors)
+              (got_err old.devices.errors) (got_err new.devices.errors) (λ m. m.err) (act old.shared number request line).gives.err is.ran
+              far.err did.err went.err did.entry;
         };
       }
 
   -- a step was taken
-  pub acted : (setup : Setup) (began : Began S K E) (old new : Ground S K E) (number : ℕ) (request : Request) (serving : List ℕ) (line : Line) (Old New : Machine → Type 0)
+  pub acted : (setup : Setup) (began : Began S K E) (old new : Ground S K E) (number : ℕ) (request : Request) (serving : List ℕ)
+      (line : Line) (Old New : Machine → Type 0)
       → IsTrue (can_act old number request) → AsksIn Old number request serving
       → Happens held got_out got_err Grows old number request line new → new.kept ≡ None
       → Becomes setup Old New number (act old.shared number request line).gives.reply new.shared.rows
@@ -425,12 +443,14 @@ module _ {S K E : Type 0} (held : S → Option (List ℕ)) (got_out : K → Opti
             becomes machine went.goes.next is.setup went.same its.1 went.goes.threads,
           );
           input = holds-rest new.devices.ahead (held new.devices.input) went.goes.next.input went.goes.left;
-          faithful = faithful-by new.kept false (start_machine setup input) new.schedule (got_out began.output) (got_out new.devices.output) (got_err began.errors) (got_err new.devices.errors) went.goes.next (ap is_cut goes_on) went.faithful;
+          faithful = faithful-by new.kept false (start_machine setup input) new.schedule (got_out began.output) (got_out new.devices.output)
+              (got_err began.errors) (got_err new.devices.errors) went.goes.next (ap is_cut goes_on) went.faithful;
         },
       ))
 
   -- a step was taken, and then there was no memory
-  pub acted-without-memory : (setup : Setup) (began : Began S K E) (old new last : Ground S K E) (number : ℕ) (request : Request) (serving : List ℕ) (line : Line) (Old New : Machine → Type 0)
+  pub acted-without-memory : (setup : Setup) (began : Began S K E) (old new last : Ground S K E) (number : ℕ) (request : Request)
+      (serving : List ℕ) (line : Line) (Old New : Machine → Type 0)
       → IsTrue (can_act old number request) → AsksIn Old number request serving
       → Happens held got_out got_err Grows old number request line new
       → last ≡ record new { kept = Some fault.NoMemory }
@@ -451,7 +471,8 @@ module _ {S K E : Type 0} (held : S → Option (List ℕ)) (got_out : K → Opti
       )))
 
   -- a write failed
-  failed-write : (setup : Setup) (began : Began S K E) (old new : Ground S K E) (number : ℕ) (request : Request) (serving : List ℕ) (line : Line) (Old New : Machine → Type 0)
+  failed-write : (setup : Setup) (began : Began S K E) (old new : Ground S K E) (number : ℕ) (request : Request) (serving : List ℕ)
+      (line : Line) (Old New : Machine → Type 0)
       → IsTrue (can_act old number request) → AsksIn Old number request serving
       → Happens held got_out got_err GrowsByPart old number request line new → new.kept ≡ Some fault.WriteFault
       → Stood setup began old Old → Stood setup began new New
@@ -465,7 +486,8 @@ module _ {S K E : Type 0} (held : S → Option (List ℕ)) (got_out : K → Opti
           ran = went.ran;
           at = at-met new.kept (Some fault.WriteFault) new.shared (unread held new.devices) New went.goes.next met tt;
           input = holds-rest new.devices.ahead (held new.devices.input) went.goes.next.input went.goes.left;
-          faithful = faithful-by new.kept true (start_machine setup input) new.schedule (got_out began.output) (got_out new.devices.output) (got_err began.errors) (got_err new.devices.errors) went.goes.next (ap is_cut met) went.faithful;
+          faithful = faithful-by new.kept true (start_machine setup input) new.schedule (got_out began.output) (got_out new.devices.output)
+              (got_err began.errors) (got_err new.devices.errors) went.goes.next (ap is_cut met) went.faithful;
         },
       ))
 
@@ -488,7 +510,8 @@ module _ {S K E : Type 0} (held : S → Option (List ℕ)) (got_out : K → Opti
           ran = rw same standing.1.ran;
           at = at-met new.kept (Some is) new.shared (unread held new.devices) New machine met (at machine its.0 its.1);
           input = holds-less (held old.devices.input) (held new.devices.input) machine.input loses standing.1.input;
-          faithful = faithful-by new.kept false (start_machine setup input) new.schedule (got_out began.output) (got_out new.devices.output) (got_err began.errors) (got_err new.devices.errors) machine (ap is_cut met ∙ cut)
+          faithful = faithful-by new.kept false (start_machine setup input) new.schedule (got_out began.output) (got_out new.devices.output)
+              (got_err began.errors) (got_err new.devices.errors) machine (ap is_cut met ∙ cut)
               (rw (same, out, err) (record { out = far.out; err = far.err }));
         },
       ))
@@ -520,7 +543,13 @@ module _ {S K E : Type 0} (held : S → Option (List ℕ)) (got_out : K → Opti
   begins : (setup : Setup) (output : K) (errors : E) (Where : Machine → Type 0) (given : S) (bytes : List ℕ)
       → held given ≡ Some bytes
       → Where (start_machine setup bytes)
-      → StandsAt setup (record { input = given; output = output; errors = errors }) (record { shared = start_state (start.Script setup.script); schedule = []; devices = record { input = given; ahead = []; output = output; errors = errors }; kept = None }) Where bytes (start_machine setup bytes)
+      → StandsAt setup (record { input = given; output = output; errors = errors })
+      (record {
+        shared = start_state (start.Script setup.script);
+        schedule = [];
+        devices = record { input = given; ahead = []; output = output; errors = errors };
+        kept = None;
+      }) Where bytes (start_machine setup bytes)
   begins setup output errors Where given bytes told there = record {
     setup = refl;
     ran = none;
@@ -532,14 +561,26 @@ module _ {S K E : Type 0} (held : S → Option (List ℕ)) (got_out : K → Opti
   at-start : (setup : Setup) (output : K) (errors : E) (Where : Machine → Type 0) (given : S) (told : Option (List ℕ))
       → held given ≡ told
       → ((bytes : List ℕ) → Where (start_machine setup bytes))
-      → IfSome told (λ bytes. (machine : Machine) × StandsAt setup (record { input = given; output = output; errors = errors }) (record { shared = start_state (start.Script setup.script); schedule = []; devices = record { input = given; ahead = []; output = output; errors = errors }; kept = None }) Where bytes machine)
+      → IfSome told
+      (λ bytes. (machine : Machine) × StandsAt setup (record { input = given; output = output; errors = errors })
+      (record {
+        shared = start_state (start.Script setup.script);
+        schedule = [];
+        devices = record { input = given; ahead = []; output = output; errors = errors };
+        kept = None;
+      }) Where bytes machine)
   at-start setup output errors Where given None is there = tt
   at-start setup output errors Where given (Some bytes) is there =
       (start_machine setup bytes, begins setup output errors Where given bytes is (there bytes))
 
   -- it began
   pub begun : (setup : Setup) (input : S) (output : K) (errors : E) (Where : Machine → Type 0) (desk : Ground S K E)
-      → desk ≡ record { shared = start_state (start.Script setup.script); schedule = []; devices = record { input = input; ahead = []; output = output; errors = errors }; kept = None }
+      → desk ≡ record {
+        shared = start_state (start.Script setup.script);
+        schedule = [];
+        devices = record { input = input; ahead = []; output = output; errors = errors };
+        kept = None;
+      }
       → ((bytes : List ℕ) → Where (start_machine setup bytes))
       → Stood setup (record { input = input; output = output; errors = errors }) desk Where
   begun setup input output errors Where desk is there =
@@ -580,7 +621,8 @@ module _ {S K E : Type 0} (held : S → Option (List ℕ)) (got_out : K → Opti
       go (inl not) = absurd (other not)
       go (inr known) = known
 
-  pub failed : {T : Type 0} (setup : Setup) (began : Began S K E) (old new : Ground S K E) (number : ℕ) (request : Request) (serving : List ℕ) (Where : Machine → Type 0) (result : Result T StepFault) (is : StepFault)
+  pub failed : {T : Type 0} (setup : Setup) (began : Began S K E) (old new : Ground S K E) (number : ℕ) (request : Request)
+      (serving : List ℕ) (Where : Machine → Type 0) (result : Result T StepFault) (is : StepFault)
       → AsksIn Where number request serving → result ≡ Err is → Failed old new number request result
       → Stood setup began old Where → Stood setup began new Where
   failed setup began old new number request serving Where result fault.NotEnabled asks was f stood =
@@ -593,7 +635,8 @@ module _ {S K E : Type 0} (held : S → Option (List ℕ)) (got_out : K → Opti
       failed-write setup began old new number request serving cut.0 Where Where can asks cut.1 (met new result fault.WriteFault f.kept was (λ same. cc)) stood
   failed setup began old new number request serving Where result fault.NoMemory asks was f stood =
       let pieces = f.no_piece was in
-      without-memory setup began old new Where Where f.nothing_met (met new result fault.NoMemory f.kept was (λ same. cc)) (f.no_entry was) pieces.0 pieces.1 f.taken stood
+      without-memory setup began old new Where Where f.nothing_met (met new result fault.NoMemory f.kept was (λ same. cc)) (f.no_entry was)
+      pieces.0 pieces.1 f.taken stood
 
   -- ---- what a fault is met at ----
 
@@ -639,7 +682,8 @@ module _ {S K E : Type 0} (held : S → Option (List ℕ)) (got_out : K → Opti
 
   -- ---- what a step keeps to ----
 
-  pub keeps-to : (setup : Setup) (began : Began S K E) (old new : Ground S K E) (number : ℕ) (request : Request) (serving : List ℕ) (line : Line) (Where : Machine → Type 0)
+  pub keeps-to : (setup : Setup) (began : Began S K E) (old new : Ground S K E) (number : ℕ) (request : Request) (serving : List ℕ)
+      (line : Line) (Where : Machine → Type 0)
       → AsksIn Where number request serving → IsTrue (can_act old number request)
       → Happens held got_out got_err Grows old number request line new
       → length old.schedule < most_steps
@@ -653,7 +697,8 @@ module _ {S K E : Type 0} (held : S → Option (List ℕ)) (got_out : K → Opti
       let asks = asking machine its.1 (rw (← its.0.is_shared) has.lives) in
       let went = goes held old new number request serving line machine its.0 has asks did.read did.shared in
       let longer = old.schedule ++ number ∷ [] in
-      let few = few_channels setup input went.next longer (one_more (start_machine setup input) machine went.next old.schedule number standing.1.ran went.steps) in
+      let few = few_channels setup input went.next longer
+      (one_more (start_machine setup input) machine went.next old.schedule number standing.1.ran went.steps) in
       let count : length longer ≡ length old.schedule + 1 = length-append old.schedule (number ∷ []) in
       let fits = few_fit went.next.shared.channels.next (length longer) few (omega (arith, count, room)) in
       (machine, standing.1.ran, steps_orderly setup input machine went.next old.schedule number standing.1.ran went.steps fits))

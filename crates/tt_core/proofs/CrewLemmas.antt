@@ -1,11 +1,12 @@
 -- Places of threads, and what becomes of them.
-use Rattle.std.proofs.Common.{◌≡◌, ◌∙◌, ◌+◌, ◌-◌, ◌==◌, ◌<◌, ◌≤◌, ℕ, zero, suc, Bool, true, false, IsTrue, IsFalse, List, [], ◌∷◌, ◌++◌, length, drop, take, map, Option, Some, None, cond, ap, append-nil, append_assoc, inl, inr, nat_le, rules, arith, refl, slice_get, slice_set, sym, subst}
-use Rattle.std.proofs.lemmas.List.{length-append, length-drop, map-append}
-use Rattle.std.specs.Option.{option_map}
+use Rattle.std.proofs.Common.{◌≡◌, ◌∙◌, ◌+◌, ◌-◌, ◌<◌, ◌≤◌, ℕ, zero, suc, Bool, true, false, IsTrue, IsFalse, List, [], ◌∷◌}
+use Rattle.std.proofs.Common.{◌++◌, length, Option, Some, None, ap, append-nil, append_assoc, inl, inr}
+use Rattle.std.proofs.Common.{nat_le, rules, arith, refl, slice_get, sym, subst}
+use Rattle.std.specs.Option.{option_flatten, option_map}
+use Rattle.tt_calls.specs.Numbers.{at_number}
 use Rattle.tt_calls.specs.declared.outcome.Code.{Code}
 use Rattle.tt_calls.specs.declared.outcome.Code.TheVariants as code
 use Rattle.tt_calls.specs.declared.reply.Reply.{Reply}
-use Rattle.tt_calls.specs.declared.request.Request.{Request}
 use Rattle.tt_calls.specs.declared.start.Start.{Start}
 use Rattle.tt_interp.specs.Asking.{AsksNext, asks, ends, end_by, goes_on}
 use Rattle.tt_interp.specs.Beginning.{IsNext}
@@ -17,24 +18,25 @@ use Rattle.tt_interp.specs.declared.kept.Kept.{Kept}
 use Rattle.tt_interp.specs.declared.setup.Setup.{Setup}
 use Rattle.tt_run.specs.Desk.{Ground}
 use Rattle.tt_outcomes.specs.Endings.{code_of}
-use Rattle.tt_machine.specs.Machine.{Thread, with_new_threads, new_thread, with_reply, thread_of, thread_with_reply, with_reply_at}
+use Rattle.tt_machine.specs.Machine.{Thread, with_reply, thread_with_reply}
 use Rattle.tt_machine.proofs.OneRequest.{nothing_after}
 use Rattle.tt_threads.specs.Rows.{row_of}
 use Rattle.tt_threads.specs.declared.row.Row.{Row}
-use Rattle.tt_core.proofs.PlaceLemmas.{HaveBegun, add-suc, not-zero, sub-one, each-at, each-none, each-set, numbered, one-begun, one-more, told-is}
-use Rattle.tt_core.specs.inside.Crew.{ArePlaced, BeginsThread, GoesOn, IsFirstReady, IsReadyAfter, IsPlaced, IsReplied, AsksNothing, Places, StandsIn, interp_of, is_ready, interp_in}
+use Rattle.tt_core.proofs.PlaceLemmas.{HaveBegun, add-suc, each-at, each-none, each-set, numbered, one-begun, one-more, told-is}
+use Rattle.tt_core.specs.inside.Crew.{ArePlaced, BeginsLast, IsFirstReady, IsReadyAfter, IsPlaced, IsReplied, AsksNothing}
+use Rattle.tt_core.specs.inside.Crew.{Places, StandsIn, TakesReply, interp_of, is_ready}
 
 -- ---- numbers ----
 
 one-plus : (n : ℕ) → 1 + (suc n - 1) ≡ suc n
 one-plus n = omega arith
 
-numbered-place : (places : Places) (n : ℕ) → interp_of places (suc n) ≡ interp_in (slice_get places n)
-numbered-place places n = rw (not-zero n, sub-one n) refl
+numbered-place : (places : Places) (n : ℕ) → interp_of places (suc n) ≡ option_flatten (slice_get places n)
+numbered-place places n = ap option_flatten (numbered places n)
 
 -- ---- by number ----
 
-placed-some : (found : Option (Option Interpreter)) (interp : Interpreter) → interp_in found ≡ Some interp → found ≡ Some (Some interp)
+placed-some : (found : Option (Option Interpreter)) (interp : Interpreter) → option_flatten found ≡ Some interp → found ≡ Some (Some interp)
 placed-some None interp is = absurd (cc is)
 placed-some (Some None) interp is = absurd (cc is)
 placed-some (Some (Some one)) interp is = ap Some is
@@ -42,7 +44,7 @@ placed-some (Some (Some one)) interp is = ap Some is
 -- the thread that an interpreter stands for
 pub record StandsFor (setup : Setup) (number : ℕ) (threads : List Thread) (interp : Interpreter) : Type 0 where
   pub thread : Thread
-  pub made : thread_of threads number ≡ Some thread
+  pub made : at_number threads number ≡ Some thread
   pub stands : StandsIn interp setup number thread
 
 pub stands-for : (setup : Setup) (number : ℕ) (threads : List Thread) (places : Places) (interp : Interpreter)
@@ -51,18 +53,22 @@ stands-for setup zero threads places interp are is = absurd (cc is)
 stands-for setup (suc k) threads places interp are is =
     let found = each-at (IsPlaced setup) 1 k threads places (Some interp) are
     (placed-some (slice_get places k) interp (sym (numbered-place places k) ∙ is)) in
-    record { thread = found.thread; made = numbered threads k ∙ found.there; stands = subst (λ (n : ℕ). IsPlaced setup n found.thread (Some interp)) (one-more k) found.placed }
+    record {
+      thread = found.thread;
+      made = numbered threads k ∙ found.there;
+      stands = subst (λ (n : ℕ). IsPlaced setup n found.thread (Some interp)) (one-more k) found.placed;
+    }
 
 none-some : {X : Type 0} {found : Option X} {x : X} → found ≡ None → found ≡ Some x → ⊥
 none-some is also = cc
 
 -- a thread without a place was never made, or asks nothing
-none-made : (threads : List Thread) (k : ℕ) (thread : Thread) → slice_get threads k ≡ None → thread_of threads (suc k) ≡ Some thread → ⊥
+none-made : (threads : List Thread) (k : ℕ) (thread : Thread) → slice_get threads k ≡ None → at_number threads (suc k) ≡ Some thread → ⊥
 none-made threads k thread none made = none-some none (sym (numbered threads k) ∙ made)
 
 by-place : (setup : Setup) (k : ℕ) (threads : List Thread) (places : Places) (found : Option (Option Interpreter)) (thread : Thread)
-    → ArePlaced setup 1 threads places → slice_get places k ≡ found → interp_in found ≡ None
-    → thread_of threads (suc k) ≡ Some thread → AsksNothing setup (suc k) thread
+    → ArePlaced setup 1 threads places → slice_get places k ≡ found → option_flatten found ≡ None
+    → at_number threads (suc k) ≡ Some thread → AsksNothing setup (suc k) thread
 by-place setup k threads places None thread are at none made =
     absurd (none-made threads k thread (each-none (IsPlaced setup) 1 k threads places are at) made)
 by-place setup k threads places (Some (Some interp)) thread are at none made = absurd (cc none)
@@ -72,19 +78,19 @@ by-place setup k threads places (Some None) thread are at none made =
     subst (λ (one : Thread). AsksNothing setup (suc k) one) same
     (subst (λ (n : ℕ). IsPlaced setup n found.thread None) (one-more k) found.placed)
 
-zero-made : (threads : List Thread) (thread : Thread) → thread_of threads 0 ≡ Some thread → ⊥
+zero-made : (threads : List Thread) (thread : Thread) → at_number threads 0 ≡ Some thread → ⊥
 zero-made threads thread made = absurd (cc made)
 
 pub silent : (setup : Setup) (number : ℕ) (threads : List Thread) (places : Places) (thread : Thread)
     → ArePlaced setup 1 threads places → interp_of places number ≡ None
-    → thread_of threads number ≡ Some thread → AsksNothing setup number thread
+    → at_number threads number ≡ Some thread → AsksNothing setup number thread
 silent setup zero threads places thread are none made = absurd (zero-made threads thread made)
 silent setup (suc k) threads places thread are none made =
     by-place setup k threads places (slice_get places k) thread are refl (sym (numbered-place places k) ∙ none) made
 
 -- ---- a reply ----
 
--- what is asked where an interpreter halts
+-- what an interpreter asks that halts
 pub asks-at : (kept : Kept) (at : Standing) → IsTrue (interps.is_halted at) → AsksNext (coming at) kept [] (request_of at) (serving_of at)
 asks-at kept (standing.Fresh start me limit) halted = absurd (cc halted)
 asks-at kept (standing.Asks stack request) halted = asks refl
@@ -114,7 +120,7 @@ stands-asking setup number thread interp is =
     (is.later [] (request_of interp.standing) (serving_of interp.standing) (asks-at interp.kept interp.standing is.halted))
 
 pub goes-placed : (setup : Setup) (number : ℕ) (thread : Thread) (interp : Interpreter) (reply : Reply) (place : Option Interpreter)
-    → StandsIn interp setup number thread → GoesOn interp reply place → IsPlaced setup number (thread_with_reply reply thread) place
+    → StandsIn interp setup number thread → TakesReply interp reply place → IsPlaced setup number (thread_with_reply reply thread) place
 goes-placed setup number thread interp reply (Some later) is goes = record {
   halted = goes.1;
   later = λ replies request serving next.
@@ -147,7 +153,7 @@ replied-placed setup number reply threads old new are is =
 pub begins-one : (setup : Setup) (begun : Start) (number : ℕ) (fresh later : Interpreter) (old new : Places)
     → number ≡ length old + 1 → interps.StandsFor fresh setup number begun → interps.GoesOn later fresh None
     → IsTrue (interps.is_halted later.standing) → new ≡ old ++ Some later ∷ []
-    → BeginsThread setup (record { start = begun; replies = [] }) old new
+    → BeginsLast setup (record { start = begun; replies = [] }) old new
 begins-one setup begun number fresh later old new next stands goes halted pushed = record {
   interp = later;
   pushed = pushed;
@@ -161,7 +167,7 @@ begins-one setup begun number fresh later old new next stands goes halted pushed
 pub one-more-begun : (setup : Setup) (rows : List Row) (old mid new : Places) (number : ℕ) (begun : Start)
     → HaveBegun (IsPlaced setup) rows old mid → number ≡ length mid + 1
     → option_map (λ (row : Row). row.start) (row_of rows number) ≡ Some begun
-    → BeginsThread setup (record { start = begun; replies = [] }) mid new
+    → BeginsLast setup (record { start = begun; replies = [] }) mid new
     → HaveBegun (IsPlaced setup) rows old new
 one-more-begun setup rows old mid new number begun have next started one =
     one-begun (IsPlaced setup) rows old mid new number begun (Some one.interp) have next started one.pushed one.stands
@@ -175,7 +181,7 @@ beyond-get (place ∷ places) (suc k) le = beyond-get places k (omega (arith, le
 
 beyond : (places : Places) (number : ℕ) → length places < number → interp_of places number ≡ None
 beyond places zero above = refl
-beyond places (suc k) above = numbered-place places k ∙ ap interp_in (beyond-get places k (omega (arith, above)))
+beyond places (suc k) above = numbered-place places k ∙ ap option_flatten (beyond-get places k (omega (arith, above)))
 
 pub beyond-ready : {S K E : Type 0} (desk : Ground S K E) (places : Places) (number : ℕ) → length places < number → IsFalse (is_ready desk places number)
 beyond-ready desk places number above = rw (beyond places number above) refl

@@ -1,10 +1,13 @@
 -- Places of threads, whatever a place is, and those of threads that were made.
-use Rattle.std.proofs.Common.{◌≡◌, ◌∙◌, ◌+◌, ◌-◌, ◌==◌, ◌≤◌, ℕ, zero, suc, Bool, true, false, List, [], ◌∷◌, ◌++◌, length, drop, take, map, Option, Some, None, cond, ap, append-nil, append_assoc, rules, arith, refl, slice_get, slice_set, sym, subst}
+use Rattle.std.proofs.Common.{◌≡◌, ◌∙◌, ◌+◌, ◌-◌, ◌==◌, ◌≤◌, ℕ, zero, suc, false, List, [], ◌∷◌, ◌++◌, length, drop}
+use Rattle.std.proofs.Common.{take, map, Option, Some, None, ap, append-nil, append_assoc, rules, arith, refl, slice_get}
+use Rattle.std.proofs.Common.{slice_set, sym, subst}
 use Rattle.std.proofs.lemmas.List.{length-append, length-drop, map-append}
 use Rattle.std.specs.Option.{option_map}
 use Rattle.tt_calls.specs.declared.start.Start.{Start}
-use Rattle.tt_machine.specs.Machine.{Thread, with_new_threads, new_thread, with_reply, thread_of, thread_with_reply}
+use Rattle.tt_calls.specs.Numbers.{at_number, with_at}
 use Rattle.tt_calls.specs.declared.reply.Reply.{Reply}
+use Rattle.tt_machine.specs.Machine.{Thread, with_new_threads, new_thread, with_reply, thread_with_reply}
 use Rattle.tt_threads.specs.Rows.{row_of}
 use Rattle.tt_threads.specs.declared.row.Row.{Row}
 use Rattle.tt_core.specs.inside.Crew.{AllMade, AreEach}
@@ -30,11 +33,12 @@ pub one-more : (n : ℕ) → 1 + n ≡ suc n
 one-more n = omega arith
 
 -- the item of a number
-pub numbered : {X : Type 0} (xs : List X) (n : ℕ) → cond (suc n == 0) None (slice_get xs (suc n - 1)) ≡ slice_get xs n
+pub numbered : {X : Type 0} (xs : List X) (n : ℕ) → at_number xs (suc n) ≡ slice_get xs n
 numbered xs n = rw (not-zero n, sub-one n) refl
 
 pub told-is : (threads : List Thread) (number : ℕ) (reply : Reply) (thread : Thread)
-    → thread_of threads number ≡ Some thread → with_reply threads number reply ≡ slice_set threads (number - 1) (thread_with_reply reply thread)
+    → at_number threads number ≡ Some thread
+    → with_reply threads number reply ≡ with_at threads number (thread_with_reply reply thread)
 told-is threads number reply thread made = rw made refl
 
 -- ---- lists ----
@@ -67,7 +71,8 @@ take-whole {X = X} (suc n) (x ∷ xs) le = ap (λ (list : List X). x ∷ list) (
 
 -- ---- the start of a thread that was made ----
 
-row-at : (found : Option Row) (begun : Start) → option_map (λ (row : Row). row.start) found ≡ Some begun → (row : Row) × (found ≡ Some row) × (row.start ≡ begun)
+row-at : (found : Option Row) (begun : Start) → option_map (λ (row : Row). row.start) found ≡ Some begun
+    → (row : Row) × (found ≡ Some row) × (row.start ≡ begun)
 row-at None begun is = absurd (cc is)
 row-at (Some row) begun is = (row, refl, started is)
   where
@@ -180,16 +185,19 @@ module _ {P : Type 0} (Is : ℕ → Thread → P → Type 0) where
       let m = length have.more in
       let count : length mid ≡ length old + m = rw have.pushed (length-append old have.more) in
       let found = started-at rows number (length mid) begun (next ∙ add-suc (length mid)) started in
-      let there : slice_get (drop (length old) rows) m ≡ Some found.0 = get-drop rows (length old) m ∙ (subst (λ (n : ℕ). slice_get rows n ≡ Some found.0) count found.1) in
+      let there : slice_get (drop (length old) rows) m ≡ Some found.0 =
+      get-drop rows (length old) m ∙ (subst (λ (n : ℕ). slice_get rows n ≡ Some found.0) count found.1) in
       let thread : new_thread found.0 ≡ record { start = begun; replies = [] } = ap (λ (s : Start). record { start = s; replies = [] }) found.2 in
-      let all : map new_thread (take (suc m) (drop (length old) rows)) ≡ map new_thread (take m (drop (length old) rows)) ++ record { start = begun; replies = [] } ∷ [] =
+      let all : map new_thread (take (suc m) (drop (length old) rows)) ≡ map new_thread
+      (take m (drop (length old) rows)) ++ record { start = begun; replies = [] } ∷ [] =
       rw (take-more (drop (length old) rows) m found.0 there, map-append new_thread (take m (drop (length old) rows)) (found.0 ∷ []), thread) refl in
       let stands = subst (λ (n : ℕ). Is n (record { start = begun; replies = [] }) place) (ap suc count ∙ sym (suc-plus (length old) m)) is in
       record {
         more = have.more ++ place ∷ [];
         pushed = pushed ∙ ap (λ (places : List P). places ++ place ∷ []) have.pushed ∙ append_assoc old have.more (place ∷ []);
         placed = rw (length-more have.more place, all)
-            (each-more (suc (length old)) (map new_thread (take m (drop (length old) rows))) (record { start = begun; replies = [] } ∷ []) have.more (place ∷ []) have.placed (stands, tt));
+            (each-more (suc (length old)) (map new_thread (take m (drop (length old) rows))) (record { start = begun; replies = [] } ∷ [])
+            have.more (place ∷ []) have.placed (stands, tt));
       }
 
   -- all have

@@ -1,5 +1,6 @@
--- Where a system stands after a step.
-use Rattle.std.proofs.Common.{◌≡◌, ◌≢◌, ◌∙◌, ◌<◌, ◌≤◌, length, ℕ, Bool, true, false, IsTrue, IsFalse, List, [], ◌∷◌, Option, Some, None, Result, Err, inl, inr, is_none, is_some, not, refl, sym, subst}
+-- What a system stands for after a step.
+use Rattle.std.proofs.Common.{◌≡◌, ◌∙◌, ◌<◌, length, ℕ, Bool, true, false, IsTrue, IsFalse, List, [], ◌∷◌, Option, Some}
+use Rattle.std.proofs.Common.{None, Result, Err, inl, inr, is_none, is_some, not, refl, sym, subst}
 use Rattle.std.specs.Option.{option_map}
 use Rattle.tt_calls.specs.declared.reply.Reply.{Reply}
 use Rattle.tt_calls.specs.declared.request.Request.{Request}
@@ -15,19 +16,19 @@ use Rattle.tt_interp.specs.declared.setup.Setup.{Setup}
 use Rattle.tt_lines.specs.Lines.{reads_line}
 use Rattle.tt_machine.proofs.Steps.{not_barred}
 use Rattle.tt_machine.specs.RunActions.{StepsOrderly}
-use Rattle.tt_machine.specs.Machine.{Asks, CanStep, IsBarred, IsStuck, Machine, with_new_threads, with_reply, start_machine, silent}
+use Rattle.tt_machine.specs.Machine.{CanStep, IsBarred, IsStuck, Machine, with_reply, start_machine, silent}
 use Rattle.tt_schedule.specs.ScheduleText.{most_steps}
 use Rattle.tt_shared.specs.Acts.{act}
 use Rattle.tt_shared.specs.State.{start_state}
 use Rattle.tt_shared.specs.declared.applied.Line.{Line}
-use Rattle.tt_threads.specs.Rows.{is_living}
 use Rattle.tt_threads.specs.declared.row.Row.{Row}
 use Rattle.tt_core.proofs.ActionLemmas as actions
 use Rattle.tt_core.proofs.ActionLemmas.{AsksIn, Becomes, Failed, Of, Stood, able, acted, acted-without-memory, barred-asking, of-machine, some-none}
 use Rattle.tt_core.proofs.CrewLemmas as crew
 use Rattle.tt_core.proofs.PlaceLemmas.{joined-each}
 use Rattle.tt_core.proofs.CrewLemmas.{replied-placed, stands-asking, stands-for}
-use Rattle.tt_core.specs.inside.Crew.{AllBegin, AreBusy, AreIdle, ArePlaced, able as can_be, ended as has_ended, IsReadyAfter, IsPlaced, IsReplied, Places, StandsIn, asked_by, can_act_at, interp_of, is_ready}
+use Rattle.tt_core.specs.inside.Crew.{AllBegin, AreBusy, AreIdle, ArePlaced, able as can_be, ended as has_ended, IsReadyAfter}
+use Rattle.tt_core.specs.inside.Crew.{IsPlaced, IsReplied, Places, StandsIn, asked_by, can_act_at, interp_of, is_ready}
 use Rattle.tt_core.specs.Faithful.{AsksLine, StepWrites}
 use Rattle.tt_core.specs.Stage.{Began, IsNextAfter}
 use Rattle.tt_core.specs.inside.Standing.{InPlaces, IsIts}
@@ -42,8 +43,9 @@ pub not-not : (b : Bool) → IsFalse b → IsFalse (not (not b))
 not-not true is = absurd (cc is)
 not-not false is = refl
 
--- somebody is ready, where somebody is next
-pub some-ready : (ready : ℕ → Bool) (after : ℕ) (found : Option ℕ) → IsFalse (is_none found) → IsReadyAfter ready after found → (number : ℕ) × IsTrue (ready number)
+-- somebody is ready, if somebody is next
+pub some-ready : (ready : ℕ → Bool) (after : ℕ) (found : Option ℕ) → IsFalse (is_none found) → IsReadyAfter ready after found
+    → (number : ℕ) × IsTrue (ready number)
 some-ready ready after None is next = absurd (cc is)
 some-ready ready after (Some number) is next = (number, next.0)
 
@@ -95,7 +97,12 @@ module _ {S K E : Type 0} (held : S → Option (List ℕ)) (got_out : K → Opti
 
   -- it began
   pub begun : (setup : Setup) (input : S) (output : K) (errors : E) (interp : Interpreter) (places : Places) (desk : Ground S K E)
-      → desk ≡ record { shared = start_state (start.Script setup.script); schedule = []; devices = record { input = input; ahead = []; output = output; errors = errors }; kept = None }
+      → desk ≡ record {
+        shared = start_state (start.Script setup.script);
+        schedule = [];
+        devices = record { input = input; ahead = []; output = output; errors = errors };
+        kept = None;
+      }
       → places ≡ Some interp ∷ []
       → StandsIn interp setup 1 (record { start = start.Script setup.script; replies = [] })
       → In setup (record { input = input; output = output; errors = errors }) desk places
@@ -192,7 +199,8 @@ module _ {S K E : Type 0} (held : S → Option (List ℕ)) (got_out : K → Opti
   went-on setup began old new number request did places after can is happens kept goes stood =
       let one = asked-in places number request is in
       let replies = subst (λ (reply : Reply). IsReplied number reply places goes.0) happens.2.reply goes.1 in
-      acted held got_out got_err setup began old new number request (serving_of one.interp.standing) happens.0 (InPlaces places) (InPlaces after) can one.asks happens.1 kept
+      acted held got_out got_err setup began old new number request (serving_of one.interp.standing) happens.0 (InPlaces places)
+      (InPlaces after) can one.asks happens.1 kept
       (places-after setup number (act old.shared number request happens.0).gives.reply new.shared.rows places goes.0 after replies goes.2) stood
 
   pub ran-out : (setup : Setup) (began : Began S K E) (old new last : Ground S K E) (number : ℕ) (request : Request) (did : Acted) (places after : Places)
@@ -202,9 +210,11 @@ module _ {S K E : Type 0} (held : S → Option (List ℕ)) (got_out : K → Opti
       → In setup began old places → In setup began last after
   ran-out setup began old new last number request did places after can is happens is_last stood =
       let one = asked-in places number request is in
-      acted-without-memory held got_out got_err setup began old new last number request (serving_of one.interp.standing) happens.0 (InPlaces places) (InPlaces after) can one.asks happens.1 is_last stood
+      acted-without-memory held got_out got_err setup began old new last number request (serving_of one.interp.standing) happens.0
+      (InPlaces places) (InPlaces after) can one.asks happens.1 is_last stood
 
-  pub failed : {T : Type 0} (setup : Setup) (began : Began S K E) (old new : Ground S K E) (number : ℕ) (request : Request) (places : Places) (result : Result T StepFault) (is : StepFault)
+  pub failed : {T : Type 0} (setup : Setup) (began : Began S K E) (old new : Ground S K E) (number : ℕ) (request : Request)
+      (places : Places) (result : Result T StepFault) (is : StepFault)
       → Some request ≡ asked_by places number → result ≡ Err is → Failed held got_out got_err old new number request result
       → In setup began old places → In setup began new places
   failed setup began old new number request places result is asks was f stood =
@@ -291,4 +301,5 @@ module _ {S K E : Type 0} (held : S → Option (List ℕ)) (got_out : K → Opti
       → Of held got_out got_err setup began old (StepsOrderly number)
   keeps-to setup began old new number request did places is can happens room stood =
       let one = asked-in places number request is in
-      actions.keeps-to held got_out got_err setup began old new number request (serving_of one.interp.standing) happens.0 (InPlaces places) one.asks can happens.1 room stood
+      actions.keeps-to held got_out got_err setup began old new number request (serving_of one.interp.standing) happens.0 (InPlaces places)
+      one.asks can happens.1 room stood

@@ -41,7 +41,7 @@ pub record IsFaithful (cut : Bool) (begun : Machine) (schedule : List ℕ)
   pub out : HasWritten cut begun schedule old_out new_out (λ m. m.out) machine
   pub err : HasWritten cut begun schedule old_err new_err (λ m. m.err) machine
 
--- if standard input told its bytes, they got what the machine after the schedule wrote
+-- if the bytes of standard input are known, they got what the machine after the schedule wrote
 abbrev pub AreFaithful :
     {S K E : Type 0} →
     (held : S → Option (List ℕ)) → (got_out : K → Option (List ℕ)) → (got_err : E → Option (List ℕ)) →

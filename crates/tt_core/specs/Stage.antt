@@ -15,7 +15,7 @@ pub record Stage (S K E : Type 0) : Type 0 where
   pub began : Began S K E
   pub desk : Ground S K E
 
--- if standard input told its bytes, there is the machine after the schedule, and this holds of it
+-- if the bytes of standard input are known, there is the machine after the schedule, and this holds of it
 abbrev pub OfMachine :
     {S K E : Type 0} → (held : S → Option (List ℕ)) → Stage S K E → (Machine → Type 0) → Type 0
 OfMachine held stage fact =

@@ -1,32 +1,33 @@
 //! The interpreters of the threads.
 ghost use Rattle.std.specs.Prelude.{◌≡◌, ◌+◌, [], Some, IfOk, IfSome, IsSome, OnOk, OnErr, length};
 ghost use Rattle.std.specs.Option.{option_copied};
-ghost use Rattle.tt_core.specs.inside.Crew.{AllBegin, BeginsThread, GoesOn, IsHalted, IsReplied, Resumes, asked_by, interp_of};
+ghost use Rattle.tt_core.specs.inside.Crew.{AllBegin, BeginsLast, IsHalted, IsReplied, Resumes};
+ghost use Rattle.tt_core.specs.inside.Crew.{TakesReply, asked_by, interp_of};
 
 use std::alloc::Global;
 use std::marker::Model;
 use tt_calls::{Reply, Request, Start};
 use tt_devices::{Sink, Source};
 use tt_interp::{Interp, Setup};
+use tt_places::Places;
 use tt_run::Desk;
 use tt_text::NoMemory;
 
 /// The interpreters of the threads, by number from 1, each at what its thread asks; a thread that has ended has none.
 #[derive(Drop)]
 pub(crate) struct Crew {
-    interps: Vec<Option<Interp>>,
+    interps: Places<Option<Interp>>,
 }
 
 impl Model for Crew {
     ghost use Rattle.std.specs.List.{AllByRecursion};
-    ghost use Rattle.std.specs.Prelude.{◌≤◌, length};
-    ghost use Rattle.tt_core.specs.inside.Crew.{IsHalted, Places};
+    ghost use Rattle.tt_core.specs.inside.Crew.{IsHalted, Places as AllPlaces};
 
-    ghost Value = { Places };
+    ghost Value = { AllPlaces };
 
-    ghost view = { λ crew. crew.interps.items };
+    ghost view = { λ crew. crew.interps };
 
-    ghost invariant = { λ crew. AllByRecursion IsHalted crew.interps.items × (length crew.interps.items ≤ 4294967295) };
+    ghost invariant = { λ crew. AllByRecursion IsHalted crew.interps };
 }
 
 impl Crew {
@@ -35,7 +36,7 @@ impl Crew {
         ensures { result ≡ [] }
     {
         Crew {
-            interps: Vec::new(alloc),
+            interps: Places::new(alloc),
         }
     }
 
@@ -43,7 +44,7 @@ impl Crew {
     pub(crate) fn len(&self) -> u32
         ensures { result ≡ length self.now }
     {
-        self.interps.as_slice().len() as u32
+        self.interps.len()
     }
 
     /// The thread after the last begins, with this number.
@@ -55,7 +56,7 @@ impl Crew {
         setup: &Setup,
     ) -> Result<(), NoMemory>
         requires next { number ≡ length self.old + 1 }
-        ensures begins { OnOk result (BeginsThread setup.now (record { start = start.now; replies = [] }) self.old self.new) }
+        ensures begins { OnOk result (BeginsLast setup.now (record { start = start.now; replies = [] }) self.old self.new) }
     {
         let mut interp = Interp::new(alloc, start, number, setup)?;
         interp.resume(None)?;
@@ -67,10 +68,7 @@ impl Crew {
     pub(crate) fn request(&self, number: u32) -> Option<&Request>
         ensures asks { option_copied result ≡ asked_by self.now number }
     {
-        if number == 0 {
-            return None;
-        }
-        match self.interps.get(number as usize - 1) {
+        match self.interps.get(number) {
             Some(Some(interp)) => Some(interp.request()),
             Some(None) | None => None,
         }
@@ -83,13 +81,7 @@ impl Crew {
         requires there { IsSome (interp_of self.old number) }
         ensures replied { OnOk result (IsReplied number reply self.old self.new) }
     {
-        if number == 0 {
-            return Ok(());
-        }
-        let Some(place) = self.interps.get_mut(number as usize - 1) else {
-            return Ok(());
-        };
-        go_on(place, reply)
+        go_on(self.interps.place_mut(number), reply)
     }
 
     /// Threads that were made begin.
@@ -114,7 +106,7 @@ impl Crew {
 /// An interpreter goes on with a reply; if its thread has ended, or memory is refused, there is none any more.
 fn go_on(place: &mut Option<Interp>, reply: Reply) -> Result<(), NoMemory>
     requires there { IsSome place.old }
-    ensures goes { OnOk result (IfSome place.old (λ interp. GoesOn interp reply place.new)) }
+    ensures goes { OnOk result (IfSome place.old (λ interp. TakesReply interp reply place.new)) }
     ensures halts { IsHalted place.new }
 {
     match place {

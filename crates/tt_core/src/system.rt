@@ -1,6 +1,8 @@
-ghost use Rattle.std.specs.Prelude.{◌≡◌, ◌≢◌, ◌<◌, ◌≤◌, ◌+◌, ◌++◌, ◌∷◌, [], ◌⊎◌, ℕ, Option, Some, None, Err, IsSome, IsTrue, IsFalse, IfOk, IfErr, OnOk, IsErrOf, IfSome, length};
+ghost use Rattle.std.specs.Prelude.{◌≡◌, ◌≢◌, ◌<◌, ◌≤◌, ◌+◌, ◌++◌, ◌∷◌, [], ◌⊎◌, ℕ, Option, Some, None};
+ghost use Rattle.std.specs.Prelude.{Err, IsSome, IsTrue, IsFalse, IfOk, IfErr, OnOk, IsErrOf, IfSome, length};
 ghost use Rattle.tt_calls.specs.declared.start.Start.TheVariants as start;
-ghost use Rattle.tt_core.specs.inside.Crew.{AllBegin, AreBusy, AreIdle, BeginsThread, IsFirstReady, IsReadyAfter, IsReplied, Places, interp_of, is_ready};
+ghost use Rattle.tt_core.specs.inside.Crew.{AllBegin, AreBusy, AreIdle, BeginsLast, IsFirstReady};
+ghost use Rattle.tt_core.specs.inside.Crew.{IsReadyAfter, IsReplied, Places, interp_of, is_ready};
 ghost use Rattle.tt_devices.specs.Faults.{Rises};
 ghost use Rattle.tt_machine.specs.Machine.{CanStep, IsBarred, IsStuck};
 ghost use Rattle.tt_machine.specs.RunActions.{StepsOrderly};
@@ -56,7 +58,8 @@ impl<S: Source, K: Sink, E: Sink> System<S, K, E> {
     ) -> Result<Self, NewFault<S, K, E>>
         ensures setup { IfOk result (λ system. system.setup ≡ setup) }
         ensures given { IfOk result (λ system. system.began ≡ record { input = input; output = output; errors = errors }) }
-        ensures untouched { IfOk result (λ system. system.desk.devices ≡ record { input = input; ahead = []; output = output; errors = errors }) }
+        ensures untouched { IfOk result (λ system.
+            system.desk.devices ≡ record { input = input; ahead = []; output = output; errors = errors }) }
         ensures no_step { IfOk result (λ system. (system.desk.schedule ≡ []) × (system.desk.kept ≡ None)) }
         ensures handed_back { IfErr result (λ fault. fault ≡ record { input = input; output = output; errors = errors }) }
     {
@@ -85,7 +88,8 @@ impl<S: Source, K: Sink, E: Sink> System<S, K, E> {
     pub fn enabled(&self, thread: u32) -> bool
         ensures going { IsTrue result → self.now.desk.kept ≡ None }
         ensures can { IsTrue result → OfMachine S.held self.now (λ machine. CanStep machine thread) }
-        ensures barred { IsFalse result → self.now.desk.kept ≡ None → OfMachine S.held self.now (λ machine. IsBarred machine thread) }
+        ensures barred { IsFalse result → self.now.desk.kept ≡ None →
+            OfMachine S.held self.now (λ machine. IsBarred machine thread) }
     {
         is_ready(&self.desk, &self.crew, thread)
     }
@@ -116,7 +120,8 @@ impl<S: Source, K: Sink, E: Sink> System<S, K, E> {
             self.new.desk.schedule ≡ self.old.desk.schedule ++ thread ∷ [] }
         ensures no_entry { IsErrOf result StepFault.ReadFault → self.new.desk.schedule ≡ self.old.desk.schedule }
         ensures at_most_one { IsErrOf result StepFault.NoMemory →
-            (self.new.desk.schedule ≡ self.old.desk.schedule) ⊎ (self.new.desk.schedule ≡ self.old.desk.schedule ++ thread ∷ []) }
+            (self.new.desk.schedule ≡ self.old.desk.schedule)
+            ⊎ (self.new.desk.schedule ≡ self.old.desk.schedule ++ thread ∷ []) }
         ensures tried { IfErr result (λ fault. (fault ≢ StepFault.NotEnabled) → self.old.desk.kept ≡ None →
             OfMachine S.held self.old (λ machine. CanStep machine thread)) }
         ensures read_fault { IsErrOf result StepFault.ReadFault → self.old.desk.kept ≡ None →
@@ -180,7 +185,8 @@ impl<S: Source, K: Sink, E: Sink> System<S, K, E> {
     /// memory.
     pub fn stuck(&self) -> bool
         ensures stuck { IsTrue result → (self.now.desk.kept ≡ None) × OfMachine S.held self.now IsStuck }
-        ensures not_stuck { IsFalse result → self.now.desk.kept ≡ None → OfMachine S.held self.now (λ machine. ¬ (IsStuck machine)) }
+        ensures not_stuck { IsFalse result → self.now.desk.kept ≡ None →
+            OfMachine S.held self.now (λ machine. ¬ (IsStuck machine)) }
     {
         are_idle(&self.desk, &self.crew)
     }
@@ -203,7 +209,8 @@ impl<S: Source, K: Sink, E: Sink> System<S, K, E> {
     /// Gives the schedule and the devices back. The source still holds a last part of what the machine has not read.
     pub fn finish(self) -> (Schedule, S, K, E)
         ensures schedule { result.0.threads ≡ self.desk.schedule }
-        ensures devices { (result.1 ≡ self.desk.devices.input) × (result.2 ≡ self.desk.devices.output) × (result.3 ≡ self.desk.devices.errors) }
+        ensures devices { (result.1 ≡ self.desk.devices.input) × (result.2 ≡ self.desk.devices.output)
+            × (result.3 ≡ self.desk.devices.errors) }
         ensures faithful { AreFaithful S.held K.got E.got self }
         ensures left { OfMachine S.held self (λ machine. HoldsLastPart (S.held result.1) machine.input) }
     {
@@ -304,7 +311,8 @@ fn go_on<S: Source, K: Sink, E: Sink>(
     reply: Reply,
 ) -> Result<(), NoMemory>
     requires there { IsSome (interp_of crew.old thread) }
-    ensures goes { OnOk result ((mid : Places) × IsReplied thread reply crew.old mid × AllBegin setup.now desk.now.shared.rows mid crew.new) }
+    ensures goes { OnOk result ((mid : Places) × IsReplied thread reply crew.old mid
+        × AllBegin setup.now desk.now.shared.rows mid crew.new) }
 {
     crew.reply(thread, reply)?;
     crew.begin_all(alloc, desk, setup)?;
@@ -314,7 +322,8 @@ fn go_on<S: Source, K: Sink, E: Sink>(
 /// The main thread begins.
 fn begun(alloc: Global, setup: &Setup) -> Result<(Crew, Start), NoMemory>
     ensures start { IfOk result (λ begun. begun.1 ≡ start.Script setup.now.script) }
-    ensures begins { IfOk result (λ begun. BeginsThread setup.now (record { start = start.Script setup.now.script; replies = [] }) [] begun.0) }
+    ensures begins { IfOk result (λ begun. BeginsLast setup.now
+        (record { start = start.Script setup.now.script; replies = [] }) [] begun.0) }
 {
     let start = Start::Script(setup.script.copy()?);
     let mut crew = Crew::new(alloc);

@@ -1,5 +1,5 @@
 -- After its end a thread asks nothing.
-use Rattle.std.proofs.Common.{◌≡◌, ◌+◌, ◌≤◌, ◌∙◌, ℕ, true, false, Bool, IsTrue, List, [], ◌∷◌, ◌++◌, arith, refl, subst, sym}
+use Rattle.std.proofs.Common.{◌≡◌, ◌+◌, ◌≤◌, ℕ, true, false, Bool, IsTrue, List, [], ◌∷◌, ◌++◌, arith, refl, subst, sym}
 use Rattle.tt_calls.specs.declared.reply.Reply.{Reply}
 use Rattle.tt_calls.specs.declared.request.Request.{Request}
 use Rattle.tt_calls.specs.declared.start.Start.{Start}
@@ -32,7 +32,8 @@ one-want is its = cc
 one-asked : {course : Comes} {one other : Request} {serving during : List ℕ} → course ≡ Stop (Ask one) serving → course ≡ Stop (Ask other) during → one ≡ other
 one-asked is its = cc
 
-stop-end : {course : Comes} {want : Want} {serving : List ℕ} {ending : Ending} {state : Counts} {steps : ℕ} {rest : List Got} → course ≡ Stop want serving → course ≡ Fin ending state steps rest → ⊥
+stop-end : {course : Comes} {want : Want} {serving : List ℕ} {ending : Ending} {state : Counts} {steps : ℕ} {rest : List Got}
+    → course ≡ Stop want serving → course ≡ Fin ending state steps rest → ⊥
 stop-end is its = cc
 
 last-answer : {course : Comes} {want : Want} {request : Request} {serving during : List ℕ} (old new : Kept) (got : Got)

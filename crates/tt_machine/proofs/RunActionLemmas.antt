@@ -1,5 +1,5 @@
 -- A run as what its threads do to what they share.
-use Rattle.std.proofs.Common.{◌≡◌, ◌∙◌, ◌≤◌, ◌+◌, ◌*◌, ℕ, List, [], ◌∷◌, ap, arith, length, refl, subst, sym}
+use Rattle.std.proofs.Common.{◌≡◌, ◌∙◌, ℕ, List, [], ◌∷◌, ap, arith, length, refl, subst, sym}
 use Rattle.std.proofs.lemmas.List.{length-map}
 use Rattle.tt_calls.specs.declared.start.Start.TheVariants as start
 use Rattle.laws_shared.proofs.Drawn.{up_along}

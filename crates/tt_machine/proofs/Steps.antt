@@ -1,16 +1,17 @@
 -- A step has one outcome, and so has a run.
 use Rattle.std.proofs.Common.{◌≡◌, ◌∙◌, ℕ, Bool, true, false, IsTrue, IsFalse, List, [], ◌∷◌, ◌++◌, Option, Some, None, refl, sym, subst}
+use Rattle.tt_calls.specs.Numbers.{at_number}
 use Rattle.tt_calls.specs.declared.request.Request.{Request}
 use Rattle.tt_lines.proofs.LineLemmas.{one-line}
 use Rattle.tt_machine.proofs.OneRequest.{one_request}
-use Rattle.tt_machine.specs.Machine.{Asks, CanStep, IsBarred, Machine, ReadsInput, Runs, Steps, Thread, over, silent, waits, none, more, thread_of}
+use Rattle.tt_machine.specs.Machine.{Asks, CanStep, IsBarred, Machine, ReadsInput, Runs, Steps, Thread, over, silent, waits, none, more}
 use Rattle.tt_lines.specs.Lines.{reads_line}
 use Rattle.tt_interp.specs.Beginning.{IsNext}
 use Rattle.tt_shared.specs.Enabled.{enabled}
 use Rattle.tt_shared.specs.declared.applied.Line.{Line}
 
 same_thread : (threads : List Thread) (number : ℕ) (one other : Thread)
-    → thread_of threads number ≡ Some one → thread_of threads number ≡ Some other → one ≡ other
+    → at_number threads number ≡ Some one → at_number threads number ≡ Some other → one ≡ other
 same_thread threads number one other is also = let same : Some one ≡ Some other = sym is ∙ also in cc
 
 -- a thread asks one request

@@ -1,5 +1,6 @@
 -- The machine that a script runs on: its threads, each with its replies, over what they share (thread(n)).
-use Rattle.std.specs.Prelude.{◌≡◌, ◌-◌, ◌==◌, ℕ, Bool, true, false, IsTrue, IsFalse, List, [], ◌∷◌, ◌++◌, length, drop, map, Option, Some, None, slice_get, slice_set, if◌then◌else◌}
+use Rattle.std.specs.Prelude.{◌≡◌, ℕ, Bool, true, false, IsTrue, IsFalse, List, [], ◌∷◌, ◌++◌, length, drop, map, Option, Some, None}
+use Rattle.tt_calls.specs.Numbers.{at_number, with_at}
 use Rattle.tt_calls.specs.declared.reply.Reply.{Reply}
 use Rattle.tt_calls.specs.declared.request.Request.{Request}
 use Rattle.tt_calls.specs.declared.start.Start.{Start}
@@ -45,16 +46,12 @@ start_machine setup input = record {
   err = [];
 }
 
--- the thread of a number
-abbrev pub thread_of : List Thread → ℕ → Option Thread
-thread_of threads number = if number == 0 then None else slice_get threads (number - 1)
-
 -- ---- what a thread asks ----
 
 -- a thread that lives asks this next, and serves these posts meanwhile
 pub record Asks (machine : Machine) (number : ℕ) (request : Request) (serving : List ℕ) : Type 0 where
   pub thread : Thread
-  pub made : thread_of machine.threads number ≡ Some thread
+  pub made : at_number machine.threads number ≡ Some thread
   pub lives : IsTrue (is_living machine.shared.rows number)
   pub next : IsNext machine.setup number thread.start thread.replies request serving
 
@@ -66,10 +63,10 @@ thread_with_reply reply thread = record thread { replies = thread.replies ++ rep
 
 abbrev pub with_reply_at : List Thread → ℕ → Reply → Option Thread → List Thread
 with_reply_at threads number reply None = threads
-with_reply_at threads number reply (Some thread) = slice_set threads (number - 1) (thread_with_reply reply thread)
+with_reply_at threads number reply (Some thread) = with_at threads number (thread_with_reply reply thread)
 
 abbrev pub with_reply : List Thread → ℕ → Reply → List Thread
-with_reply threads number reply = with_reply_at threads number reply (thread_of threads number)
+with_reply threads number reply = with_reply_at threads number reply (at_number threads number)
 
 -- threads that were made begin
 abbrev pub with_new_threads : List Thread → List Row → List Thread

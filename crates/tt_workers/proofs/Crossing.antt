@@ -1,4 +1,4 @@
--- A world crosses threads where its devices do.
+-- A world crosses threads if its devices do.
 use denote.RattleType.{RattleType}
 use denote.Exit.{no}
 use denote.Param.{arg, param}
@@ -55,8 +55,10 @@ module _ (S K E : RattleType) (source : OfSource S.Denot) (output : OfSink K.Den
   world-send s k e =
       view_send (inside.the_row S K E source output errors) _ _ _ _
       (recorded_send (inside.the_field S K E source output errors).row _ _ (inside.the_type S K E source output errors).to_one
-      (struct_send (shape (inside.the_type S K E source output errors))
-      (setup.the_field_send, (plain_send _ _ _ _ _, (began-send s k e, (desk-send s k e, (roster.the_send, (plain_send _ _ _ _ _, (end-send, (global.the_field_send, tt))))))))))
+      (struct_send (shape (inside.the_type S K E source output errors)) (
+        setup.the_field_send,
+        (plain_send _ _ _ _ _, (began-send s k e, (desk-send s k e, (roster.the_send, (plain_send _ _ _ _ _, (end-send, (global.the_field_send, tt))))))),
+      )))
 
   -- the rows of the state of the lock, of a pass's note and of the tie
   abbrev state : RattleType
@@ -84,4 +86,5 @@ module _ (S K E : RattleType) (source : OfSource S.Denot) (output : OfSink K.Den
   pub worker-sync : (R G : RattleType) (r l g : Lft) → IsSync R → IsSync G → IsSend S → IsSend K → IsSend E
       → IsSync (TupleAt [] (ShrRef (named 0) r R ∷ ShrRef (named 0) l lock ∷ ShrRef (named 0) g G ∷ []))
   worker-sync R G r l g runtime gate s k e =
-      captured-sync _ _ _ (shr_sync (named 0) r R runtime) (shr_sync (named 0) l lock (noted.the_sync tied state note ties (Box-send _ (world-send s k e)))) (shr_sync (named 0) g G gate)
+      captured-sync _ _ _ (shr_sync (named 0) r R runtime)
+      (shr_sync (named 0) l lock (noted.the_sync tied state note ties (Box-send _ (world-send s k e)))) (shr_sync (named 0) g G gate)

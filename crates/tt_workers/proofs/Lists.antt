@@ -1,5 +1,7 @@
 -- Items of lists.
-use Rattle.std.proofs.Common.{◌≡◌, ◌≢◌, ◌+◌, ◌-◌, ◌==◌, ◌<◌, ◌≤◌, ◌∙◌, ◌⊎◌, ℕ, zero, suc, List, [], ◌∷◌, ◌++◌, length, Some, None, cond, ap, inl, inr, arith, refl, slice_get, slice_set}
+use Rattle.std.proofs.Common.{◌≡◌, ◌≢◌, ◌+◌, ◌-◌, ◌<◌, ◌≤◌, ◌∙◌, ◌⊎◌, ℕ, zero, suc, List, [], ◌∷◌, ◌++◌, length, Some, None}
+use Rattle.std.proofs.Common.{ap, inl, inr, arith, refl, slice_get, slice_set}
+use Rattle.tt_calls.specs.Numbers.{at_number}
 use Rattle.tt_core.proofs.PlaceLemmas.{not-zero, sub-one}
 
 pub same-or-not : (j i : ℕ) → (j ≡ i) ⊎ (j ≢ i)
@@ -44,11 +46,11 @@ module _ {X : Type 0} where
   get-append (first ∷ xs) more (suc i) x there = get-append xs more i x there
 
   -- the item of a number from 1
-  pub at-number : (xs : List X) (number : ℕ) → 1 ≤ number → cond (number == 0) None (slice_get xs (number - 1)) ≡ slice_get xs (number - 1)
-  at-number xs zero above = absurd (omega (arith, above))
-  at-number xs (suc k) above = rw (not-zero k) refl
+  pub place-before : (xs : List X) (number : ℕ) → 1 ≤ number → at_number xs number ≡ slice_get xs (number - 1)
+  place-before xs zero above = absurd (omega (arith, above))
+  place-before xs (suc k) above = rw (not-zero k) refl
 
-  pub from-one : (xs : List X) (number : ℕ) (x : X) → cond (number == 0) None (slice_get xs (number - 1)) ≡ Some x → 1 ≤ number
+  pub from-one : (xs : List X) (number : ℕ) (x : X) → at_number xs number ≡ Some x → 1 ≤ number
   from-one xs zero x there = absurd (cc there)
   from-one xs (suc k) x there = omega arith
 
@@ -70,9 +72,9 @@ module _ {X : Type 0} where
   past-get (x ∷ xs) (suc k) le = past-get xs k (omega (arith, le))
 
   -- there is none past the last
-  pub beyond : (xs : List X) (number : ℕ) → length xs < number → cond (number == 0) None (slice_get xs (number - 1)) ≡ None
+  pub beyond : (xs : List X) (number : ℕ) → length xs < number → at_number xs number ≡ None
   beyond xs zero above = refl
-  beyond xs (suc k) above = at-number xs (suc k) (omega arith) ∙ (ap (slice_get xs) (sub-one k) ∙ past-get xs k (omega (arith, above)))
+  beyond xs (suc k) above = place-before xs (suc k) (omega arith) ∙ (ap (slice_get xs) (sub-one k) ∙ past-get xs k (omega (arith, above)))
 
   pub not-empty : (xs : List X) (x : X) → xs ++ x ∷ [] ≡ [] → ⊥
   not-empty [] x is = cc

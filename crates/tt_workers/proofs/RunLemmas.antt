@@ -37,10 +37,16 @@ noted-replicate (suc count) begun (suc index) = noted-replicate count begun inde
 module _ {S K E : Type 0} (source : OfSource S) (output : OfSink K) (errors : OfSink E) where
   -- a world that has just begun fits notes by which nobody is out
   pub begun-tied : (begun : Beginning S K E) (desk : Ground S K E) (places : List Place) (at : Place) (count : ℕ)
-      → desk ≡ record { shared = start_state (start.Script begun.setup.script); schedule = []; devices = record { input = begun.devices.input; ahead = []; output = begun.devices.output; errors = begun.devices.errors }; kept = None }
+      → desk ≡ record {
+        shared = start_state (start.Script begun.setup.script);
+        schedule = [];
+        devices = record { input = begun.devices.input; ahead = []; output = begun.devices.output; errors = begun.devices.errors };
+        kept = None;
+      }
       → places ≡ at ∷ []
       → IsFreshPlace begun.setup 1 (record { start = start.Script begun.setup.script; replies = [] }) at
-      → IsTied source output errors (record { begun = begun; desk = desk; places = places; end = None }) (replicate count (record { begun = begun; out = None }))
+      → IsTied source output errors (record { begun = begun; desk = desk; places = places; end = None })
+      (replicate count (record { begun = begun; out = None }))
   begun-tied begun desk places at count is are fresh = record {
     same_run = λ index note there. ap (λ (n : Note S K E). n.begun) (get-replicate count (record { begun = begun; out = None }) note index there);
     counted = record {
@@ -54,7 +60,11 @@ module _ {S K E : Type 0} (source : OfSource S) (output : OfSink K) (errors : Of
     standing = actions.begun source.held output.got errors.got begun.setup begun.devices.input begun.devices.output begun.devices.errors
         (AreWhere (replicate count (record { begun = begun; out = None })) places) desk is
         (λ bytes. record {
-          placed = rw are (fresh-placed (replicate count (record { begun = begun; out = None })) begun.setup 1 (record { start = start.Script begun.setup.script; replies = [] }) at fresh, tt);
+          placed = rw are (
+            fresh-placed (replicate count (record { begun = begun; out = None })) begun.setup 1
+                (record { start = start.Script begun.setup.script; replies = [] }) at fresh,
+            tt,
+          );
           out = λ index task there. absurd (some-none (sym there ∙ noted-replicate count begun index));
         });
   }
@@ -92,9 +102,12 @@ module _ {S K E : Type 0} (source : OfSource S) (output : OfSink K) (errors : Of
         record {
           machine = machine;
           runs = rw schedule standing.1.ran;
-          faithful = rw (schedule, is, devices.1, devices.2) (subst (λ (kept : Option StepFault). IsFaithful (is_cut kept) (start_machine begun.setup bytes) desk.schedule
-              (output.got begun.devices.output) (output.got desk.devices.output) (errors.got begun.devices.errors) (errors.got desk.devices.errors) machine) tied.counted.kept standing.1.faithful);
-          ends = rw (schedule, is) (ends-of begun.steps desk.schedule desk.kept desk.shared (unread source.held desk.devices) end machine tied.counted.kept standing.1.at);
+          faithful = rw (schedule, is, devices.1, devices.2)
+              (subst (λ (kept : Option StepFault). IsFaithful (is_cut kept) (start_machine begun.setup bytes) desk.schedule
+              (output.got begun.devices.output) (output.got desk.devices.output) (errors.got begun.devices.errors)
+              (errors.got desk.devices.errors) machine) tied.counted.kept standing.1.faithful);
+          ends = rw (schedule, is)
+              (ends-of begun.steps desk.schedule desk.kept desk.shared (unread source.held desk.devices) end machine tied.counted.kept standing.1.at);
           left = rw devices.0 standing.1.input;
         });
   }
@@ -115,8 +128,10 @@ module _ {S K E : Type 0} (source : OfSource S) (output : OfSink K) (errors : Of
         record {
           machine = machine;
           runs = rw schedule standing.1.ran;
-          faithful = rw (schedule, is, devices.1, devices.2) (subst (λ (kept : Option StepFault). IsFaithful (is_cut kept) (start_machine begun.setup bytes) desk.schedule
-              (output.got begun.devices.output) (output.got desk.devices.output) (errors.got begun.devices.errors) (errors.got desk.devices.errors) machine) tied.counted.kept standing.1.faithful);
+          faithful = rw (schedule, is, devices.1, devices.2)
+              (subst (λ (kept : Option StepFault). IsFaithful (is_cut kept) (start_machine begun.setup bytes) desk.schedule
+              (output.got begun.devices.output) (output.got desk.devices.output) (errors.got begun.devices.errors)
+              (errors.got desk.devices.errors) machine) tied.counted.kept standing.1.faithful);
           ends = rw is tt;
           left = rw devices.0 standing.1.input;
         });
@@ -149,7 +164,8 @@ module _ {S K E : Type 0} (source : OfSource S) (output : OfSink K) (errors : Of
       by-told (Some bytes) same = record {
         machine = start_machine begun.setup bytes;
         runs = rw schedule none;
-        faithful = rw (schedule, is, devices.1, devices.2) (record { out = Grows-same (output.got begun.devices.output); err = Grows-same (errors.got begun.devices.errors) });
+        faithful = rw (schedule, is, devices.1, devices.2)
+            (record { out = Grows-same (output.got begun.devices.output); err = Grows-same (errors.got begun.devices.errors) });
         ends = rw is tt;
         left = rw devices.0 (record { ahead = []; rest = bytes; tells = same; cut = refl });
       }

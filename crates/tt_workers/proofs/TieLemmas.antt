@@ -1,6 +1,9 @@
 -- A world and its notes, as one turn changes them.
-use Rattle.std.proofs.Common.{◌≡◌, ◌≢◌, ◌∙◌, ◌+◌, ◌-◌, ◌==◌, ◌<◌, ◌≤◌, ◌⊎◌, ℕ, zero, suc, Bool, true, false, IsTrue, IsFalse, IsSome, List, [], ◌∷◌, ◌++◌, length, Option, Some, None, Result, Err, arith, ap, is_some, not, inl, inr, refl, rules, slice_get, slice_set, sym, subst}
+use Rattle.std.proofs.Common.{◌≡◌, ◌≢◌, ◌∙◌, ◌+◌, ◌-◌, ◌==◌, ◌<◌, ◌≤◌, ◌⊎◌, ℕ, zero, suc, Bool, true, false, IsTrue, IsFalse}
+use Rattle.std.proofs.Common.{IsSome, List, [], ◌∷◌, ◌++◌, length, Option, Some, None, Result, Err, arith, ap, is_some, not, inl}
+use Rattle.std.proofs.Common.{inr, refl, rules, slice_get, slice_set, sym, subst}
 use Rattle.std.proofs.lemmas.List.{length-append}
+use Rattle.tt_calls.specs.Numbers.{at_number}
 use Rattle.tt_calls.specs.declared.reply.Reply.{Reply}
 use Rattle.tt_calls.specs.declared.request.Request.{Request}
 use Rattle.tt_core.proofs.ActionLemmas as actions
@@ -25,11 +28,11 @@ use Rattle.tt_machine.specs.Machine.{IsBarred, IsStuck, Machine, Thread, silent}
 use Rattle.tt_threads.specs.Rows.{is_living}
 use Rattle.tt_shared.specs.Acts.{act}
 use Rattle.tt_shared.specs.declared.applied.Line.{Line}
-use Rattle.tt_workers.proofs.Lists.{at-number, get-set-other, got-set, not-empty, one-and-less, same-or-not}
+use Rattle.tt_workers.proofs.Lists.{place-before, get-set-other, got-set, not-empty, one-and-less, same-or-not}
 use Rattle.tt_workers.proofs.WhereLemmas.{asks-parked, where-answered, where-back, where-fresh, where-vacant}
 use Rattle.tt_workers.specs.Ends.{IsAtLine, IsEnd, end_fault}
 use Rattle.tt_workers.specs.Ran.{Beginning}
-use Rattle.tt_workers.specs.inside.Places.{AreWhere, IsGivenBy, IsAtPlace, Note, asked_at, can_go_at, is_fresh_at, noted_in, place_of}
+use Rattle.tt_workers.specs.inside.Places.{AreWhere, IsGivenBy, IsAtPlace, Note, asked_at, can_go_at, is_fresh_at, noted_in}
 use Rattle.tt_workers.specs.inside.Rosters.{HandsOut, HandsOutFresh, is_elsewhere_at, parked_at}
 use Rattle.tt_workers.specs.inside.Rounds.{IsVacant, Replies}
 use Rattle.tt_workers.specs.inside.Turns.{MayReturn, Returns}
@@ -63,13 +66,13 @@ no-end (Some end) none = absurd (cc none)
 -- the interpreter that a request is asked by
 pub record IsParked (places : List Place) (number : ℕ) (request : Request) : Type 0 where
   pub interp : Interpreter
-  pub found : place_of places number ≡ Some (place.Parked interp)
+  pub found : at_number places number ≡ Some (place.Parked interp)
   pub asked : request ≡ request_of interp.standing
 
-pub parked : (places : List Place) (number : ℕ) (request : Request) → Some request ≡ asked_at (place_of places number) → IsParked places number request
-parked places number request is = by-place (place_of places number) refl is
+pub parked : (places : List Place) (number : ℕ) (request : Request) → Some request ≡ asked_at (at_number places number) → IsParked places number request
+parked places number request is = by-place (at_number places number) refl is
   where
-    by-place : (found : Option Place) → place_of places number ≡ found → Some request ≡ asked_at found → IsParked places number request
+    by-place : (found : Option Place) → at_number places number ≡ found → Some request ≡ asked_at found → IsParked places number request
     by-place None at is = absurd (some-none is)
     by-place (Some (place.Fresh interp)) at is = absurd (some-none is)
     by-place (Some (place.Out pass)) at is = absurd (some-none is)
@@ -77,16 +80,16 @@ parked places number request is = by-place (place_of places number) refl is
     by-place (Some (place.Parked interp)) at is = record { interp = interp; found = at; asked = cc is }
 
 -- a thread that asks something is parked
-pub asks-some : (places : List Place) (number : ℕ) → IsSome (asked_at (place_of places number)) → (request : Request) × IsParked places number request
-asks-some places number some = by-asked (asked_at (place_of places number)) refl some
+pub asks-some : (places : List Place) (number : ℕ) → IsSome (asked_at (at_number places number)) → (request : Request) × IsParked places number request
+asks-some places number some = by-asked (asked_at (at_number places number)) refl some
   where
-    by-asked : (asked : Option Request) → asked ≡ asked_at (place_of places number) → IsSome asked → (request : Request) × IsParked places number request
+    by-asked : (asked : Option Request) → asked ≡ asked_at (at_number places number) → IsSome asked → (request : Request) × IsParked places number request
     by-asked None is some = absurd (cc some)
     by-asked (Some request) is some = (request, parked places number request is)
 
 -- what it asks can be answered
 pub can-act : {S K E : Type 0} (desk : Ground S K E) (places : List Place) (number : ℕ) (request : Request)
-    → (is : IsParked places number request) → IsTrue (can_go_at desk number (place_of places number)) → IsTrue (can_act desk number request)
+    → (is : IsParked places number request) → IsTrue (can_go_at desk number (at_number places number)) → IsTrue (can_act desk number request)
 can-act desk places number request is able =
     rw is.asked (subst (λ (found : Option Place). IsTrue (can_go_at desk number found)) is.found able)
 
@@ -114,21 +117,22 @@ module _ {S K E : Type 0} where
 
   -- ---- nobody can go on ----
 
-  by-place : (held : S → Option (List ℕ)) (desk : Ground S K E) (notes : List (Note S K E)) (places : List Place) (pass number : ℕ) (machine : Machine) (found : Option Place)
+  by-place : (held : S → Option (List ℕ)) (desk : Ground S K E) (notes : List (Note S K E)) (places : List Place) (pass number : ℕ)
+      (machine : Machine) (found : Option Place)
       → IsIts desk.shared (unread held desk.devices) machine → AreWhere notes places machine
       → desk.kept ≡ None → noted_in (slice_get notes (pass - 1)) ≡ None
       → 1 ≤ number → slice_get places (number - 1) ≡ found
       → IsFalse (can_go_at desk number found) → IsFalse (is_elsewhere_at pass found)
       → IsBarred machine number
   by-place held desk notes places pass number machine None its are kept nobody above there unready nowhere =
-      silent (λ request serving asks. unmade (sym (at-number machine.threads number above) ∙ asks.made))
+      silent (λ request serving asks. unmade (sym (place-before machine.threads number above) ∙ asks.made))
     where
       unmade : {thread : Thread} → slice_get machine.threads (number - 1) ≡ Some thread → ⊥
       unmade is = some-none (sym is ∙ each-none (IsAtPlace notes machine.setup) 1 (number - 1) machine.threads places are.placed there)
   by-place held desk notes places pass number machine (Some (place.Fresh interp)) its are kept nobody above there unready nowhere = absurd (cc unready)
   by-place held desk notes places pass number machine (Some (place.Parked interp)) its are kept nobody above there unready nowhere =
       barred-asking held desk number (request_of interp.standing) (serving_of interp.standing) machine its kept
-      (λ lives. asks-parked notes number places interp (at-number places number above ∙ there) machine are lives) unready
+      (λ lives. asks-parked notes number places interp (place-before places number above ∙ there) machine are lives) unready
   by-place held desk notes places pass number machine (Some (place.Out other)) its are kept nobody above there unready nowhere =
       let one = each-at (IsAtPlace notes machine.setup) 1 (number - 1) machine.threads places (place.Out other) are.placed there in
       let same : other ≡ pass = same-pass other pass nowhere in
@@ -138,14 +142,14 @@ module _ {S K E : Type 0} where
       let one = each-at (IsAtPlace notes machine.setup) 1 (number - 1) machine.threads places place.Gone are.placed there in
       let quiet = subst (λ (n : ℕ). AsksNothing machine.setup n one.thread) (one-and-less number above) one.placed in
       silent (λ request serving asks.
-      let same : one.thread ≡ asks.thread = let is = sym one.there ∙ (sym (at-number machine.threads number above) ∙ asks.made) in cc is in
+      let same : one.thread ≡ asks.thread = let is = sym one.there ∙ (sym (place-before machine.threads number above) ∙ asks.made) in cc is in
       quiet request serving (subst (λ (thread : Thread). IsNext machine.setup number thread.start thread.replies request serving) (sym same) asks.next))
 
   pub stuck : (held : S → Option (List ℕ)) (desk : Ground S K E) (notes : List (Note S K E)) (places : List Place) (pass : ℕ) (machine : Machine)
       → IsIts desk.shared (unread held desk.devices) machine → AreWhere notes places machine
       → desk.kept ≡ None → desk.shared.over ≡ None → noted_in (slice_get notes (pass - 1)) ≡ None
-      → ((number : ℕ) → IsFalse (can_go_at desk number (place_of places number)))
-      → ((number : ℕ) → IsFalse (is_elsewhere_at pass (place_of places number)))
+      → ((number : ℕ) → IsFalse (can_go_at desk number (at_number places number)))
+      → ((number : ℕ) → IsFalse (is_elsewhere_at pass (at_number places number)))
       → IsStuck machine
   stuck held desk notes places pass machine its are kept going nobody unready nowhere = record {
     going = rw (← its.is_shared) going;
@@ -155,8 +159,8 @@ module _ {S K E : Type 0} where
       each : (number : ℕ) → IsBarred machine number
       each zero = silent (λ request serving asks. some-none (sym asks.made))
       each (suc k) = by-place held desk notes places pass (suc k) machine (slice_get places (suc k - 1)) its are kept nobody (omega arith) refl
-          (subst (λ (found : Option Place). IsFalse (can_go_at desk (suc k) found)) (at-number places (suc k) (omega arith)) (unready (suc k)))
-          (subst (λ (found : Option Place). IsFalse (is_elsewhere_at pass found)) (at-number places (suc k) (omega arith)) (nowhere (suc k)))
+          (subst (λ (found : Option Place). IsFalse (can_go_at desk (suc k) found)) (place-before places (suc k) (omega arith)) (unready (suc k)))
+          (subst (λ (found : Option Place). IsFalse (is_elsewhere_at pass found)) (place-before places (suc k) (omega arith)) (nowhere (suc k)))
 
 -- ---- counts ----
 
@@ -241,7 +245,8 @@ module _ {S K E : Type 0} (source : OfSource S) (output : OfSink K) (errors : Of
   another : {T : Type 0} (result : Result T StepFault) (one other : StepFault) → result ≡ Err one → one ≢ other → result ≢ Err other
   another result one other is apart = λ also. apart (err-is is also)
 
-  counted-fault : {T : Type 0} (begun : Beginning S K E) (old new : Ground S K E) (number : ℕ) (request : Request) (result : Result T StepFault) (is : StepFault) (end : RunEnd)
+  counted-fault : {T : Type 0} (begun : Beginning S K E) (old new : Ground S K E) (number : ℕ) (request : Request)
+      (result : Result T StepFault) (is : StepFault) (end : RunEnd)
       → length old.schedule < begun.steps
       → result ≡ Err is → is ≢ fault.NotEnabled → end_fault end ≡ Some is
       → FailsBy old new number request result
@@ -312,10 +317,12 @@ module _ {S K E : Type 0} (source : OfSource S) (output : OfSink K) (errors : Of
   of-none begun desk places end notes is tied =
       subst (λ (one : Option RunEnd). IsTied source output errors (record { begun = begun; desk = desk; places = places; end = one }) notes) (sym is) tied
 
-  -- where an end is kept, only notes and places may change
-  pub tied-ended : (begun : Beginning S K E) (desk : Ground S K E) (places later : List Place) (end : RunEnd) (notes : List (Note S K E)) (i : ℕ) (out : Option Task)
+  -- once an end is kept, only notes and places may change
+  pub tied-ended : (begun : Beginning S K E) (desk : Ground S K E) (places later : List Place) (end : RunEnd) (notes : List (Note S K E))
+      (i : ℕ) (out : Option Task)
       → IsTied source output errors (record { begun = begun; desk = desk; places = places; end = Some end }) notes
-      → IsTied source output errors (record { begun = begun; desk = desk; places = later; end = Some end }) (slice_set notes i (record { begun = begun; out = out }))
+      → IsTied source output errors (record { begun = begun; desk = desk; places = later; end = Some end })
+      (slice_set notes i (record { begun = begun; out = out }))
   tied-ended begun desk places later end notes i out tied = record {
     same_run = same-run begun notes i (record { begun = begun; out = out }) refl tied.same_run;
     counted = tied.counted;
@@ -325,9 +332,11 @@ module _ {S K E : Type 0} (source : OfSource S) (output : OfSink K) (errors : Of
   -- an end that is no fault is kept
   pub tied-stop : (begun : Beginning S K E) (desk : Ground S K E) (places : List Place) (end : RunEnd) (notes : List (Note S K E)) (i : ℕ) (out : Option Task)
       → end_fault end ≡ None
-      → ((machine : Machine) → IsIts desk.shared (unread source.held desk.devices) machine → AreWhere notes places machine → IsEnd begun.steps desk.schedule end machine)
+      → ((machine : Machine) → IsIts desk.shared (unread source.held desk.devices) machine → AreWhere notes places machine
+      → IsEnd begun.steps desk.schedule end machine)
       → IsTied source output errors (record { begun = begun; desk = desk; places = places; end = None }) notes
-      → IsTied source output errors (record { begun = begun; desk = desk; places = places; end = Some end }) (slice_set notes i (record { begun = begun; out = out }))
+      → IsTied source output errors (record { begun = begun; desk = desk; places = places; end = Some end })
+      (slice_set notes i (record { begun = begun; out = out }))
   tied-stop begun desk places end notes i out plain true_there tied = record {
     same_run = same-run begun notes i (record { begun = begun; out = out }) refl tied.same_run;
     counted = counted-plain begun desk end plain tied.counted;
@@ -339,13 +348,15 @@ module _ {S K E : Type 0} (source : OfSource S) (output : OfSink K) (errors : Of
   pub tied-vacant : (begun : Beginning S K E) (desk : Ground S K E) (places : List Place) (notes : List (Note S K E)) (pass : ℕ)
       → IsVacant notes pass
       → IsTied source output errors (record { begun = begun; desk = desk; places = places; end = None }) notes
-      → IsTied source output errors (record { begun = begun; desk = desk; places = places; end = None }) (slice_set notes (pass - 1) (record { begun = begun; out = None }))
+      → IsTied source output errors (record { begun = begun; desk = desk; places = places; end = None })
+      (slice_set notes (pass - 1) (record { begun = begun; out = None }))
   tied-vacant begun desk places notes pass vacant tied = record {
     same_run = same-run begun notes (pass - 1) (record { begun = begun; out = None }) refl tied.same_run;
     counted = tied.counted;
     standing = restood source.held output.got errors.got begun.setup begun.devices desk (AreWhere notes places)
         (AreWhere (slice_set notes (pass - 1) (record { begun = begun; out = None })) places)
-        (λ machine same its are. where-vacant notes (pass - 1) vacant.note (record { begun = begun; out = None }) places machine vacant.noted vacant.empty refl are)
+        (λ machine same its are. where-vacant notes (pass - 1) vacant.note (record { begun = begun; out = None }) places machine
+        vacant.noted vacant.empty refl are)
         tied.standing;
   }
 
@@ -353,33 +364,38 @@ module _ {S K E : Type 0} (source : OfSource S) (output : OfSink K) (errors : Of
   pub tied-fresh : (begun : Beginning S K E) (desk : Ground S K E) (places later : List Place) (notes : List (Note S K E)) (pass number : ℕ) (task : Task)
       → 1 ≤ pass → IsVacant notes pass → HandsOutFresh number pass places later task
       → IsTied source output errors (record { begun = begun; desk = desk; places = places; end = None }) notes
-      → IsTied source output errors (record { begun = begun; desk = desk; places = later; end = None }) (slice_set notes (pass - 1) (record { begun = begun; out = Some task }))
+      → IsTied source output errors (record { begun = begun; desk = desk; places = later; end = None })
+      (slice_set notes (pass - 1) (record { begun = begun; out = Some task }))
   tied-fresh begun desk places later notes pass number task from vacant out tied = record {
     same_run = same-run begun notes (pass - 1) (record { begun = begun; out = Some task }) refl tied.same_run;
     counted = tied.counted;
     standing = restood source.held output.got errors.got begun.setup begun.devices desk (AreWhere notes places)
         (AreWhere (slice_set notes (pass - 1) (record { begun = begun; out = Some task })) later)
-        (λ machine same its are. where-fresh notes pass number vacant.note (record { begun = begun; out = Some task }) places later task machine from vacant.noted vacant.empty refl out are)
+        (λ machine same its are. where-fresh notes pass number vacant.note (record { begun = begun; out = Some task }) places later task
+        machine from vacant.noted vacant.empty refl out are)
         tied.standing;
   }
 
   -- a parked thread did its action
-  pub tied-acted : (begun : Beginning S K E) (old new : Ground S K E) (places later : List Place) (notes : List (Note S K E)) (pass number : ℕ) (request : Request) (interp : Interpreter) (did : Acted) (task : Option Task)
+  pub tied-acted : (begun : Beginning S K E) (old new : Ground S K E) (places later : List Place) (notes : List (Note S K E))
+      (pass number : ℕ) (request : Request) (interp : Interpreter) (did : Acted) (task : Option Task)
       → 1 ≤ pass → IsVacant notes pass → length old.schedule < begun.steps
-      → place_of places number ≡ Some (place.Parked interp) → request ≡ request_of interp.standing
+      → at_number places number ≡ Some (place.Parked interp) → request ≡ request_of interp.standing
       → IsTrue (can_act old number request)
       → ((line : Line) × Happens source.held output.got errors.got Grows old number request line new × IsAnswer did (act old.shared number request line).gives)
       → new.kept ≡ None → Steady old new
       → Replies begun.setup new.shared.rows number pass did.reply places later task
       → IsTied source output errors (record { begun = begun; desk = old; places = places; end = None }) notes
-      → IsTied source output errors (record { begun = begun; desk = new; places = later; end = None }) (slice_set notes (pass - 1) (record { begun = begun; out = task }))
+      → IsTied source output errors (record { begun = begun; desk = new; places = later; end = None })
+      (slice_set notes (pass - 1) (record { begun = begun; out = task }))
   tied-acted begun old new places later notes pass number request interp did task from vacant room found asked can happens goes steady replies tied = record {
     same_run = same-run begun notes (pass - 1) (record { begun = begun; out = task }) refl tied.same_run;
     counted = counted-step begun old new number room happens.1.entry goes steady tied.counted;
     standing =
         let reply = (act old.shared number request happens.0).gives.reply in
         let out = subst (λ (r : Reply). HandsOut number pass r places replies.mid task) happens.2.reply replies.out in
-        let asks = subst (λ (one : Request). actions.AsksIn (AreWhere notes places) number one (serving_of interp.standing)) (sym asked) (asks-parked notes number places interp found) in
+        let asks = subst (λ (one : Request). actions.AsksIn (AreWhere notes places) number one (serving_of interp.standing)) (sym asked)
+        (asks-parked notes number places interp found) in
         actions.acted source.held output.got errors.got begun.setup begun.devices old new number request (serving_of interp.standing) happens.0
         (AreWhere notes places) (AreWhere (slice_set notes (pass - 1) (record { begun = begun; out = task })) later) can asks happens.1 goes
         (where-answered begun.setup notes pass number vacant.note (record { begun = begun; out = task }) new.shared.rows reply places replies.mid later task
@@ -387,27 +403,32 @@ module _ {S K E : Type 0} (source : OfSource S) (output : OfSink K) (errors : Of
   }
 
   -- it did, and then there was no memory
-  pub tied-out-of-memory : (begun : Beginning S K E) (old new last : Ground S K E) (places later : List Place) (notes : List (Note S K E)) (i number : ℕ) (request : Request) (interp : Interpreter) (did : Acted)
+  pub tied-out-of-memory : (begun : Beginning S K E) (old new last : Ground S K E) (places later : List Place) (notes : List (Note S K E))
+      (i number : ℕ) (request : Request) (interp : Interpreter) (did : Acted)
       → length old.schedule < begun.steps
-      → place_of places number ≡ Some (place.Parked interp) → request ≡ request_of interp.standing
+      → at_number places number ≡ Some (place.Parked interp) → request ≡ request_of interp.standing
       → IsTrue (can_act old number request)
       → ((line : Line) × Happens source.held output.got errors.got Grows old number request line new × IsAnswer did (act old.shared number request line).gives)
       → new.kept ≡ None → Steady old new
       → last ≡ record new { kept = Some fault.NoMemory }
       → IsTied source output errors (record { begun = begun; desk = old; places = places; end = None }) notes
-      → IsTied source output errors (record { begun = begun; desk = last; places = later; end = Some ends.Memory }) (slice_set notes i (record { begun = begun; out = None }))
+      → IsTied source output errors (record { begun = begun; desk = last; places = later; end = Some ends.Memory })
+      (slice_set notes i (record { begun = begun; out = None }))
   tied-out-of-memory begun old new last places later notes i number request interp did room found asked can happens goes steady is_last tied = record {
     same_run = same-run begun notes i (record { begun = begun; out = None }) refl tied.same_run;
     counted = counted-memory begun new last is_last (counted-step begun old new number room happens.1.entry goes steady tied.counted);
     standing =
-        let asks = subst (λ (one : Request). actions.AsksIn (AreWhere notes places) number one (serving_of interp.standing)) (sym asked) (asks-parked notes number places interp found) in
-        actions.acted-without-memory source.held output.got errors.got begun.setup begun.devices old new last number request (serving_of interp.standing) happens.0
+        let asks = subst (λ (one : Request). actions.AsksIn (AreWhere notes places) number one (serving_of interp.standing)) (sym asked)
+        (asks-parked notes number places interp found) in
+        actions.acted-without-memory source.held output.got errors.got begun.setup begun.devices old new last number request
+        (serving_of interp.standing) happens.0
         (AreWhere notes places) (IsEnd begun.steps last.schedule ends.Memory) can asks happens.1 is_last tied.standing;
   }
 
   -- the end by a fault or want of memory is true: of a failed read, that thread asks for a line
-  fault-standing : {T : Type 0} (begun : Beginning S K E) (old new : Ground S K E) (places : List Place) (notes : List (Note S K E)) (number : ℕ) (request : Request) (interp : Interpreter) (result : Result T StepFault) (is : StepFault) (end : RunEnd)
-      → place_of places number ≡ Some (place.Parked interp) → request ≡ request_of interp.standing
+  fault-standing : {T : Type 0} (begun : Beginning S K E) (old new : Ground S K E) (places : List Place) (notes : List (Note S K E))
+      (number : ℕ) (request : Request) (interp : Interpreter) (result : Result T StepFault) (is : StepFault) (end : RunEnd)
+      → at_number places number ≡ Some (place.Parked interp) → request ≡ request_of interp.standing
       → result ≡ Err is → is ≢ fault.NotEnabled → end_fault end ≡ Some is
       → FailsBy old new number request result
       → Stood source.held output.got errors.got begun.setup begun.devices old (AreWhere notes places)
@@ -415,12 +436,15 @@ module _ {S K E : Type 0} (source : OfSource S) (output : OfSink K) (errors : Of
   fault-standing begun old new places notes number request interp result is end found asked was other ended f stood = by-end end ended
     where
       asks : actions.AsksIn (AreWhere notes places) number request (serving_of interp.standing)
-      asks = subst (λ (one : Request). actions.AsksIn (AreWhere notes places) number one (serving_of interp.standing)) (sym asked) (asks-parked notes number places interp found)
+      asks = subst (λ (one : Request). actions.AsksIn (AreWhere notes places) number one (serving_of interp.standing)) (sym asked)
+          (asks-parked notes number places interp found)
 
       failed : Stood source.held output.got errors.got begun.setup begun.devices new (AreWhere notes places)
-      failed = actions.failed source.held output.got errors.got begun.setup begun.devices old new number request (serving_of interp.standing) (AreWhere notes places) result is asks was f.failed stood
+      failed = actions.failed source.held output.got errors.got begun.setup begun.devices old new number request
+          (serving_of interp.standing) (AreWhere notes places) result is asks was f.failed stood
 
-      at-line : result ≡ Err fault.ReadFault → (machine : Machine) → IsIts old.shared (unread source.held old.devices) machine → AreWhere notes places machine → IsAtLine machine
+      at-line : result ≡ Err fault.ReadFault → (machine : Machine) → IsIts old.shared (unread source.held old.devices) machine
+          → AreWhere notes places machine → IsAtLine machine
       at-line at machine its are =
           let can = able old number request (could-be old number request result fault.ReadFault f.failed.nothing_met f.failed.refused at (λ one. cc)) in
           let lives : IsTrue (is_living machine.shared.rows number) = rw (← its.is_shared) can.lives in
@@ -459,13 +483,15 @@ module _ {S K E : Type 0} (source : OfSource S) (output : OfSink K) (errors : Of
           (λ machine same_setup its are. tt) failed
 
   -- it met a fault or want of memory
-  pub tied-fault : {T : Type 0} (begun : Beginning S K E) (old new : Ground S K E) (places later : List Place) (notes : List (Note S K E)) (i number : ℕ) (request : Request) (interp : Interpreter) (result : Result T StepFault) (is : StepFault) (end : RunEnd)
+  pub tied-fault : {T : Type 0} (begun : Beginning S K E) (old new : Ground S K E) (places later : List Place) (notes : List (Note S K E))
+      (i number : ℕ) (request : Request) (interp : Interpreter) (result : Result T StepFault) (is : StepFault) (end : RunEnd)
       → length old.schedule < begun.steps
-      → place_of places number ≡ Some (place.Parked interp) → request ≡ request_of interp.standing
+      → at_number places number ≡ Some (place.Parked interp) → request ≡ request_of interp.standing
       → result ≡ Err is → is ≢ fault.NotEnabled → end_fault end ≡ Some is
       → FailsBy old new number request result
       → IsTied source output errors (record { begun = begun; desk = old; places = places; end = None }) notes
-      → IsTied source output errors (record { begun = begun; desk = new; places = later; end = Some end }) (slice_set notes i (record { begun = begun; out = None }))
+      → IsTied source output errors (record { begun = begun; desk = new; places = later; end = Some end })
+      (slice_set notes i (record { begun = begun; out = None }))
   tied-fault begun old new places later notes i number request interp result is end room found asked was other ended f tied = record {
     same_run = same-run begun notes i (record { begun = begun; out = None }) refl tied.same_run;
     counted = counted-fault begun old new number request result is end room was other ended f tied.counted;
@@ -476,18 +502,22 @@ module _ {S K E : Type 0} (source : OfSource S) (output : OfSink K) (errors : Of
   pub tied-back : (begun : Beginning S K E) (desk : Ground S K E) (places : List Place) (notes : List (Note S K E)) (pass : ℕ) (done : Done)
       → Returns notes pass (Some done) → done.resumption ≡ Halted
       → IsTied source output errors (record { begun = begun; desk = desk; places = places; end = None }) notes
-      → IsTied source output errors (record { begun = begun; desk = desk; places = parked_at places done.thread done.interp; end = None }) (slice_set notes (pass - 1) (record { begun = begun; out = None }))
+      → IsTied source output errors (record { begun = begun; desk = desk; places = parked_at places done.thread done.interp; end = None })
+      (slice_set notes (pass - 1) (record { begun = begun; out = None }))
   tied-back begun desk places notes pass done returns halted tied = by-out returns.note.out refl returns.may
     where
       by-out : (out : Option Task) → returns.note.out ≡ out → MayReturn out (Some done)
-          → IsTied source output errors (record { begun = begun; desk = desk; places = parked_at places done.thread done.interp; end = None }) (slice_set notes (pass - 1) (record { begun = begun; out = None }))
+          → IsTied source output errors
+          (record { begun = begun; desk = desk; places = parked_at places done.thread done.interp; end = None })
+          (slice_set notes (pass - 1) (record { begun = begun; out = None }))
       by-out None is may = absurd may
       by-out (Some task) is may = record {
         same_run = same-run begun notes (pass - 1) (record { begun = begun; out = None }) refl tied.same_run;
         counted = tied.counted;
         standing = restood source.held output.got errors.got begun.setup begun.devices desk (AreWhere notes places)
             (AreWhere (slice_set notes (pass - 1) (record { begun = begun; out = None })) (parked_at places done.thread done.interp))
-            (λ machine same its are. where-back notes (pass - 1) returns.note (record { begun = begun; out = None }) places task done machine returns.noted is refl may halted are)
+            (λ machine same its are. where-back notes (pass - 1) returns.note (record { begun = begun; out = None }) places task done
+            machine returns.noted is refl may halted are)
             tied.standing;
       }
 
@@ -495,10 +525,12 @@ module _ {S K E : Type 0} (source : OfSource S) (output : OfSink K) (errors : Of
   pub tied-back-empty : (begun : Beginning S K E) (old new : Ground S K E) (places later : List Place) (notes : List (Note S K E)) (i : ℕ)
       → new ≡ record old { kept = Some fault.NoMemory }
       → IsTied source output errors (record { begun = begun; desk = old; places = places; end = None }) notes
-      → IsTied source output errors (record { begun = begun; desk = new; places = later; end = Some ends.Memory }) (slice_set notes i (record { begun = begun; out = None }))
+      → IsTied source output errors (record { begun = begun; desk = new; places = later; end = Some ends.Memory })
+      (slice_set notes i (record { begun = begun; out = None }))
   tied-back-empty begun old new places later notes i is tied = record {
     same_run = same-run begun notes i (record { begun = begun; out = None }) refl tied.same_run;
     counted = counted-memory begun old new is tied.counted;
-    standing = actions.without-memory source.held output.got errors.got begun.setup begun.devices old new (AreWhere notes places) (IsEnd begun.steps new.schedule ends.Memory)
+    standing = actions.without-memory source.held output.got errors.got begun.setup begun.devices old new (AreWhere notes places)
+        (IsEnd begun.steps new.schedule ends.Memory)
         tied.counted.kept (rw is refl) (rw is refl) (rw is refl) (rw is refl) (rw is (loses-none (source.held old.devices.input))) tied.standing;
   }

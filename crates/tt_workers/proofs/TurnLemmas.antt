@@ -1,5 +1,6 @@
 -- A turn, put together of its rounds.
-use Rattle.std.proofs.Common.{◌≡◌, ◌∙◌, ◌-◌, ℕ, true, false, IsSome, IsTrue, List, [], ◌++◌, Option, Some, None, ap, append-nil, append_assoc, refl, slice_set, sym, subst}
+use Rattle.std.proofs.Common.{◌≡◌, ◌∙◌, ◌-◌, ℕ, true, false, IsSome, IsTrue, List, [], ◌++◌, Option, Some, None, ap, append-nil}
+use Rattle.std.proofs.Common.{append_assoc, refl, slice_set, sym, subst}
 use Rattle.tt_core.proofs.ActionLemmas.{some-none}
 use Rattle.tt_run.specs.Desk.{Ground}
 use Rattle.tt_devices.specs.declared.sink.Sink.{Ghosts as OfSink}
@@ -77,12 +78,14 @@ module _ {S K E : Type 0} (source : OfSource S) (output : OfSink K) (errors : Of
   pub tied-quiet : (begun : Beginning S K E) (desk : Ground S K E) (places : List Place) (end : Option RunEnd) (notes : List (Note S K E)) (pass : ℕ)
       → IsVacant notes pass
       → IsTied source output errors (record { begun = begun; desk = desk; places = places; end = end }) notes
-      → IsTied source output errors (record { begun = begun; desk = desk; places = places; end = end }) (slice_set notes (pass - 1) (record { begun = begun; out = None }))
+      → IsTied source output errors (record { begun = begun; desk = desk; places = places; end = end })
+      (slice_set notes (pass - 1) (record { begun = begun; out = None }))
   tied-quiet begun desk places None notes pass vacant tied = tied-vacant source output errors begun desk places notes pass vacant tied
   tied-quiet begun desk places (Some end) notes pass vacant tied = tied-ended source output errors begun desk places places end notes (pass - 1) None tied
 
   -- nothing was brought
-  pub turning-none : (pass : ℕ) (old : Realm S K E) (notes : List (Note S K E)) → IsTied source output errors old notes → Turning source output errors pass None old old
+  pub turning-none : (pass : ℕ) (old : Realm S K E) (notes : List (Note S K E)) → IsTied source output errors old notes
+      → Turning source output errors pass None old old
   turning-none pass old notes tied = record {
     keeps = λ some is returns. tied-quiet old.begun old.desk old.places old.end some pass (vacant-none some pass returns) is;
     begun = refl;

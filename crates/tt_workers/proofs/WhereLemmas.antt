@@ -1,10 +1,12 @@
 -- Threads in their places, as places and notes change.
-use Rattle.std.proofs.Common.{◌≡◌, ◌≢◌, ◌∙◌, ◌+◌, ◌-◌, ◌≤◌, ◌⊎◌, ℕ, zero, suc, arith, IsTrue, List, [], ◌∷◌, ◌++◌, Option, Some, None, ap, append_assoc, inl, inr, refl, slice_get, slice_set, sym, subst}
+use Rattle.std.proofs.Common.{◌≡◌, ◌≢◌, ◌∙◌, ◌+◌, ◌-◌, ◌≤◌, ◌⊎◌, ℕ, arith, IsTrue, List, [], ◌∷◌, ◌++◌, Option, Some}
+use Rattle.std.proofs.Common.{None, ap, append_assoc, inl, inr, refl, slice_get, slice_set, sym, subst}
+use Rattle.tt_calls.specs.Numbers.{at_number}
 use Rattle.tt_calls.specs.declared.reply.Reply.{Reply}
 use Rattle.tt_calls.specs.declared.request.Request.{Request}
 use Rattle.tt_core.proofs.ActionLemmas.{AsksIn, Becomes}
 use Rattle.tt_core.proofs.CrewLemmas.{goes-placed, stands-asking}
-use Rattle.tt_core.proofs.PlaceLemmas.{each-at, each-map, each-map-at, each-set, joined-each, made-map, not-zero, told-is}
+use Rattle.tt_core.proofs.PlaceLemmas.{each-at, each-map, each-map-at, each-set, joined-each, made-map, told-is}
 use Rattle.tt_core.specs.inside.Crew.{AllMade, AreEach, StandsIn}
 use Rattle.tt_interp.specs.Beginning.{IsNext}
 use Rattle.tt_interp.specs.Interps as interps
@@ -12,8 +14,8 @@ use Rattle.tt_interp.specs.Interps.{Interpreter, request_of, serving_of}
 use Rattle.tt_interp.specs.declared.setup.Setup.{Setup}
 use Rattle.tt_machine.specs.Machine.{Machine, Thread, with_reply, thread_with_reply}
 use Rattle.tt_threads.specs.declared.row.Row.{Row}
-use Rattle.tt_workers.proofs.Lists.{at-number, from-one, get-append, get-set-other, get-set-same, less-and-one, one-and-less, same-or-not, set-get}
-use Rattle.tt_workers.specs.inside.Places.{AreWhere, IsFreshPlace, IsGiven, IsGivenBy, IsNew, IsAtPlace, Note, noted_in, place_of}
+use Rattle.tt_workers.proofs.Lists.{place-before, from-one, get-append, get-set-other, get-set-same, less-and-one, one-and-less, same-or-not, set-get}
+use Rattle.tt_workers.specs.inside.Places.{AreWhere, IsFreshPlace, IsGiven, IsGivenBy, IsNew, IsAtPlace, Note, noted_in}
 use Rattle.tt_workers.specs.inside.Rosters.{HandsOut, HandsOutFresh, IsHandedOut, parked_at, place_after}
 use Rattle.tt_workers.specs.inside.Turns.{IsBack}
 use Rattle.tt_workers.specs.declared.next.Done.{Done}
@@ -100,10 +102,9 @@ other-out i index other is = other (omega (arith, numbers is))
     numbers : place.Out (i + 1) ≡ place.Out (index + 1) → i + 1 ≡ index + 1
     numbers is = cc
 
-parked-is : (places : List Place) (number : ℕ) (interp : Interpreter) → 1 ≤ number
+parked-is : (places : List Place) (number : ℕ) (interp : Interpreter) (was : Place) → at_number places number ≡ Some was
     → parked_at places number interp ≡ slice_set places (number - 1) (place.Parked interp)
-parked-is places zero interp above = absurd (omega (arith, above))
-parked-is places (suc k) interp above = rw (not-zero k) refl
+parked-is places number interp was there = rw there refl
 
 module _ {S K E : Type 0} where
   -- ---- a note changes ----
@@ -138,7 +139,8 @@ module _ {S K E : Type 0} where
       → ((index : ℕ) (task : Task) → noted_in (slice_get notes index) ≡ Some task → slice_get places (task.thread - 1) ≡ Some (place.Out (index + 1)))
       → ((index at : ℕ) → index ≢ i → slice_get places at ≡ Some (place.Out (index + 1)) → slice_get later at ≡ Some (place.Out (index + 1)))
       → ((task : Task) → note.out ≡ Some task → slice_get later (task.thread - 1) ≡ Some (place.Out (i + 1)))
-      → (index : ℕ) (task : Task) → noted_in (slice_get (slice_set notes i note) index) ≡ Some task → slice_get later (task.thread - 1) ≡ Some (place.Out (index + 1))
+      → (index : ℕ) (task : Task) → noted_in (slice_get (slice_set notes i note) index) ≡ Some task
+      → slice_get later (task.thread - 1) ≡ Some (place.Out (index + 1))
   outs-after notes i old note places later there outs keeps own index task is = by-case (same-or-not index i)
     where
       by-case : (index ≡ i) ⊎ (index ≢ i) → slice_get later (task.thread - 1) ≡ Some (place.Out (index + 1))
@@ -185,21 +187,25 @@ module _ {S K E : Type 0} where
       above = from-one places number (place.Fresh task.interp) is.found
 
       found : slice_get places (number - 1) ≡ Some (place.Fresh task.interp)
-      found = sym (at-number places number above) ∙ is.found
+      found = sym (place-before places number above) ∙ is.found
 
       placed : AreEach (IsAtPlace (slice_set notes (pass - 1) note) machine.setup) 1 machine.threads later
       placed =
           let each = each-map (IsAtPlace notes machine.setup) (IsAtPlace (slice_set notes (pass - 1) note) machine.setup)
           (placed-anew notes (pass - 1) old note there empty machine.setup) 1 machine.threads places are.placed in
-          let one = each-at (IsAtPlace (slice_set notes (pass - 1) note) machine.setup) 1 (number - 1) machine.threads places (place.Fresh task.interp) each found in
+          let one = each-at (IsAtPlace (slice_set notes (pass - 1) note) machine.setup) 1 (number - 1) machine.threads places
+          (place.Fresh task.interp) each found in
           let named = one-and-less number above in
           let new = subst (λ (n : ℕ). IsNew task.interp machine.setup n one.thread) named one.placed in
           let given = given-fresh machine.setup number one.thread task new is.thread is.no_reply is.fits in
           let by_note = subst (λ (some : Option Task). IsGivenBy some machine.setup number one.thread)
           (sym (noted-same notes (pass - 1) old note there ∙ out)) given in
           let at = subst (λ (n : ℕ). IsAtPlace (slice_set notes (pass - 1) note) machine.setup n one.thread (place.Out pass)) (sym named) by_note in
-          let set = each-set (IsAtPlace (slice_set notes (pass - 1) note) machine.setup) 1 (number - 1) machine.threads places one.thread (place.Out pass) each at in
-          rw is.put (subst (λ (threads : List Thread). AreEach (IsAtPlace (slice_set notes (pass - 1) note) machine.setup) 1 threads (slice_set places (number - 1) (place.Out pass)))
+          let set = each-set (IsAtPlace (slice_set notes (pass - 1) note) machine.setup) 1 (number - 1) machine.threads places one.thread
+          (place.Out pass) each at in
+          rw is.put (subst
+          (λ (threads : List Thread). AreEach (IsAtPlace (slice_set notes (pass - 1) note) machine.setup) 1 threads
+          (slice_set places (number - 1) (place.Out pass)))
           (set-get machine.threads (number - 1) one.thread one.there) set)
 
   -- ---- a parked thread gets its reply ----
@@ -222,31 +228,35 @@ module _ {S K E : Type 0} where
   fresh-placed notes setup number thread (place.Out pass) is = absurd is
   fresh-placed notes setup number thread place.Gone is = absurd is
 
-  pub where-answered : (setup : Setup) (notes : List (Note S K E)) (pass number : ℕ) (old note : Note S K E) (rows : List Row) (reply : Reply) (places mid later : List Place) (task : Option Task)
+  pub where-answered : (setup : Setup) (notes : List (Note S K E)) (pass number : ℕ) (old note : Note S K E) (rows : List Row)
+      (reply : Reply) (places mid later : List Place) (task : Option Task)
       → 1 ≤ pass → slice_get notes (pass - 1) ≡ Some old → old.out ≡ None → note.out ≡ task
       → HandsOut number pass reply places mid task → AllMade (IsFreshPlace setup) rows mid later
       → Becomes setup (AreWhere notes places) (AreWhere (slice_set notes (pass - 1) note) later) number reply rows
-  where-answered setup notes pass number old note rows reply places mid later task from there empty out is made = λ machine next was_setup same are joined_is. record {
-    placed =
-        subst (λ (one : Setup). AreEach (IsAtPlace (slice_set notes (pass - 1) note) one) 1 next.threads later) (sym same)
-        (subst (λ (threads : List Thread). AreEach (IsAtPlace (slice_set notes (pass - 1) note) setup) 1 threads later) (sym joined_is)
-        (joined-each (IsAtPlace (slice_set notes (pass - 1) note) setup) rows (with_reply machine.threads number reply) mid later
-        (replied-each machine was_setup are)
-        (made-map (IsFreshPlace setup) (IsAtPlace (slice_set notes (pass - 1) note) setup) (fresh-placed (slice_set notes (pass - 1) note) setup) rows mid later made)));
-    out = outs-after notes (pass - 1) old note places later there are.out
-        (λ index i other was. grown i (place.Out (index + 1)) (rw is.put (kept-out places (number - 1) (place.Parked is.interp) (place_after pass task) index i found (λ same. cc) was)))
-        (λ one also.
-        let taken : task ≡ Some one = sym out ∙ also in
-        let named = handed-number number is.interp reply task one is.given taken in
-        grown (one.thread - 1) (place.Out ((pass - 1) + 1)) (rw (named, is.put, less-and-one pass from, ← out-after pass task one taken)
-        (get-set-same places (number - 1) (place_after pass task) (place.Parked is.interp) found)));
-  }
+  where-answered setup notes pass number old note rows reply places mid later task from there empty out is made =
+      λ machine next was_setup same are joined_is. record {
+        placed =
+            subst (λ (one : Setup). AreEach (IsAtPlace (slice_set notes (pass - 1) note) one) 1 next.threads later) (sym same)
+            (subst (λ (threads : List Thread). AreEach (IsAtPlace (slice_set notes (pass - 1) note) setup) 1 threads later) (sym joined_is)
+            (joined-each (IsAtPlace (slice_set notes (pass - 1) note) setup) rows (with_reply machine.threads number reply) mid later
+            (replied-each machine was_setup are)
+            (made-map (IsFreshPlace setup) (IsAtPlace (slice_set notes (pass - 1) note) setup)
+            (fresh-placed (slice_set notes (pass - 1) note) setup) rows mid later made)));
+        out = outs-after notes (pass - 1) old note places later there are.out
+            (λ index i other was. grown i (place.Out (index + 1))
+            (rw is.put (kept-out places (number - 1) (place.Parked is.interp) (place_after pass task) index i found (λ same. cc) was)))
+            (λ one also.
+            let taken : task ≡ Some one = sym out ∙ also in
+            let named = handed-number number is.interp reply task one is.given taken in
+            grown (one.thread - 1) (place.Out ((pass - 1) + 1)) (rw (named, is.put, less-and-one pass from, ← out-after pass task one taken)
+            (get-set-same places (number - 1) (place_after pass task) (place.Parked is.interp) found)));
+      }
     where
       above : 1 ≤ number
       above = from-one places number (place.Parked is.interp) is.found
 
       found : slice_get places (number - 1) ≡ Some (place.Parked is.interp)
-      found = sym (at-number places number above) ∙ is.found
+      found = sym (place-before places number above) ∙ is.found
 
       grown : (i : ℕ) (at : Place) → slice_get mid i ≡ Some at → slice_get later i ≡ Some at
       grown i at in_mid = rw made.pushed (get-append mid made.more i at in_mid)
@@ -262,29 +272,31 @@ module _ {S K E : Type 0} where
           let stands = subst (λ (n : ℕ). StandsIn is.interp setup n one.thread) named one.placed in
           let at = answered-place (slice_set notes (pass - 1) note) setup pass number one.thread is.interp reply task
           (noted-same notes (pass - 1) old note there ∙ out) stands is.given in
-          let at_n = subst (λ (n : ℕ). IsAtPlace (slice_set notes (pass - 1) note) setup n (thread_with_reply reply one.thread) (place_after pass task)) (sym named) at in
-          let set = each-set (IsAtPlace (slice_set notes (pass - 1) note) setup) 1 (number - 1) machine.threads places (thread_with_reply reply one.thread) (place_after pass task) each at_n in
-          rw (told-is machine.threads number reply one.thread (at-number machine.threads number above ∙ one.there), is.put) set
+          let at_n = subst
+          (λ (n : ℕ). IsAtPlace (slice_set notes (pass - 1) note) setup n (thread_with_reply reply one.thread) (place_after pass task)) (sym named) at in
+          let set = each-set (IsAtPlace (slice_set notes (pass - 1) note) setup) 1 (number - 1) machine.threads places
+          (thread_with_reply reply one.thread) (place_after pass task) each at_n in
+          rw (told-is machine.threads number reply one.thread (place-before machine.threads number above ∙ one.there), is.put) set
 
   -- what a parked thread asks
   pub asks-parked : (notes : List (Note S K E)) (number : ℕ) (places : List Place) (interp : Interpreter)
-      → place_of places number ≡ Some (place.Parked interp)
+      → at_number places number ≡ Some (place.Parked interp)
       → AsksIn (AreWhere notes places) number (request_of interp.standing) (serving_of interp.standing)
   asks-parked notes number places interp is = λ machine are lives.
       let above = from-one places number (place.Parked interp) is in
-      let found = sym (at-number places number above) ∙ is in
+      let found = sym (place-before places number above) ∙ is in
       let one = each-at (IsAtPlace notes machine.setup) 1 (number - 1) machine.threads places (place.Parked interp) are.placed found in
       let stands = subst (λ (n : ℕ). StandsIn interp machine.setup n one.thread) (one-and-less number above) one.placed in
       record {
         thread = one.thread;
-        made = at-number machine.threads number above ∙ one.there;
+        made = place-before machine.threads number above ∙ one.there;
         lives = lives;
         next = stands-asking machine.setup number one.thread interp stands;
       }
 
   -- ---- a thread comes back ----
 
-  -- the thread that a note names, where it stands
+  -- the thread that a note names, and its place
   record IsOutBy (notes : List (Note S K E)) (places : List Place) (machine : Machine) (i : ℕ) (task : Task) : Type 0 where
     above : 1 ≤ task.thread
     at : slice_get places (task.thread - 1) ≡ Some (place.Out (i + 1))
@@ -316,7 +328,7 @@ module _ {S K E : Type 0} where
       → AreWhere (slice_set notes i note) (parked_at places done.thread done.interp) machine
   where-back notes i old note places task done machine there out none back halted are =
       subst (λ (some : List Place). AreWhere (slice_set notes i note) some machine)
-      (sym (parked-is places done.thread done.interp above))
+      (sym (parked-is places done.thread done.interp (place.Out (i + 1)) (place-before places done.thread above ∙ at)))
       (record {
         placed = each-map-at (IsAtPlace notes machine.setup) (IsAtPlace (slice_set notes i note) machine.setup) 1 machine.threads
             (slice_set places (done.thread - 1) (place.Parked done.interp)) follows parked;
@@ -346,7 +358,8 @@ module _ {S K E : Type 0} where
           let named : task.thread ≡ 1 + (done.thread - 1) = omega (arith, back.thread, above) in
           let at_n = subst (λ (n : ℕ). StandsIn done.interp machine.setup n is_out.thread) named stands in
           let same : slice_get machine.threads (done.thread - 1) ≡ Some is_out.thread = rw back.thread is_out.there in
-          let set = each-set (IsAtPlace notes machine.setup) 1 (done.thread - 1) machine.threads places is_out.thread (place.Parked done.interp) are.placed at_n in
+          let set = each-set (IsAtPlace notes machine.setup) 1 (done.thread - 1) machine.threads places is_out.thread
+          (place.Parked done.interp) are.placed at_n in
           subst (λ (threads : List Thread). AreEach (IsAtPlace notes machine.setup) 1 threads (slice_set places (done.thread - 1) (place.Parked done.interp)))
           (set-get machine.threads (done.thread - 1) is_out.thread same) set
 

@@ -16,7 +16,7 @@ use Rattle.tt_workers.specs.declared.next.Task.{Task}
 use Rattle.tt_workers.specs.declared.ran.Ran.{Ran}
 
 module _ {S K E : Type 0} where
-  -- what a worker brings, by the note that its pass tells
+  -- what a worker brings, by the note of its pass
   pub returns-of : (found : Option (Note S K E)) (notes : List (Note S K E)) (pass : ℕ) (back : Option Done)
       → slice_get notes (pass - 1) ≡ found → MayEnter found back → Returns notes pass back
   returns-of None notes pass back there may = absurd may
@@ -51,7 +51,7 @@ module _ {S K E : Type 0} where
       let at = subst (λ (found : Option (Note S K E)). IsRound found later (round.Goes back)) is.is went in
       record { note = is.note; was = is.was; empty = is.empty; out = at.0; is = at.1; may = at.2 }
 
-  -- where the run is over, it is as it was
+  -- if the run is over, it is as it was
   pub carries-over : (first now later : Option (Note S K E)) (before : Option Done)
       → Carries first now before → IsRound now later round.Over → later ≡ first
   carries-over first now later before is went =
@@ -79,7 +79,8 @@ module _ {S K E : Type 0} (source : OfSource S) (output : OfSink K) (errors : Of
       is ∙ ap (λ (one : Beginning S K E). Some (record { begun = one; out = out_of then })) begun
 
   -- a turn keeps the notes of all passes fitting, with this pass's new one
-  pub turn-fits : (notes : List (Note S K E)) (pass number : ℕ) (old entered new : Realm S K E) (back : Option Done) (then : Next) (found : Option (Note S K E)) (note : Note S K E)
+  pub turn-fits : (notes : List (Note S K E)) (pass number : ℕ) (old entered new : Realm S K E) (back : Option Done) (then : Next)
+      (found : Option (Note S K E)) (note : Note S K E)
       → number ≡ pass → entered ≡ old → note ≡ note_after new (out_of then)
       → KeepsTied source output errors old new number back then
       → slice_get notes (pass - 1) ≡ found → MayEnter found back

@@ -37,7 +37,7 @@ module _ {S K E : Type 0} (source : OfSource S) (output : OfSink K) (errors : Of
     pub left : HoldsLastPart (source.held ran.input) machine.input
 
   -- The steps are as many as there may be at most, and nothing was written without a step. A device's count of faults
-  -- rose exactly if the end says so. If standard input told its bytes, there is that machine.
+  -- rose exactly if the end says so. If the bytes of standard input are known, there is that machine.
   pub record IsRan (begun : Beginning S K E) (ran : Ran S K E) : Type 0 where
     pub within : length ran.schedule.threads ≤ begun.steps
     pub no_output : ran.schedule.threads ≡ [] → ran.output ≡ begun.devices.output

@@ -1,10 +1,12 @@
 //! The places of the threads.
 ghost use Rattle.std.specs.Prelude.{◌≡◌, ◌+◌, ◌≤◌, [], ℕ, Some, IfNone, IfSome, OnOk, IsSome, IsTrue, IsFalse, length};
 ghost use Rattle.std.specs.Option.{option_copied};
+ghost use Rattle.tt_calls.specs.Numbers.{at_number};
 ghost use Rattle.tt_core.specs.inside.Crew.{AllMade};
 ghost use Rattle.tt_interp.specs.Interps as interps;
-ghost use Rattle.tt_workers.specs.inside.Places.{IsFit, IsFreshPlace, asked_at, can_go, is_fresh_at, place_of};
-ghost use Rattle.tt_workers.specs.inside.Rosters.{BeginsAt, HandsOut, HandsOutFresh, TakesParked, is_elsewhere_at, parked_at};
+ghost use Rattle.tt_workers.specs.inside.Places.{IsFit, IsFreshPlace, asked_at, can_go, is_fresh_at};
+ghost use Rattle.tt_workers.specs.inside.Rosters.{BeginsAt, HandsOut, HandsOutFresh, TakesParked};
+ghost use Rattle.tt_workers.specs.inside.Rosters.{is_elsewhere_at, parked_at};
 
 use crate::boxed_interp::BoxedInterp;
 use crate::next::Task;
@@ -15,26 +17,27 @@ use std::mem;
 use tt_calls::{Reply, Request, Start};
 use tt_devices::{Sink, Source};
 use tt_interp::Setup;
+use tt_places::Places;
 use tt_run::Desk;
 use tt_text::NoMemory;
 
 /// The places of the threads, by number from 1.
 #[derive(Drop)]
 pub(crate) struct Roster {
-    places: Vec<Place>,
+    places: Places<Place>,
 }
 
 impl Model for Roster {
     ghost use Rattle.std.specs.List.{AllByRecursion};
-    ghost use Rattle.std.specs.Prelude.{◌≤◌, List, length};
+    ghost use Rattle.std.specs.Prelude.{List};
     ghost use Rattle.tt_workers.specs.declared.place.Place.{Place};
     ghost use Rattle.tt_workers.specs.inside.Places.{IsFit};
 
     ghost Value = { List Place };
 
-    ghost view = { λ roster. roster.places.items };
+    ghost view = { λ roster. roster.places };
 
-    ghost invariant = { λ roster. AllByRecursion IsFit roster.places.items × (length roster.places.items ≤ 4294967295) };
+    ghost invariant = { λ roster. AllByRecursion IsFit roster.places };
 }
 
 impl Roster {
@@ -43,7 +46,7 @@ impl Roster {
         ensures { result ≡ [] }
     {
         Roster {
-            places: Vec::new(alloc),
+            places: Places::new(alloc),
         }
     }
 
@@ -51,7 +54,7 @@ impl Roster {
     pub(crate) fn len(&self) -> u32
         ensures { result ≡ length self.now }
     {
-        self.places.as_slice().len() as u32
+        self.places.len()
     }
 
     /// The thread after the last is there, fresh.
@@ -90,12 +93,9 @@ impl Roster {
 
     /// What a parked thread asks. It takes no memory.
     pub(crate) fn request(&self, number: u32) -> Option<&Request>
-        ensures asks { option_copied result ≡ asked_at (place_of self.now number) }
+        ensures asks { option_copied result ≡ asked_at (at_number self.now number) }
     {
-        if number == 0 {
-            return None;
-        }
-        match self.places.get(number as usize - 1) {
+        match self.places.get(number) {
             Some(Place::Parked(interp)) => Some(interp.request()),
             Some(Place::Fresh(_) | Place::Out(_) | Place::Gone) | None => None,
         }
@@ -105,10 +105,7 @@ impl Roster {
     fn can_go<S: Source, K: Sink, E: Sink>(&self, desk: &Desk<S, K, E>, number: u32) -> bool
         ensures { result ≡ can_go desk.now self.now number }
     {
-        if number == 0 {
-            return false;
-        }
-        match self.places.get(number as usize - 1) {
+        match self.places.get(number) {
             Some(Place::Fresh(_)) => true,
             Some(Place::Parked(interp)) => desk.enabled(number, interp.request()),
             Some(Place::Out(_) | Place::Gone) | None => false,
@@ -150,12 +147,9 @@ impl Roster {
 
     /// Whether a thread is out at another pass than this. It takes no memory.
     fn is_elsewhere(&self, number: u32, pass: u32) -> bool
-        ensures { result ≡ is_elsewhere_at pass (place_of self.now number) }
+        ensures { result ≡ is_elsewhere_at pass (at_number self.now number) }
     {
-        if number == 0 {
-            return false;
-        }
-        match self.places.get(number as usize - 1) {
+        match self.places.get(number) {
             Some(Place::Out(other)) => *other != pass,
             Some(Place::Fresh(_) | Place::Parked(_) | Place::Gone) | None => false,
         }
@@ -163,8 +157,8 @@ impl Roster {
 
     /// Whether any thread is out at another pass than this. It takes no memory.
     pub(crate) fn is_any_elsewhere(&self, pass: u32) -> bool
-        ensures there { IsTrue result → (number : ℕ) × IsTrue (is_elsewhere_at pass (place_of self.now number)) }
-        ensures nowhere { IsFalse result → (number : ℕ) → IsFalse (is_elsewhere_at pass (place_of self.now number)) }
+        ensures there { IsTrue result → (number : ℕ) × IsTrue (is_elsewhere_at pass (at_number self.now number)) }
+        ensures nowhere { IsFalse result → (number : ℕ) → IsFalse (is_elsewhere_at pass (at_number self.now number)) }
     {
         for number in 0..=self.len() {
             if self.is_elsewhere(number, pass) {
@@ -176,10 +170,10 @@ impl Roster {
 
     /// A fresh thread is handed out at this pass. It takes no memory.
     pub(crate) fn hand_out_fresh(&mut self, number: u32, pass: u32) -> Task
-        requires fresh { IsTrue (is_fresh_at (place_of self.old number)) }
+        requires fresh { IsTrue (is_fresh_at (at_number self.old number)) }
         ensures { HandsOutFresh number pass self.old self.new result }
     {
-        let interp = take_fresh(&mut self.places[number as usize - 1], pass);
+        let interp = take_fresh(self.places.place_mut(number), pass);
         Task {
             thread: number,
             interp,
@@ -190,11 +184,11 @@ impl Roster {
     /// A parked thread gets its reply, and is handed out at this pass, unless nothing can follow the reply. It takes no
     /// memory.
     pub(crate) fn hand_out(&mut self, number: u32, pass: u32, reply: Reply) -> Option<Task>
-        requires parked { IsSome (asked_at (place_of self.old number)) }
+        requires parked { IsSome (asked_at (at_number self.old number)) }
         ensures { HandsOut number pass reply self.old self.new result }
     {
         let given = Some(reply);
-        let interp = take_parked(&mut self.places[number as usize - 1], pass, &given)?;
+        let interp = take_parked(self.places.place_mut(number), pass, &given)?;
         Some(Task {
             thread: number,
             interp,
@@ -207,10 +201,7 @@ impl Roster {
         requires halted { IsTrue (interps.is_halted interp.standing) }
         ensures { self.new ≡ parked_at self.old number interp }
     {
-        if number == 0 {
-            return;
-        }
-        if let Some(place) = self.places.get_mut(number as usize - 1) {
+        if let Some(place) = self.places.get_mut(number) {
             *place = Place::Parked(interp);
         }
     }

@@ -64,7 +64,11 @@ fn without_memory<S: Source, K: Sink, E: Sink>(
     alloc: Global,
     fault: NewFault<S, K, E>,
 ) -> Ran<S, K, E>
-    ensures ran { (begun : _) → fault ≡ record { input = begun.devices.input; output = begun.devices.output; errors = begun.devices.errors } →
+    ensures ran { (begun : _) → fault ≡ record {
+      input = begun.devices.input;
+      output = begun.devices.output;
+      errors = begun.devices.errors;
+    } →
         IsRan S.Source K.Sink E.Sink begun result }
 {
     let NewFault {
@@ -148,8 +152,10 @@ fn carried<
 {
     let shared = &lock;
     let each = |_: usize, pass: &mut Pass<Tied<S, K, E>>|
-        requires { IsPassOf shared.now pass.now × (turn_of pass.now ≡ None) × IsNoted (λ note. note.out ≡ None) (note_of pass.now) }
-        ensures { IsSamePass shared.entry.now pass.entry.now pass.exit.now × (turn_of pass.exit.now ≡ None) × (note_of pass.exit.now ≡ note_of pass.entry.now) }
+        requires { IsPassOf shared.now pass.now × (turn_of pass.now ≡ None)
+            × IsNoted (λ note. note.out ≡ None) (note_of pass.now) }
+        ensures { IsSamePass shared.entry.now pass.entry.now pass.exit.now × (turn_of pass.exit.now ≡ None)
+            × (note_of pass.exit.now ≡ note_of pass.entry.now) }
     { carry(rt, shared, pass, gate) };
     thread::for_each_mut(rt, passes.as_mut_slice(), workers as usize, &each);
     lock.close(passes)
@@ -157,7 +163,8 @@ fn carried<
 
 /// What a world leaves.
 fn finished<S: Source, K: Sink, E: Sink>(world: Box<World<S, K, E>>) -> Ran<S, K, E>
-    ensures ran { (notes : _) → IsTied S.Source K.Sink E.Sink world.value notes → IsRan S.Source K.Sink E.Sink world.value.begun result }
+    ensures ran { (notes : _) → IsTied S.Source K.Sink E.Sink world.value notes →
+        IsRan S.Source K.Sink E.Sink world.value.begun result }
 {
     Box::into_inner(world).finish()
 }

@@ -1,10 +1,12 @@
 //! A run on workers, as it lies under the lock.
-ghost use Rattle.std.specs.Prelude.{◌≡◌, ◌≢◌, ◌+◌, ◌≤◌, ◌<◌, [], ◌∷◌, ℕ, None, Some, IfOk, IfErr, IfSome, IfNone, IsSome, IsTrue, IsFalse, length, replicate};
+ghost use Rattle.std.specs.Prelude.{◌≡◌, ◌≢◌, ◌+◌, ◌≤◌, ◌<◌, [], ◌∷◌, ℕ, None, Some, IfOk, IfErr, IfSome};
+ghost use Rattle.std.specs.Prelude.{IfNone, IsSome, IsTrue, IsFalse, length, replicate};
 ghost use Rattle.tt_calls.specs.declared.start.Start.TheVariants as start;
 ghost use Rattle.tt_schedule.specs.ScheduleText.{most_steps};
 ghost use Rattle.tt_workers.specs.Ends.{fault_so_far, end_fault};
 ghost use Rattle.tt_interp.specs.Interps as interps;
-ghost use Rattle.tt_workers.specs.inside.Places.{asked_at, can_go, place_of};
+ghost use Rattle.tt_calls.specs.Numbers.{at_number};
+ghost use Rattle.tt_workers.specs.inside.Places.{asked_at, can_go};
 ghost use Rattle.tt_workers.specs.Ran.{IsRan, end_or_memory};
 ghost use Rattle.tt_workers.specs.inside.Rosters.{BeginsAt};
 ghost use Rattle.tt_workers.specs.inside.Rounds.{KeepsVacant, Replies, Rounds, TakesBack, Turning, next_of};
@@ -75,9 +77,11 @@ impl<S: Source, K: Sink, E: Sink> World<S, K, E> {
           steps = steps;
           devices = record { input = input; output = output; errors = errors };
         }) }
-        ensures untouched { IfOk result (λ world. world.desk.devices ≡ record { input = input; ahead = []; output = output; errors = errors }) }
+        ensures untouched { IfOk result (λ world.
+            world.desk.devices ≡ record { input = input; ahead = []; output = output; errors = errors }) }
         ensures no_step { IfOk result (λ world. (world.desk.schedule ≡ []) × (world.end ≡ None)) }
-        ensures tied { IfOk result (λ world. (count : ℕ) → IsTied S.Source K.Sink E.Sink world (replicate count (note_after world None))) }
+        ensures tied { IfOk result (λ world.
+            (count : ℕ) → IsTied S.Source K.Sink E.Sink world (replicate count (note_after world None))) }
         ensures handed_back { IfErr result (λ fault. fault ≡ record { input = input; output = output; errors = errors }) }
     {
         let devices = Began::of(&input, &output, &errors);
@@ -131,7 +135,8 @@ impl<S: Source, K: Sink, E: Sink> World<S, K, E> {
     pub fn wakes(&self) -> bool
         ensures end { IsSome self.now.end → IsTrue result }
         ensures able { (number : ℕ) → IsTrue (can_go self.now.desk self.now.places number) → IsTrue result }
-        ensures barren { self.now.end ≡ None → ((number : ℕ) → IsFalse (can_go self.now.desk self.now.places number)) → IsFalse result }
+        ensures barren { self.now.end ≡ None →
+            ((number : ℕ) → IsFalse (can_go self.now.desk self.now.places number)) → IsFalse result }
     {
         self.end.is_some() || self.roster.next_after(&self.desk, 0).is_some()
     }
@@ -152,8 +157,10 @@ impl<S: Source, K: Sink, E: Sink> World<S, K, E> {
     pub fn finish(self) -> Ran<S, K, E>
         ensures end { result.end ≡ end_or_memory self.end }
         ensures schedule { result.schedule.threads ≡ self.desk.schedule }
-        ensures devices { (result.input ≡ self.desk.devices.input) × (result.output ≡ self.desk.devices.output) × (result.errors ≡ self.desk.devices.errors) }
-        ensures ran { (notes : _) → IsTied S.Source K.Sink E.Sink self notes → IsRan S.Source K.Sink E.Sink self.begun result }
+        ensures devices { (result.input ≡ self.desk.devices.input) × (result.output ≡ self.desk.devices.output)
+            × (result.errors ≡ self.desk.devices.errors) }
+        ensures ran { (notes : _) → IsTied S.Source K.Sink E.Sink self notes →
+            IsRan S.Source K.Sink E.Sink self.begun result }
     {
         let World {
             setup: _,
@@ -270,7 +277,7 @@ impl<S: Source, K: Sink, E: Sink> World<S, K, E> {
         requires kept { self.old.desk.kept ≡ None }
         requires room { length self.old.desk.schedule < self.old.begun.steps }
         requires able { IsTrue (can_go self.old.desk self.old.places number) }
-        requires parked { IsSome (asked_at (place_of self.old.places number)) }
+        requires parked { IsSome (asked_at (at_number self.old.places number)) }
         ensures keeps { KeepsVacant S.Source K.Sink E.Sink self.old self.new pass (next_of result) }
         ensures goes { Rounds pass self.old self.new result }
     {
@@ -326,7 +333,7 @@ fn answer<S: Source, K: Sink, E: Sink>(
     pass: u32,
     reply: Reply,
 ) -> Result<Option<Task>, NoMemory>
-    requires parked { IsSome (asked_at (place_of roster.old number)) }
+    requires parked { IsSome (asked_at (at_number roster.old number)) }
     ensures { IfOk result (Replies setup.now desk.now.shared.rows number pass reply roster.old roster.new) }
 {
     let task = roster.hand_out(number, pass, reply);

@@ -1,6 +1,8 @@
 -- The interpreters of the threads, and the threads of the machine that they stand for.
-use Rattle.std.specs.Prelude.{◌≡◌, ◌<◌, ◌≤◌, ◌⊎◌, ◌-◌, ◌==◌, ⊤, ℕ, suc, Bool, false, IsTrue, IsFalse, List, [], ◌∷◌, ◌++◌, drop, length, map, Option, Some, None, slice_get, slice_set, if◌then◌else◌}
-use Rattle.std.specs.Option.{option_map}
+use Rattle.std.specs.Prelude.{◌≡◌, ◌<◌, ◌≤◌, ◌⊎◌, ⊤, ℕ, suc, Bool, false, IsTrue, IsFalse, List, [], ◌∷◌, ◌++◌, drop, length, map}
+use Rattle.std.specs.Prelude.{Option, Some, None, if◌then◌else◌}
+use Rattle.std.specs.Option.{option_flatten, option_map}
+use Rattle.tt_calls.specs.Numbers.{at_number, with_at}
 use Rattle.tt_calls.specs.declared.reply.Reply.{Reply}
 use Rattle.tt_calls.specs.declared.request.Request.{Request}
 use Rattle.tt_run.specs.Desk.{Ground, can_act}
@@ -16,12 +18,8 @@ abbrev pub Places : Type 0
 Places = List (Option Interpreter)
 
 -- that of a thread
-abbrev pub interp_in : Option (Option Interpreter) → Option Interpreter
-interp_in None = None
-interp_in (Some place) = place
-
 abbrev pub interp_of : Places → ℕ → Option Interpreter
-interp_of places number = if number == 0 then None else interp_in (slice_get places (number - 1))
+interp_of places number = option_flatten (at_number places number)
 
 -- an interpreter in its place halts at what it asks
 abbrev pub IsHalted : Option Interpreter → Type 0
@@ -62,8 +60,8 @@ ArePlaced setup number threads places = AreEach (IsPlaced setup) number threads 
 
 -- ---- what becomes of them ----
 
--- a thread that was made begins
-pub record BeginsThread (setup : Setup) (start : Thread) (old new : Places) : Type 0 where
+-- the thread after the last begins
+pub record BeginsLast (setup : Setup) (start : Thread) (old new : Places) : Type 0 where
   pub interp : Interpreter
   pub pushed : new ≡ old ++ Some interp ∷ []
   pub stands : StandsIn interp setup (suc (length old)) start
@@ -78,22 +76,22 @@ pub record AllMade {P : Type 0} (Is : ℕ → Thread → P → Type 0) (rows : L
 abbrev pub AllBegin : Setup → List Row → (old new : Places) → Type 0
 AllBegin setup rows old new = AllMade (IsPlaced setup) rows old new
 
--- an interpreter goes on with a reply, or has ended
-abbrev pub GoesOn : Interpreter → Reply → Option Interpreter → Type 0
-GoesOn interp reply (Some later) =
+-- an interpreter takes a reply and goes on with it, or its thread has ended
+abbrev pub TakesReply : Interpreter → Reply → Option Interpreter → Type 0
+TakesReply interp reply (Some later) =
     interps.GoesOn later interp (Some reply) × IsTrue (interps.is_halted later.standing)
-GoesOn interp reply None = IsFalse (interps.fits interp.standing (Some reply))
+TakesReply interp reply None = IsFalse (interps.fits interp.standing (Some reply))
 
 abbrev pub Resumes : (goes : Bool) → Interpreter → Reply → Interpreter → Type 0
-Resumes goes interp reply later = GoesOn interp reply (if goes then Some later else None)
+Resumes goes interp reply later = TakesReply interp reply (if goes then Some later else None)
 
 -- a thread gets its reply
 pub record IsReplied (number : ℕ) (reply : Reply) (old new : Places) : Type 0 where
   pub interp : Interpreter
   pub found : interp_of old number ≡ Some interp
   pub place : Option Interpreter
-  pub goes : GoesOn interp reply place
-  pub put : new ≡ slice_set old (number - 1) place
+  pub goes : TakesReply interp reply place
+  pub put : new ≡ with_at old number place
 
 -- ---- what can be done ----
 

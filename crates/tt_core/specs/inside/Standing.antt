@@ -38,7 +38,7 @@ pub record Stands {S K E : Type 0}
       (got_out stage.began.output) (got_out stage.desk.devices.output)
       (got_err stage.began.errors) (got_err stage.desk.devices.errors) machine
 
--- if standard input told its bytes
+-- if the bytes of standard input are known
 abbrev pub IsStanding :
     {S K E : Type 0} →
     (held : S → Option (List ℕ)) → (got_out : K → Option (List ℕ)) → (got_err : E → Option (List ℕ)) →

@@ -1,5 +1,6 @@
 -- Where the threads of a run are.
-use Rattle.std.specs.Prelude.{◌≡◌, ◌+◌, ◌-◌, ◌==◌, ◌++◌, ⊤, ℕ, Bool, true, false, IsTrue, List, [], Option, Some, None, slice_get, if◌then◌else◌}
+use Rattle.std.specs.Prelude.{◌≡◌, ◌+◌, ◌-◌, ◌++◌, ⊤, ℕ, Bool, true, false, IsTrue, List, [], Option, Some, None, slice_get}
+use Rattle.tt_calls.specs.Numbers.{at_number}
 use Rattle.tt_calls.specs.declared.reply.Reply.{Reply}
 use Rattle.tt_calls.specs.declared.request.Request.{Request}
 use Rattle.tt_core.specs.inside.Crew.{AreEach, AsksNothing, StandsIn}
@@ -71,10 +72,6 @@ pub record AreWhere {S K E : Type 0} (notes : List (Note S K E)) (places : List 
 
 -- ---- who can go on ----
 
--- the place of a thread
-abbrev pub place_of : List Place → (number : ℕ) → Option Place
-place_of places number = if number == 0 then None else slice_get places (number - 1)
-
 -- what a parked thread asks
 abbrev pub asked_at : Option Place → Option Request
 asked_at None = None
@@ -92,7 +89,7 @@ can_go_at desk number (Some (place.Out pass)) = false
 can_go_at desk number (Some place.Gone) = false
 
 abbrev pub can_go : {S K E : Type 0} → Ground S K E → List Place → (number : ℕ) → Bool
-can_go desk places number = can_go_at desk number (place_of places number)
+can_go desk places number = can_go_at desk number (at_number places number)
 
 -- ---- inside ----
 

@@ -1,11 +1,12 @@
 -- What becomes of places.
-use Rattle.std.specs.Prelude.{◌≡◌, ◌-◌, ◌==◌, ◌++◌, ℕ, suc, Bool, false, not, IsTrue, IsFalse, List, [], ◌∷◌, length, Option, Some, None, slice_set, if◌then◌else◌}
+use Rattle.std.specs.Prelude.{◌≡◌, ◌==◌, ◌++◌, ℕ, suc, Bool, false, not, IsTrue, IsFalse, List, [], ◌∷◌, length, Option, Some, None}
+use Rattle.tt_calls.specs.Numbers.{at_number, with_at}
 use Rattle.tt_calls.specs.declared.reply.Reply.{Reply}
 use Rattle.tt_calls.specs.declared.start.Start.{Start}
 use Rattle.tt_interp.specs.Interps as interps
 use Rattle.tt_interp.specs.Interps.{Interpreter}
 use Rattle.tt_interp.specs.declared.setup.Setup.{Setup}
-use Rattle.tt_workers.specs.inside.Places.{IsFreshPlace, place_of}
+use Rattle.tt_workers.specs.inside.Places.{IsFreshPlace}
 use Rattle.tt_workers.specs.declared.next.Task.{Task}
 use Rattle.tt_workers.specs.declared.place.Place.{Place}
 use Rattle.tt_workers.specs.declared.place.Place.TheVariants as place
@@ -18,8 +19,8 @@ pub record BeginsAt (setup : Setup) (start : Start) (old new : List Place) : Typ
 
 -- a fresh thread is handed out
 pub record HandsOutFresh (number pass : ℕ) (old new : List Place) (task : Task) : Type 0 where
-  pub found : place_of old number ≡ Some (place.Fresh task.interp)
-  pub put : new ≡ slice_set old (number - 1) (place.Out pass)
+  pub found : at_number old number ≡ Some (place.Fresh task.interp)
+  pub put : new ≡ with_at old number (place.Out pass)
   pub thread : task.thread ≡ number
   pub no_reply : task.reply ≡ None
   pub fits : IsTrue (interps.fits task.interp.standing task.reply)
@@ -39,8 +40,8 @@ IsHandedOut number interp reply None = IsFalse (interps.fits interp.standing (So
 -- a parked thread gets its reply
 pub record HandsOut (number pass : ℕ) (reply : Reply) (old new : List Place) (task : Option Task) : Type 0 where
   pub interp : Interpreter
-  pub found : place_of old number ≡ Some (place.Parked interp)
-  pub put : new ≡ slice_set old (number - 1) (place_after pass task)
+  pub found : at_number old number ≡ Some (place.Parked interp)
+  pub put : new ≡ with_at old number (place_after pass task)
   pub given : IsHandedOut number interp reply task
 
 -- a thread is out at another pass than this
@@ -51,10 +52,13 @@ is_elsewhere_at pass (Some (place.Parked interp)) = false
 is_elsewhere_at pass (Some (place.Out other)) = not (other == pass)
 is_elsewhere_at pass (Some place.Gone) = false
 
--- the places after a thread came back
+-- the places after a thread came back: it is parked in its place, if it has one
+abbrev pub parked_in : List Place → (number : ℕ) → Interpreter → Option Place → List Place
+parked_in places number interp None = places
+parked_in places number interp (Some was) = with_at places number (place.Parked interp)
+
 abbrev pub parked_at : List Place → (number : ℕ) → Interpreter → List Place
-parked_at places number interp =
-    if number == 0 then places else slice_set places (number - 1) (place.Parked interp)
+parked_at places number interp = parked_in places number interp (at_number places number)
 
 -- the interpreter of a parked thread is taken, unless it can't be resumed with what is given
 abbrev pub IsTaken : (pass : ℕ) → Interpreter → (given : Option Reply) → Place → Option Interpreter → Type 0

@@ -1,9 +1,10 @@
 -- What a worker brings to a turn, and what it takes from it.
-use Rattle.std.specs.Prelude.{◌≡◌, ◌≢◌, ◌-◌, ◌++◌, ⊤, ℕ, IsTrue, IsFalse, List, Option, Some, None, slice_get, slice_set}
+use Rattle.std.specs.Prelude.{◌≡◌, ◌≢◌, ◌-◌, ⊤, ℕ, IsTrue, IsFalse, List, Option, Some, None, slice_get, slice_set}
+use Rattle.tt_calls.specs.Numbers.{at_number}
 use Rattle.tt_devices.specs.declared.sink.Sink.{Ghosts as OfSink}
 use Rattle.tt_devices.specs.declared.source.Source.{Ghosts as OfSource}
 use Rattle.tt_interp.specs.Interps as interps
-use Rattle.tt_workers.specs.inside.Places.{Note, can_go, place_of}
+use Rattle.tt_workers.specs.inside.Places.{Note, can_go}
 use Rattle.tt_workers.specs.inside.World.{IsTied, Realm}
 use Rattle.tt_workers.specs.declared.next.Done.{Done}
 use Rattle.tt_workers.specs.declared.next.Resumption.TheVariants.{Halted}
@@ -54,12 +55,12 @@ pub record IsResting {S K E : Type 0} (pass : ℕ) (world : Realm S K E) : Type 
   pub other : ℕ
   pub elsewhere : other ≢ pass
   pub thread : ℕ
-  pub out : place_of world.places thread ≡ Some (Out other)
+  pub out : at_number world.places thread ≡ Some (Out other)
 
 -- What is answered: a thread, which is then out at this pass; to rest, if nobody can go on; or that it is over, if
 -- the run has its end.
 abbrev pub IsNextAt : {S K E : Type 0} → (pass : ℕ) → Realm S K E → Next → Type 0
-IsNextAt pass world (Run task) = (world.end ≡ None) × (place_of world.places task.thread ≡ Some (Out pass))
+IsNextAt pass world (Run task) = (world.end ≡ None) × (at_number world.places task.thread ≡ Some (Out pass))
 IsNextAt pass world Rest = IsResting pass world
 IsNextAt pass world Over = world.end ≢ None
 

@@ -40,9 +40,9 @@ module _ {S K E : Type 0} (source : OfSource S) (output : OfSink K) (errors : Of
         WritesCount end (output.fault_count begun.devices.output) (output.fault_count desk.devices.output)
         (errors.fault_count begun.devices.errors) (errors.fault_count desk.devices.errors)
 
-  -- The notes are of this run. If standard input told its bytes, there is the machine after the schedule; what the
-  -- threads share and what the sinks got is that machine's, the threads are where places and notes say, and the end
-  -- is true.
+  -- The notes are of this run. If the bytes of standard input are known, there is the machine after the schedule. What
+  -- the threads share and what the sinks got is that machine's, the threads are where places and notes say, and the
+  -- end is true.
   pub record IsTied (world : Realm S K E) (notes : List (Note S K E)) : Type 0 where
     pub same_run : (index : ℕ) (note : Note S K E) →
         slice_get notes index ≡ Some note →

@@ -8,11 +8,13 @@ use Rattle.tt_workers.proofs.carrier.take_turn.Goals as goal
 
 pub enter-turn-requires-send-T-State : goal.enter-turn-requires-send-T-State
 enter-turn-requires-send-T-State g c κs within =
-    state-send (param 1 g.row.S) (param 2 g.row.K) (param 3 g.row.E) g.S.Source g.K.Sink g.E.Sink _ c.type_bounds.send-S c.type_bounds.send-K c.type_bounds.send-E
+    state-send (param 1 g.row.S) (param 2 g.row.K) (param 3 g.row.E) g.S.Source g.K.Sink g.E.Sink _ c.type_bounds.send-S
+    c.type_bounds.send-K c.type_bounds.send-E
 
 pub number-requires-send-T-State : goal.number-requires-send-T-State
 number-requires-send-T-State g c κs within =
-    state-send (param 1 g.row.S) (param 2 g.row.K) (param 3 g.row.E) g.S.Source g.K.Sink g.E.Sink _ c.type_bounds.send-S c.type_bounds.send-K c.type_bounds.send-E
+    state-send (param 1 g.row.S) (param 2 g.row.K) (param 3 g.row.E) g.S.Source g.K.Sink g.E.Sink _ c.type_bounds.send-S
+    c.type_bounds.send-K c.type_bounds.send-E
 
 pub turn-next-requires-clause-tied : goal.turn-next-requires-clause-tied
 turn-next-requires-clause-tied g c =
@@ -24,22 +26,26 @@ turn-next-requires-clause-tied g c =
 
 pub leave-requires-send-T-State : goal.leave-requires-send-T-State
 leave-requires-send-T-State g c κs within =
-    state-send (param 1 g.row.S) (param 2 g.row.K) (param 3 g.row.E) g.S.Source g.K.Sink g.E.Sink _ c.type_bounds.send-S c.type_bounds.send-K c.type_bounds.send-E
+    state-send (param 1 g.row.S) (param 2 g.row.K) (param 3 g.row.E) g.S.Source g.K.Sink g.E.Sink _ c.type_bounds.send-S
+    c.type_bounds.send-K c.type_bounds.send-E
 
 pub leave-requires-clause-fits : goal.leave-requires-clause-fits
 leave-requires-clause-fits g c κs within notes long at fit =
-    turn-fits g.S.Source g.K.Sink g.E.Sink notes _ c.number.result c.deref_mut.result.now _ c.turn-next.new.self c.args.done c.turn-next.result _ _ c.number.ensures
+    turn-fits g.S.Source g.K.Sink g.E.Sink notes _ c.number.result c.deref_mut.result.now _ c.turn-next.new.self c.args.done
+    c.turn-next.result _ _ c.number.ensures
     (ap (λ world. world.value) c.enter-turn.ensures.turn.1 ∙ sym c.deref_mut.ensures.value)
     (c.note-note.ensures ∙ ap (λ world. note_after world (out_of c.turn-next.result)) c.deref.ensures)
     c.turn-next.ensures.keeps (at ∙ c.enter-turn.ensures.own.1) c.requires.may fit
 
 pub leave_quietly-requires-send-T-State : goal.leave_quietly-requires-send-T-State
 leave_quietly-requires-send-T-State g c κs within =
-    state-send (param 1 g.row.S) (param 2 g.row.K) (param 3 g.row.E) g.S.Source g.K.Sink g.E.Sink _ c.type_bounds.send-S c.type_bounds.send-K c.type_bounds.send-E
+    state-send (param 1 g.row.S) (param 2 g.row.K) (param 3 g.row.E) g.S.Source g.K.Sink g.E.Sink _ c.type_bounds.send-S
+    c.type_bounds.send-K c.type_bounds.send-E
 
 pub leave_quietly-requires-clause-fits : goal.leave_quietly-requires-clause-fits
 leave_quietly-requires-clause-fits g c κs within notes long at fit =
-    turn-fits g.S.Source g.K.Sink g.E.Sink notes _ c.number.result c.deref_mut.result.now _ c.turn-next.new.self c.args.done c.turn-next.result _ _ c.number.ensures
+    turn-fits g.S.Source g.K.Sink g.E.Sink notes _ c.number.result c.deref_mut.result.now _ c.turn-next.new.self c.args.done
+    c.turn-next.result _ _ c.number.ensures
     (ap (λ world. world.value) c.enter-turn.ensures.turn.1 ∙ sym c.deref_mut.ensures.value)
     (c.note-note.ensures ∙ ap (λ world. note_after world (out_of c.turn-next.result)) c.deref.ensures)
     c.turn-next.ensures.keeps (at ∙ c.enter-turn.ensures.own.1) c.requires.may fit

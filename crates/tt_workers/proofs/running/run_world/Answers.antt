@@ -12,7 +12,8 @@ run_boxed-requires-clause-tied g c κs within count =
 
 pub returns : goal.returns
 returns g c = record {
-  ran = ran-back g.S.Source g.K.Sink g.E.Sink c.args.world c.in-Err.failed.value _ c.finish.result c.in-Err.ensures.value_returned (c.requires.tied 0) c.finish.ensures.ran;
+  ran = ran-back g.S.Source g.K.Sink g.E.Sink c.args.world c.in-Err.failed.value _ c.finish.result c.in-Err.ensures.value_returned
+      (c.requires.tied 0) c.finish.ensures.ran;
 }
 
 pub run_boxed-requires-clause-workers : goal.run_boxed-requires-clause-workers
@@ -22,4 +23,5 @@ pub run_boxed-requires-clause-note : goal.run_boxed-requires-clause-note
 run_boxed-requires-clause-note g c κs within = c.note-note.ensures ∙ ap (λ w. note_after w None) (sym c.in-Ok.ensures.ok)
 
 pub returns-in-Ok : goal.returns-in-Ok
-returns-in-Ok g c = record { ran = subst (λ world. IsRan g.S.Source g.K.Sink g.E.Sink world.begun c.run_boxed.result) c.in-Ok.ensures.ok c.run_boxed.ensures.ran }
+returns-in-Ok g c =
+    record { ran = subst (λ world. IsRan g.S.Source g.K.Sink g.E.Sink world.begun c.run_boxed.result) c.in-Ok.ensures.ok c.run_boxed.ensures.ran }

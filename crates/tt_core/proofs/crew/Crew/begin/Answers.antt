@@ -4,8 +4,8 @@ use Rattle.tt_core.proofs.crew.Crew.begin.Goals as goal
 
 pub returns : goal.returns
 returns c =
-    let pushed : c.push.new.self.items ≡ c.args.self.now ++ Some c.resume.new.self ∷ [] = rw (← c.self.view_is) c.in_ok-push.ensures.items in
+    let pushed : c.push.new.self ≡ c.args.self.now ++ Some c.resume.new.self ∷ [] = rw (← c.self.view_is) c.in_ok-push.ensures.pushed in
     record {
-      begins = begins-one c.args.setup.now c.args.start.now c.args.number c.in_ok-interp.interp c.resume.new.self c.args.self.now c.push.new.self.items
+      begins = begins-one c.args.setup.now c.args.start.now c.args.number c.in_ok-interp.interp c.resume.new.self c.args.self.now c.push.new.self
           c.requires.next c.in_ok-interp.ensures.stands c.in_ok-resume.ensures.stands c.in_ok-resume.ensures.halts pushed;
     }

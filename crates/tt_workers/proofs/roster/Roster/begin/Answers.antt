@@ -7,7 +7,7 @@ use Rattle.tt_workers.proofs.roster.Roster.begin.Goals as goal
 
 pub returns : goal.returns
 returns c =
-    let pushed : c.push.new.self.items ≡ c.args.self.now ++ Fresh c.in_ok-interp.interp ∷ [] = rw (← c.self.view_is) c.in_ok-push.ensures.items in
+    let pushed : c.push.new.self ≡ c.args.self.now ++ Fresh c.in_ok-interp.interp ∷ [] = rw (← c.self.view_is) c.in_ok-push.ensures.pushed in
     record {
       begins = record {
         place = Fresh c.in_ok-interp.interp;

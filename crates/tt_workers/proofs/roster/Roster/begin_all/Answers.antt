@@ -7,5 +7,6 @@ pub loop-alloc-preserved : goal.loop-alloc-preserved
 loop-alloc-preserved g c =
     let next : c.len-number.result + 1 ≡ length c.loop-alloc.self + 1 = rw c.len-number.ensures refl in
     let begins = c.in_ok-begin.ensures.begins in
-    one-begun (IsFreshPlace c.args.setup.now) c.args.desk.now.shared.rows c.args.self.now c.loop-alloc.self c.begin.new.self (c.len-number.result + 1) c.start_of.result.now
+    one-begun (IsFreshPlace c.args.setup.now) c.args.desk.now.shared.rows c.args.self.now c.loop-alloc.self c.begin.new.self
+    (c.len-number.result + 1) c.start_of.result.now
     begins.place c.loop-alloc.invariant next c.start_of.ensures.start begins.pushed begins.fresh

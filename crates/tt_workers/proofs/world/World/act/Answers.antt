@@ -33,9 +33,13 @@ returns-in-Err g c =
       steady_errors = c.act.ensures.steady_errors;
     } in
     record {
-      keeps = rw (← c.self.view_is) (keeps-fault g.S.Source g.K.Sink g.E.Sink c.args.pass c.args.number _ c.self.inside.desk c.act.new.self _ _ _ c.in-Some.request.now c.act.result c.in-Err.fault c.end_by.result
+      keeps = rw (← c.self.view_is)
+          (keeps-fault g.S.Source g.K.Sink g.E.Sink c.args.pass c.args.number _ c.self.inside.desk c.act.new.self _ _ _
+          c.in-Some.request.now c.act.result c.in-Err.fault c.end_by.result
           going room at c.in-Err.is known c.end_by.ensures fails);
-      goes = rw (← c.self.view_is) (rounds-fault g.S.Source g.K.Sink g.E.Sink c.args.pass c.args.number _ c.self.inside.desk c.act.new.self _ _ _ c.in-Some.request.now c.act.result c.in-Err.fault c.end_by.result
+      goes = rw (← c.self.view_is)
+          (rounds-fault g.S.Source g.K.Sink g.E.Sink c.args.pass c.args.number _ c.self.inside.desk c.act.new.self _ _ _
+          c.in-Some.request.now c.act.result c.in-Err.fault c.end_by.result
           going room c.in-Err.is known c.end_by.ensures fails);
     }
 
@@ -79,9 +83,11 @@ returns-in-Err-answer g c =
     let at = parked c.self.inside.roster c.args.number c.in-Some.request.now c.in-Some.ensures.asks in
     let did = c.in-Ok.ensures in
     record {
-      keeps = rw (← c.self.view_is) (keeps-out-of-memory g.S.Source g.K.Sink g.E.Sink c.args.pass c.args.number _ _ c.act.new.self _ _ _ _ c.in-Some.request.now c.in-Ok.acted
+      keeps = rw (← c.self.view_is)
+          (keeps-out-of-memory g.S.Source g.K.Sink g.E.Sink c.args.pass c.args.number _ _ c.act.new.self _ _ _ _ c.in-Some.request.now c.in-Ok.acted
           going room at able did.acts did.goes_on
           (record { of_input = did.steady_input (λ is. cc); of_output = did.steady_output (λ is. cc); of_errors = did.steady_errors (λ is. cc) })
           c.run_out.ensures.kept);
-      goes = rw (← c.self.view_is) (rounds-out-of-memory c.args.pass c.args.number _ _ c.act.new.self _ _ _ _ going room did.acts.1.entry c.run_out.ensures.kept);
+      goes = rw (← c.self.view_is)
+          (rounds-out-of-memory c.args.pass c.args.number _ _ c.act.new.self _ _ _ _ going room did.acts.1.entry c.run_out.ensures.kept);
     }

@@ -25,5 +25,7 @@ returns g c =
     let unready = rw (← c.self.view_is) at c.requires.unready in
     record {
       keeps = rw (← c.self.view_is) (keeps-stuck g.S.Source g.K.Sink g.E.Sink c.args.pass _ _ _ _ going kept not_over unready nowhere);
-      goes = rw (← c.self.view_is) (rounds-end c.args.pass _ c.self.inside.desk c.self.inside.desk c.self.inside.roster c.self.inside.roster c.self.inside.end Stuck going kept (whole-part c.self.inside.desk.schedule) within);
+      goes = rw (← c.self.view_is)
+          (rounds-end c.args.pass _ c.self.inside.desk c.self.inside.desk c.self.inside.roster c.self.inside.roster c.self.inside.end Stuck
+          going kept (whole-part c.self.inside.desk.schedule) within);
     }
