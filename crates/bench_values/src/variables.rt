@@ -37,7 +37,7 @@ fn tell(rt: &impl Print, alloc: Global) -> anyhow::Result<()> {
     let name = Text::from_bytes(alloc, b"variable")?;
     let vars = variables(alloc, &name, 10)?;
     for frame in [0, LINKS] {
-        let bytes = read_often(&vars, frame, &name, 100)?;
+        let bytes = read_often(alloc, &vars, frame, &name, 100)?;
         println!(rt; "among 10, through {frame} links: {bytes} bytes read")?;
     }
     Ok(())
@@ -64,10 +64,10 @@ fn variables(alloc: Global, name: &Text, others: i64) -> anyhow::Result<Vars> {
             &mut vars,
             0,
             &whole_text(alloc, number)?,
-            Value::from_whole(alloc, number)?,
+            Value::from_whole(number),
         )?;
     }
-    set(&mut vars, 0, name, Value::from_whole(alloc, 12345)?)?;
+    set(&mut vars, 0, name, Value::from_whole(12345))?;
     for _ in 0..LINKS {
         vars.push_frame()?;
     }
@@ -99,9 +99,9 @@ fn least_time(
     for _ in 0..ROUNDS {
         let start = Instant::now(rt)?;
         if is_written {
-            write_often(alloc, vars, frame, name)?;
+            write_often(vars, frame, name)?;
         } else {
-            read_often(vars, frame, name, TIMES)?;
+            read_often(alloc, vars, frame, name, TIMES)?;
         }
         let time = start.elapsed(rt)?;
         least = least.min(time.as_nanos() * 1000 / u128::from(TIMES));
@@ -109,20 +109,26 @@ fn least_time(
     Ok(least)
 }
 
-fn read_often(vars: &Vars, frame: u64, name: &Text, times: u32) -> anyhow::Result<u64> {
+fn read_often(
+    alloc: Global,
+    vars: &Vars,
+    frame: u64,
+    name: &Text,
+    times: u32,
+) -> anyhow::Result<u64> {
     let mut bytes = 0_u64;
     for _ in 0..times {
         anyhow::ensure!(frame <= vars.depth(), "no such frame");
         if let Ok(value) = vars.read(frame, name, None) {
-            bytes = bytes.wrapping_add(value.text().len() as u64);
+            bytes = bytes.wrapping_add(value.to_text(alloc)?.len() as u64);
         }
     }
     Ok(bytes)
 }
 
-fn write_often(alloc: Global, vars: &mut Vars, frame: u64, name: &Text) -> anyhow::Result<()> {
+fn write_often(vars: &mut Vars, frame: u64, name: &Text) -> anyhow::Result<()> {
     for _ in 0..TIMES {
-        set(vars, frame, name, Value::from_whole(alloc, 12345)?)?;
+        set(vars, frame, name, Value::from_whole(12345))?;
     }
     Ok(())
 }

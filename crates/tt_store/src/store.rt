@@ -136,7 +136,7 @@ impl Store {
         ensures { IfOk result (held.Finds self.now spot.now) }
     {
         match self.nesting.read(spot) {
-            Ok(value) => Ok(Ok(value.text().copy()?)),
+            Ok(value) => Ok(Ok(value.to_text(self.alloc)?)),
             Err(fault) => Ok(Err(fault)),
         }
     }

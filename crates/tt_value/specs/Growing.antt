@@ -1,5 +1,5 @@
 -- What a value is after it grew at its end, and what is answered then (append(n), lappend(n)).
-use Rattle.std.specs.Prelude.{ℕ, List, ◌++◌, codes, Option, Some, None}
+use Rattle.std.specs.Prelude.{ℕ, List, ◌++◌, codes}
 use Rattle.std.specs.List.{flat_map}
 use Rattle.tt_lists.specs.Commands.{insert_answer}
 use Rattle.tt_lists.specs.declared.answer.ListAnswer.{ListAnswer}
@@ -23,8 +23,3 @@ grown growth.List texts value = listed texts value
 abbrev pub value_after : ListAnswer → (value : List ℕ) → List ℕ
 value_after (Made text) value = text
 value_after (Bad message) value = value
-
--- the answer, where this is the value and the message
-abbrev pub answer_of : (value : List ℕ) → (message : Option (List ℕ)) → ListAnswer
-answer_of value None = Made value
-answer_of value (Some message) = Bad message

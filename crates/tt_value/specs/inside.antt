@@ -1,1 +1,3 @@
-pub mod Forms
+pub mod KeptText
+pub mod Listed
+pub mod Spellings

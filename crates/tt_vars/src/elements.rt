@@ -3,18 +3,18 @@ ghost use Rattle.std.specs.Prelude.{OnErr};
 ghost use Rattle.std.specs.Option.{option_map, option_copied};
 ghost use Rattle.std.specs.Map.{lookup, keys_of, values_of};
 ghost use Rattle.indexmap.specs.IndexMap.{insert_entry, set_value_at};
-ghost use Rattle.tt_lists.specs.Reading.{split_of};
 ghost use Rattle.tt_number.specs.Numerals.{whole_of};
 ghost use Rattle.tt_value.specs.Growing.{grown};
+ghost use Rattle.tt_value.specs.Reading.{items_of};
 ghost use Rattle.tt_vars.specs.inside.Found.{after_growing};
 
 use indexmap::IndexMap;
 use std::alloc::Global;
 use std::marker::Model;
-use tt_lists::{ListAnswer, Split};
+use tt_lists::{ListAnswer, ListFault};
 use tt_number::NumberFault;
 use tt_text::{NoMemory, Text, Texts};
-use tt_value::{Growth, Value};
+use tt_value::{Growth, Items, Value};
 
 /// The elements of an array (array(n)), in the order of their first insertion. Contracts see the list of pairs of
 /// an index and a value's text.
@@ -83,19 +83,31 @@ impl Elements {
     }
 
     /// What the value at a place is read as as a whole number.
-    pub(crate) fn whole_at(&mut self, place: usize) -> Option<Result<i64, NumberFault>>
-        ensures answer { result ≡ option_map whole_of (slice_get (values_of self.old) place) }
+    ///
+    /// `NoMemory` where memory for a list's text is refused.
+    pub(crate) fn whole_at(
+        &mut self,
+        place: usize,
+    ) -> Result<Option<Result<i64, NumberFault>>, NoMemory>
+        ensures answer { IfOk result (λ answer. answer ≡ option_map whole_of (slice_get (values_of self.old) place)) }
         ensures same { self.new ≡ self.old }
     {
-        let value = self.map.get_index_mut(place)?;
-        Some(value.whole())
+        let alloc = *self.map.allocator();
+        let Some(value) = self.map.get_index_mut(place) else {
+            return Ok(None);
+        };
+        let answer = value.whole(alloc)?;
+        Ok(Some(answer))
     }
 
     /// What the value at a place is split into as a list.
     ///
     /// `NoMemory` where memory for the items is refused.
-    pub(crate) fn items_at(&mut self, place: usize) -> Result<Option<Split>, NoMemory>
-        ensures answer { IfOk result (λ items. items ≡ option_map split_of (slice_get (values_of self.old) place)) }
+    pub(crate) fn items_at(
+        &mut self,
+        place: usize,
+    ) -> Result<Option<Result<Items, ListFault>>, NoMemory>
+        ensures answer { IfOk result (λ items. items ≡ option_map items_of (slice_get (values_of self.old) place)) }
         ensures same { self.new ≡ self.old }
     {
         let alloc = *self.map.allocator();

@@ -2,13 +2,13 @@ ghost use Rattle.std.specs.Prelude.{◌≡◌, ℕ, List, [], Some, Ok, Err, con
 ghost use Rattle.std.specs.Prelude.{IfErr, OnOk, OnErr};
 ghost use Rattle.std.specs.Map.{keys_of, values_of};
 ghost use Rattle.std.specs.Option.{option_copied, option_map, ok_or};
-ghost use Rattle.tt_lists.specs.Reading.{split_of};
 ghost use Rattle.tt_number.specs.Numerals.{whole_of};
 ghost use Rattle.tt_vars.specs.declared.answers.VarFault.TheVariants.{IsArray};
 ghost use Rattle.tt_vars.specs.declared.variable.Variable.TheVariants.{Link};
 ghost use Rattle.tt_vars.specs.Variables.{Name, named, is_set, leads, elements_of, read, written, with, removed};
 ghost use Rattle.tt_vars.specs.Variables.{result_of, Puts};
 ghost use Rattle.tt_value.specs.Growing.{grown};
+ghost use Rattle.tt_value.specs.Reading.{items_of};
 ghost use Rattle.tt_vars.specs.inside.Found.{after_growing, element_in, put_at, text_at, removed_at, removed_in};
 ghost use Rattle.tt_vars.specs.inside.Ending.{KeepsLinks};
 
@@ -19,10 +19,10 @@ use crate::{VarFault, Written};
 use indexmap::IndexMap;
 use std::alloc::Global;
 use std::marker::Model;
-use tt_lists::{ListAnswer, Split};
+use tt_lists::{ListAnswer, ListFault};
 use tt_number::NumberFault;
 use tt_text::{NoMemory, Text, Texts};
-use tt_value::{Growth, Value};
+use tt_value::{Growth, Items, Value};
 
 /// The variables of a procedure, or the global ones, in order of insertion. Contracts see the list of pairs of a
 /// name and what it is.
@@ -177,19 +177,30 @@ impl Frame {
     }
 
     /// What the value that was found is read as as a whole number; None where it is an array.
-    pub(crate) fn whole_at(&mut self, found: Found) -> Option<Result<i64, NumberFault>>
-        ensures answer { result ≡ option_map whole_of (text_at self.old found) }
+    ///
+    /// `NoMemory` where memory for a list's text is refused.
+    pub(crate) fn whole_at(
+        &mut self,
+        found: Found,
+    ) -> Result<Option<Result<i64, NumberFault>>, NoMemory>
+        ensures answer { IfOk result (λ answer. answer ≡ option_map whole_of (text_at self.old found)) }
         ensures same { self.new ≡ self.old }
     {
-        let variable = self.map.get_index_mut(found.variable)?;
-        whole_in(variable, found.element)
+        let alloc = *self.map.allocator();
+        let Some(variable) = self.map.get_index_mut(found.variable) else {
+            return Ok(None);
+        };
+        whole_in(alloc, variable, found.element)
     }
 
     /// What the value that was found is split into as a list; None where it is an array.
     ///
     /// `NoMemory` where memory for the items is refused.
-    pub(crate) fn items_at(&mut self, found: Found) -> Result<Option<Split>, NoMemory>
-        ensures answer { IfOk result (λ items. items ≡ option_map split_of (text_at self.old found)) }
+    pub(crate) fn items_at(
+        &mut self,
+        found: Found,
+    ) -> Result<Option<Result<Items, ListFault>>, NoMemory>
+        ensures answer { IfOk result (λ items. items ≡ option_map items_of (text_at self.old found)) }
         ensures same { self.new ≡ self.old }
     {
         let alloc = *self.map.allocator();

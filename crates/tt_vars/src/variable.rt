@@ -2,17 +2,17 @@ ghost use Rattle.std.specs.Prelude.{◌≡◌, Some, None, Ok, IfOk, OnErr};
 ghost use Rattle.tt_vars.specs.Variables.{leads, written, Puts};
 ghost use Rattle.tt_vars.specs.inside.Found.{after_growing, put_in, text_in, without_at};
 ghost use Rattle.std.specs.Option.{option_map};
-ghost use Rattle.tt_lists.specs.Reading.{split_of};
 ghost use Rattle.tt_number.specs.Numerals.{whole_of};
 ghost use Rattle.tt_value.specs.Growing.{grown};
+ghost use Rattle.tt_value.specs.Reading.{items_of};
 
 use crate::elements::Elements;
 use crate::{VarFault, Written};
 use std::alloc::Global;
-use tt_lists::{ListAnswer, Split};
+use tt_lists::{ListAnswer, ListFault};
 use tt_number::NumberFault;
 use tt_text::{NoMemory, Text};
-use tt_value::{Growth, Value};
+use tt_value::{Growth, Items, Value};
 
 /// Where a name or a link leads: a variable of a frame, or one of its elements.
 #[derive(Debug, Drop)]
@@ -92,17 +92,23 @@ pub(crate) fn remove_from(variable: &mut Variable, element: usize)
 }
 
 /// What a scalar, or an element, is read as as a whole number; None where there is no such value.
+///
+/// `NoMemory` where memory for a list's text is refused.
 pub(crate) fn whole_in(
+    alloc: Global,
     variable: &mut Variable,
     element: Option<usize>,
-) -> Option<Result<i64, NumberFault>>
-    ensures answer { result ≡ option_map whole_of (text_in (Some variable.old) element) }
+) -> Result<Option<Result<i64, NumberFault>>, NoMemory>
+    ensures answer { IfOk result (λ answer. answer ≡ option_map whole_of (text_in (Some variable.old) element)) }
     ensures same { variable.new ≡ variable.old }
 {
     match (variable, element) {
-        (Variable::Scalar(value), None) => Some(value.whole()),
+        (Variable::Scalar(value), None) => {
+            let answer = value.whole(alloc)?;
+            Ok(Some(answer))
+        }
         (Variable::Array(elements), Some(element)) => elements.whole_at(element),
-        _ => None,
+        _ => Ok(None),
     }
 }
 
@@ -113,8 +119,8 @@ pub(crate) fn items_in(
     alloc: Global,
     variable: &mut Variable,
     element: Option<usize>,
-) -> Result<Option<Split>, NoMemory>
-    ensures answer { IfOk result (λ items. items ≡ option_map split_of (text_in (Some variable.old) element)) }
+) -> Result<Option<Result<Items, ListFault>>, NoMemory>
+    ensures answer { IfOk result (λ items. items ≡ option_map items_of (text_in (Some variable.old) element)) }
     ensures same { variable.new ≡ variable.old }
 {
     match (variable, element) {

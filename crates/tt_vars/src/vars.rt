@@ -1,8 +1,8 @@
 ghost use Rattle.std.specs.Prelude.{◌≡◌, ◌+◌, ◌-◌, ◌<◌, ◌≤◌, ◌++◌, ◌∷◌, [], None, Some, take, length, IfOk, IfSome};
 ghost use Rattle.std.specs.Prelude.{OnOk, OnErr};
 ghost use Rattle.std.specs.Option.{option_copied, option_map};
-ghost use Rattle.tt_lists.specs.Reading.{split_of};
 ghost use Rattle.tt_number.specs.Numerals.{whole_of};
+ghost use Rattle.tt_value.specs.Reading.{items_of};
 ghost use Rattle.tt_vars.specs.declared.variable.Variable.TheVariants.{Link};
 ghost use Rattle.tt_vars.specs.Variables.{with, Puts};
 ghost use Rattle.tt_vars.specs.Links.{AreSame, Grows, HasNames, HasSize, Links, Reads, ReadsAs, Removes, Writes};
@@ -16,10 +16,10 @@ use crate::variable::{Found, Place};
 use crate::{Linked, VarFault, Written};
 use std::alloc::Global;
 use std::marker::Model;
-use tt_lists::{ListAnswer, Split};
+use tt_lists::{ListAnswer, ListFault};
 use tt_number::NumberFault;
 use tt_text::{NoMemory, Text, Texts};
-use tt_value::{Growth, Value};
+use tt_value::{Growth, Items, Value};
 
 /// Variables: the frame of the global ones, 0, and one for each procedure that is called (upvar(n), uplevel(n)).
 /// Contracts see the list of frames, from the global one; a frame is the list of its names in order of insertion,
@@ -126,22 +126,29 @@ impl Vars {
     }
 
     /// What the value of a name is read as as a whole number (expr(n)), with the faults of `read`. No text changes.
+    ///
+    /// `NoMemory` where memory for a list's text is refused.
     pub fn whole(
         &mut self,
         frame: u64,
         name: &Text,
         index: Option<&Text>,
-    ) -> Result<Result<i64, NumberFault>, VarFault>
+    ) -> Result<Result<Result<i64, NumberFault>, VarFault>, NoMemory>
         requires { frame < length self.old }
-        ensures answer { ReadsAs whole_of self.old (place_of frame name.now (option_copied index.entry)) result }
+        ensures answer { IfOk result (λ answer.
+            ReadsAs whole_of self.old (place_of frame name.now (option_copied index.entry)) answer) }
         ensures same { self.new ≡ self.old }
     {
-        let (number, found) = self.find(frame, name, index)?;
-        let number = self.frames[number].whole_at(found);
-        number.ok_or(VarFault::IsArray)
+        let (number, found) = match self.find(frame, name, index) {
+            Ok(found) => found,
+            Err(fault) => return Ok(Err(fault)),
+        };
+        let number = self.frames[number].whole_at(found)?;
+        Ok(number.ok_or(VarFault::IsArray))
     }
 
-    /// What the value of a name is split into as a list (Tcl(n)), with the faults of `read`. No text changes.
+    /// What the value of a name is split into as a list (Tcl(n)), with the faults of `read`. The value keeps the items,
+    /// so that the next reading takes constant time. No text changes.
     ///
     /// `NoMemory` where memory for the items is refused.
     pub fn items(
@@ -149,10 +156,10 @@ impl Vars {
         frame: u64,
         name: &Text,
         index: Option<&Text>,
-    ) -> Result<Result<Split, VarFault>, NoMemory>
+    ) -> Result<Result<Result<Items, ListFault>, VarFault>, NoMemory>
         requires { frame < length self.old }
         ensures answer { IfOk result (λ answer.
-            ReadsAs split_of self.old (place_of frame name.now (option_copied index.entry)) answer) }
+            ReadsAs items_of self.old (place_of frame name.now (option_copied index.entry)) answer) }
         ensures same { self.new ≡ self.old }
     {
         let (number, found) = match self.find(frame, name, index) {

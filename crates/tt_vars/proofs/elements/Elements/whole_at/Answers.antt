@@ -4,3 +4,6 @@ use Rattle.tt_vars.proofs.elements.Elements.whole_at.Goals as goal
 
 pub returns-clause-same : goal.returns-clause-same
 returns-clause-same c = search (set_value_at-same, rules)
+
+pub returns-in_err-answer-clause-same : goal.returns-in_err-answer-clause-same
+returns-in_err-answer-clause-same c = search (set_value_at-same, rules)
