@@ -2,6 +2,7 @@
 use Rattle.std.proofs.Common.{◌≡◌, ◌∙◌, ℕ, codes, drop, List, [], ◌∷◌, Option, Some, None, Result, Ok, Err, ap, sym}
 use Rattle.tt_calls.specs.Outcomes.{failed, fine}
 use Rattle.tt_calls.specs.Usages.{wrong_number}
+use Rattle.tt_dictionaries.specs.Commands as dictionaries
 use Rattle.tt_variable_commands.specs.ArrayCommands as arrays
 use Rattle.tt_variable_commands.specs.LevelCommands as levels
 use Rattle.tt_procedures.specs.Parameters.{parameters_of}
@@ -28,6 +29,7 @@ use Rattle.tt_interp.specs.declared.kept.Kept.{Kept}
 use Rattle.laws_language.specs.OneAnswer.{AnswersOnceLaw, BeginsOnceLaw, RunsOnceLaw}
 use Rattle.laws_language.proofs.Once.{Once, once-after, once-told}
 use Rattle.laws_language.proofs.Arrays as array_commands
+use Rattle.laws_language.proofs.Dictionaries as dictionary_commands
 use Rattle.laws_language.proofs.Held.{are_set-once, calls-once, is_read-once, is_written-once}
 use Rattle.laws_language.proofs.Levels as level_commands
 use Rattle.laws_language.proofs.VariableCommands as variable_commands
@@ -46,8 +48,11 @@ either-once one other words old first later =
 
 on_variables-once : (words : List (List ℕ)) (old : Held) → Once (OnVariables words old)
 on_variables-once words old =
-    either-once variables.Runs (Either levels.Runs arrays.Runs) words old (variable_commands.runs-once words old)
-    (λ held. either-once levels.Runs arrays.Runs words held (level_commands.runs-once words held) (array_commands.runs-once words))
+    either-once variables.Runs (Either levels.Runs (Either arrays.Runs dictionaries.Runs)) words old
+    (variable_commands.runs-once words old) (λ held.
+    either-once levels.Runs (Either arrays.Runs dictionaries.Runs) words held (level_commands.runs-once words held) (λ held.
+    either-once arrays.Runs dictionaries.Runs words held (array_commands.runs-once words held)
+    (dictionary_commands.runs-once words)))
 
 -- ---- procedures ----
 

@@ -1,6 +1,7 @@
 pub mod Arrays
 pub mod Asked
 pub mod Commands
+pub mod Dictionaries
 pub mod Formats
 pub mod Held
 pub mod Levels

@@ -55,7 +55,7 @@ made-once : (word : List ℕ) (answer : ListAnswer) (old : Held) → Once (Gives
 made-once word (Made text) old = gives-once word text old
 made-once word (Bad message) old = fails_with-once message old
 
-changes-once : (word missing : List ℕ) (change : List ℕ → ListAnswer) (old : Held) → Once (Changes word missing change old)
+pub changes-once : (word missing : List ℕ) (change : List ℕ → ListAnswer) (old : Held) → Once (Changes word missing change old)
 changes-once word missing change old =
     once-then (Counts word missing old) (λ (found : Result (List ℕ) VarFault). GivesMade word (made_of word change found) old)
     (counts-once word missing old) (λ found. made-once word (made_of word change found) old)
