@@ -14,7 +14,7 @@ use row::Row;
 use rows_reader::tell_table;
 use std::fs;
 
-const TABLES: [&str; 20] = [
+const TABLES: [&str; 21] = [
     "words.rows",
     "expressions.rows",
     "control.rows",
@@ -35,6 +35,7 @@ const TABLES: [&str; 20] = [
     "formats.rows",
     "values.rows",
     "frames.rows",
+    "dict.rows",
 ];
 
 fn main(rt: HostRuntime) -> anyhow::Result<()> {
