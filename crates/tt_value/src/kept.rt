@@ -40,7 +40,7 @@ pub(crate) fn text_of(alloc: Global, kept: &Kept) -> Result<Text, NoMemory>
     }
 }
 
-/// The same, kept from then on if there is memory for that and no other value shares the list.
+/// The same, kept from then on if there is memory for that.
 pub(crate) fn kept_text(alloc: Global, kept: &mut Kept) -> Result<Text, NoMemory>
     ensures text { IfOk result (λ text. text ≡ text_of kept.old) }
     ensures same { text_of kept.new ≡ text_of kept.old }
@@ -55,10 +55,31 @@ fn list_text(alloc: Global, list: &mut Arc<Listing>) -> Result<Text, NoMemory>
     ensures text { IfOk result (λ text. text ≡ (arc_value list.old).text) }
     ensures same { arc_value list.new ≡ arc_value list.old }
 {
-    match Arc::get_mut(list) {
-        Some(list) => list.kept_text(alloc),
-        None => list.text(alloc),
+    if let Some(list) = Arc::get_mut(list) {
+        return list.kept_text(alloc);
     }
+    write_own(alloc, list);
+    list.text(alloc)
+}
+
+// A list that is shared takes its text in a copy of its own, if it has none and there is memory for that.
+fn write_own(alloc: Global, list: &mut Arc<Listing>)
+    ensures same { arc_value list.new ≡ arc_value list.old }
+{
+    if list.is_written() {
+        return;
+    }
+    if let Ok(own) = written(alloc, list) {
+        *list = own;
+    }
+}
+
+fn written(alloc: Global, list: &Listing) -> Result<Arc<Listing>, NoMemory>
+    ensures { IfOk result (λ own. arc_value own ≡ list.now) }
+{
+    let mut own = list.copy()?;
+    own.kept_text(alloc)?;
+    Ok(Arc::new(alloc, own)?)
 }
 
 /// The number that is read, which takes the text's place if that is its decimal one.

@@ -87,6 +87,11 @@ impl Listing {
         }
     }
 
+    /// Whether the text is there. No contract knows it.
+    pub(crate) fn is_written(&self) -> bool {
+        !matches!(self.spelling, Spelling::Unmade)
+    }
+
     /// The text, which is kept from then on if there is memory for it.
     pub(crate) fn kept_text(&mut self, alloc: Global) -> Result<Text, NoMemory>
         ensures text { IfOk result (λ text. text ≡ self.old.text) }

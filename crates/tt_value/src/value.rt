@@ -35,6 +35,9 @@ pub struct Value {
     kept: Kept,
 }
 
+// A value takes no more room than a text and a word.
+const _: () = prove!(size_of::<Value>() == 24);
+
 impl Model for Value {
     ghost use Rattle.std.specs.Prelude.{ℕ, List};
 
@@ -96,7 +99,7 @@ impl Value {
         kept::text_of(alloc, &self.kept)
     }
 
-    /// The text. That of a list is kept from then on, if no copy shares the list.
+    /// The text. That of a list is kept from then on; a list that copies share is copied for that.
     ///
     /// `NoMemory` if memory is refused.
     pub fn text(&mut self, alloc: Global) -> Result<Text, NoMemory>

@@ -3,18 +3,16 @@ ghost use Rattle.std.specs.Prelude.{OnErr};
 ghost use Rattle.std.specs.Option.{option_map, option_copied};
 ghost use Rattle.std.specs.Map.{lookup, keys_of, values_of};
 ghost use Rattle.indexmap.specs.IndexMap.{insert_entry, set_value_at};
-ghost use Rattle.tt_number.specs.Numerals.{whole_of};
 ghost use Rattle.tt_value.specs.Growing.{grown};
-ghost use Rattle.tt_value.specs.Reading.{items_of};
 ghost use Rattle.tt_vars.specs.inside.Found.{after_growing};
 
+use crate::reading::Reading;
 use indexmap::IndexMap;
 use std::alloc::Global;
 use std::marker::Model;
-use tt_lists::{ListAnswer, ListFault};
-use tt_number::NumberFault;
+use tt_lists::ListAnswer;
 use tt_text::{NoMemory, Text, Texts};
-use tt_value::{Growth, Items, Value};
+use tt_value::{Growth, Value};
 
 /// The elements of an array (array(n)), in the order of their first insertion. Contracts see the list of pairs of
 /// an index and a value's text.
@@ -82,40 +80,24 @@ impl Elements {
         self.map.len()
     }
 
-    /// What the value at a place is read as as a whole number.
+    /// What the value at a place is read as.
     ///
-    /// `NoMemory` where memory for a list's text is refused.
-    pub(crate) fn whole_at(
+    /// `NoMemory` where memory is refused.
+    pub(crate) fn read_at<R: Reading>(
         &mut self,
         place: usize,
-    ) -> Result<Option<Result<i64, NumberFault>>, NoMemory>
-        ensures answer { IfOk result (λ answer. answer ≡ option_map whole_of (slice_get (values_of self.old) place)) }
+        reading: &R,
+    ) -> Result<Option<R::Answer>, NoMemory>
+        ensures answer { IfOk result (λ answer.
+            answer ≡ option_map (R.meaning reading.now) (slice_get (values_of self.old) place)) }
         ensures same { self.new ≡ self.old }
     {
         let alloc = *self.map.allocator();
         let Some(value) = self.map.get_index_mut(place) else {
             return Ok(None);
         };
-        let answer = value.whole(alloc)?;
+        let answer = reading.read(alloc, value)?;
         Ok(Some(answer))
-    }
-
-    /// What the value at a place is split into as a list.
-    ///
-    /// `NoMemory` where memory for the items is refused.
-    pub(crate) fn items_at(
-        &mut self,
-        place: usize,
-    ) -> Result<Option<Result<Items, ListFault>>, NoMemory>
-        ensures answer { IfOk result (λ items. items ≡ option_map items_of (slice_get (values_of self.old) place)) }
-        ensures same { self.new ≡ self.old }
-    {
-        let alloc = *self.map.allocator();
-        let Some(value) = self.map.get_index_mut(place) else {
-            return Ok(None);
-        };
-        let items = value.items(alloc)?;
-        Ok(Some(items))
     }
 
     /// Puts texts at the end of the value at a place.

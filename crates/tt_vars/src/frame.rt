@@ -2,27 +2,25 @@ ghost use Rattle.std.specs.Prelude.{◌≡◌, ℕ, List, [], Some, Ok, Err, con
 ghost use Rattle.std.specs.Prelude.{IfErr, OnOk, OnErr};
 ghost use Rattle.std.specs.Map.{keys_of, values_of};
 ghost use Rattle.std.specs.Option.{option_copied, option_map, ok_or};
-ghost use Rattle.tt_number.specs.Numerals.{whole_of};
 ghost use Rattle.tt_vars.specs.declared.answers.VarFault.TheVariants.{IsArray};
 ghost use Rattle.tt_vars.specs.declared.variable.Variable.TheVariants.{Link};
 ghost use Rattle.tt_vars.specs.Variables.{Name, named, is_set, leads, elements_of, read, written, with, removed};
 ghost use Rattle.tt_vars.specs.Variables.{result_of, Puts};
 ghost use Rattle.tt_value.specs.Growing.{grown};
-ghost use Rattle.tt_value.specs.Reading.{items_of};
 ghost use Rattle.tt_vars.specs.inside.Found.{after_growing, element_in, put_at, text_at, removed_at, removed_in};
 ghost use Rattle.tt_vars.specs.inside.Ending.{KeepsLinks};
 
+use crate::reading::Reading;
 use crate::variable::{
-    Found, Place, Variable, first_written, grow_in, items_in, remove_from, whole_in, write_to,
+    Found, Place, Variable, first_written, grow_in, read_in, remove_from, write_to,
 };
 use crate::{VarFault, Written};
 use indexmap::IndexMap;
 use std::alloc::Global;
 use std::marker::Model;
-use tt_lists::{ListAnswer, ListFault};
-use tt_number::NumberFault;
+use tt_lists::ListAnswer;
 use tt_text::{NoMemory, Text, Texts};
-use tt_value::{Growth, Items, Value};
+use tt_value::{Growth, Value};
 
 /// The variables of a procedure, or the global ones, in order of insertion. Contracts see the list of pairs of a
 /// name and what it is.
@@ -176,38 +174,22 @@ impl Frame {
         }
     }
 
-    /// What the value that was found is read as as a whole number; None where it is an array.
+    /// What the value that was found is read as; None where it is an array.
     ///
-    /// `NoMemory` where memory for a list's text is refused.
-    pub(crate) fn whole_at(
+    /// `NoMemory` where memory is refused.
+    pub(crate) fn read_at<R: Reading>(
         &mut self,
         found: Found,
-    ) -> Result<Option<Result<i64, NumberFault>>, NoMemory>
-        ensures answer { IfOk result (λ answer. answer ≡ option_map whole_of (text_at self.old found)) }
+        reading: &R,
+    ) -> Result<Option<R::Answer>, NoMemory>
+        ensures answer { IfOk result (λ answer. answer ≡ option_map (R.meaning reading.now) (text_at self.old found)) }
         ensures same { self.new ≡ self.old }
     {
         let alloc = *self.map.allocator();
         let Some(variable) = self.map.get_index_mut(found.variable) else {
             return Ok(None);
         };
-        whole_in(alloc, variable, found.element)
-    }
-
-    /// What the value that was found is split into as a list; None where it is an array.
-    ///
-    /// `NoMemory` where memory for the items is refused.
-    pub(crate) fn items_at(
-        &mut self,
-        found: Found,
-    ) -> Result<Option<Result<Items, ListFault>>, NoMemory>
-        ensures answer { IfOk result (λ items. items ≡ option_map items_of (text_at self.old found)) }
-        ensures same { self.new ≡ self.old }
-    {
-        let alloc = *self.map.allocator();
-        let Some(variable) = self.map.get_index_mut(found.variable) else {
-            return Ok(None);
-        };
-        items_in(alloc, variable, found.element)
+        read_in(alloc, variable, found.element, reading)
     }
 
     /// Puts texts at the end of the value that was found; None where it is an array.

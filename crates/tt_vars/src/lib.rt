@@ -6,6 +6,8 @@ mod elements;
 mod frame;
 pub mod laws;
 mod links;
+mod reading;
+mod readings;
 mod variable;
 mod vars;
 

@@ -2,17 +2,15 @@ ghost use Rattle.std.specs.Prelude.{◌≡◌, Some, None, Ok, IfOk, OnErr};
 ghost use Rattle.tt_vars.specs.Variables.{leads, written, Puts};
 ghost use Rattle.tt_vars.specs.inside.Found.{after_growing, put_in, text_in, without_at};
 ghost use Rattle.std.specs.Option.{option_map};
-ghost use Rattle.tt_number.specs.Numerals.{whole_of};
 ghost use Rattle.tt_value.specs.Growing.{grown};
-ghost use Rattle.tt_value.specs.Reading.{items_of};
 
 use crate::elements::Elements;
+use crate::reading::Reading;
 use crate::{VarFault, Written};
 use std::alloc::Global;
-use tt_lists::{ListAnswer, ListFault};
-use tt_number::NumberFault;
+use tt_lists::ListAnswer;
 use tt_text::{NoMemory, Text};
-use tt_value::{Growth, Items, Value};
+use tt_value::{Growth, Value};
 
 /// Where a name or a link leads: a variable of a frame, or one of its elements.
 #[derive(Debug, Drop)]
@@ -91,44 +89,25 @@ pub(crate) fn remove_from(variable: &mut Variable, element: usize)
     }
 }
 
-/// What a scalar, or an element, is read as as a whole number; None where there is no such value.
+/// What a scalar, or an element, is read as; None where there is no such value.
 ///
-/// `NoMemory` where memory for a list's text is refused.
-pub(crate) fn whole_in(
+/// `NoMemory` where memory is refused.
+pub(crate) fn read_in<R: Reading>(
     alloc: Global,
     variable: &mut Variable,
     element: Option<usize>,
-) -> Result<Option<Result<i64, NumberFault>>, NoMemory>
-    ensures answer { IfOk result (λ answer. answer ≡ option_map whole_of (text_in (Some variable.old) element)) }
+    reading: &R,
+) -> Result<Option<R::Answer>, NoMemory>
+    ensures answer { IfOk result (λ answer.
+        answer ≡ option_map (R.meaning reading.now) (text_in (Some variable.old) element)) }
     ensures same { variable.new ≡ variable.old }
 {
     match (variable, element) {
         (Variable::Scalar(value), None) => {
-            let answer = value.whole(alloc)?;
+            let answer = reading.read(alloc, value)?;
             Ok(Some(answer))
         }
-        (Variable::Array(elements), Some(element)) => elements.whole_at(element),
-        _ => Ok(None),
-    }
-}
-
-/// What a scalar, or an element, is split into as a list; None where there is no such value.
-///
-/// `NoMemory` where memory for the items is refused.
-pub(crate) fn items_in(
-    alloc: Global,
-    variable: &mut Variable,
-    element: Option<usize>,
-) -> Result<Option<Result<Items, ListFault>>, NoMemory>
-    ensures answer { IfOk result (λ items. items ≡ option_map items_of (text_in (Some variable.old) element)) }
-    ensures same { variable.new ≡ variable.old }
-{
-    match (variable, element) {
-        (Variable::Scalar(value), None) => {
-            let items = value.items(alloc)?;
-            Ok(Some(items))
-        }
-        (Variable::Array(elements), Some(element)) => elements.items_at(element),
+        (Variable::Array(elements), Some(element)) => elements.read_at(element, reading),
         _ => Ok(None),
     }
 }

@@ -1,8 +1,6 @@
 ghost use Rattle.std.specs.Prelude.{◌≡◌, ◌+◌, ◌-◌, ◌<◌, ◌≤◌, ◌++◌, ◌∷◌, [], None, Some, take, length, IfOk, IfSome};
 ghost use Rattle.std.specs.Prelude.{OnOk, OnErr};
 ghost use Rattle.std.specs.Option.{option_copied, option_map};
-ghost use Rattle.tt_number.specs.Numerals.{whole_of};
-ghost use Rattle.tt_value.specs.Reading.{items_of};
 ghost use Rattle.tt_vars.specs.declared.variable.Variable.TheVariants.{Link};
 ghost use Rattle.tt_vars.specs.Variables.{with, Puts};
 ghost use Rattle.tt_vars.specs.Links.{AreSame, Grows, HasNames, HasSize, Links, Reads, ReadsAs, Removes, Writes};
@@ -12,14 +10,14 @@ ghost use Rattle.tt_vars.specs.inside.Found.{FindsAt, IsFound, place_at};
 
 use crate::frame::Frame;
 use crate::links::{Spot, follow, frame_in, is_of, is_same, is_variable, missing, owned};
+use crate::reading::Reading;
 use crate::variable::{Found, Place};
 use crate::{Linked, VarFault, Written};
 use std::alloc::Global;
 use std::marker::Model;
-use tt_lists::{ListAnswer, ListFault};
-use tt_number::NumberFault;
+use tt_lists::ListAnswer;
 use tt_text::{NoMemory, Text, Texts};
-use tt_value::{Growth, Items, Value};
+use tt_value::{Growth, Value};
 
 /// Variables: the frame of the global ones, 0, and one for each procedure that is called (upvar(n), uplevel(n)).
 /// Contracts see the list of frames, from the global one; a frame is the list of its names in order of insertion,
@@ -123,51 +121,6 @@ impl Vars {
         let (number, found) = self.find(frame, name, index)?;
         self.frames[number].remove_at(found);
         Ok(())
-    }
-
-    /// What the value of a name is read as as a whole number (expr(n)), with the faults of `read`. No text changes.
-    ///
-    /// `NoMemory` where memory for a list's text is refused.
-    pub fn whole(
-        &mut self,
-        frame: u64,
-        name: &Text,
-        index: Option<&Text>,
-    ) -> Result<Result<Result<i64, NumberFault>, VarFault>, NoMemory>
-        requires { frame < length self.old }
-        ensures answer { IfOk result (λ answer.
-            ReadsAs whole_of self.old (place_of frame name.now (option_copied index.entry)) answer) }
-        ensures same { self.new ≡ self.old }
-    {
-        let (number, found) = match self.find(frame, name, index) {
-            Ok(found) => found,
-            Err(fault) => return Ok(Err(fault)),
-        };
-        let number = self.frames[number].whole_at(found)?;
-        Ok(number.ok_or(VarFault::IsArray))
-    }
-
-    /// What the value of a name is split into as a list (Tcl(n)), with the faults of `read`. The value keeps the items,
-    /// so that the next reading takes constant time. No text changes.
-    ///
-    /// `NoMemory` where memory for the items is refused.
-    pub fn items(
-        &mut self,
-        frame: u64,
-        name: &Text,
-        index: Option<&Text>,
-    ) -> Result<Result<Result<Items, ListFault>, VarFault>, NoMemory>
-        requires { frame < length self.old }
-        ensures answer { IfOk result (λ answer.
-            ReadsAs items_of self.old (place_of frame name.now (option_copied index.entry)) answer) }
-        ensures same { self.new ≡ self.old }
-    {
-        let (number, found) = match self.find(frame, name, index) {
-            Ok(found) => found,
-            Err(fault) => return Ok(Err(fault)),
-        };
-        let items = self.frames[number].items_at(found)?;
-        Ok(items.ok_or(VarFault::IsArray))
     }
 
     /// Puts texts at the end of the value of a name, as bytes (append(n)) or as items (lappend(n)), with the answers of
@@ -312,6 +265,29 @@ impl Vars {
             index: other_index,
         };
         is_same(stands, follow(frames, other))
+    }
+
+    /// What the value of a name is read as, with the faults of `read`. No text changes.
+    ///
+    /// `NoMemory` where memory is refused.
+    pub(crate) fn read_as<R: Reading>(
+        &mut self,
+        frame: u64,
+        name: &Text,
+        index: Option<&Text>,
+        reading: &R,
+    ) -> Result<Result<R::Answer, VarFault>, NoMemory>
+        requires { frame < length self.old }
+        ensures answer { IfOk result (λ answer.
+            ReadsAs (R.meaning reading.now) self.old (place_of frame name.now (option_copied index.entry)) answer) }
+        ensures same { self.new ≡ self.old }
+    {
+        let (number, found) = match self.find(frame, name, index) {
+            Ok(found) => found,
+            Err(fault) => return Ok(Err(fault)),
+        };
+        let answer = self.frames[number].read_at(found, reading)?;
+        Ok(answer.ok_or(VarFault::IsArray))
     }
 
     // The frame of what a name stands for, and which of its variables and elements that is.
