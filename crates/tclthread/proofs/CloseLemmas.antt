@@ -32,7 +32,8 @@ module _ {F : Type 0} (files : OfFiles F) where
   under-after name end schedule old mid new status same steady (recording.no_memory is unwritten) =
       recording.no_memory is (record { same = unwritten.same ∙ same; steady = unwritten.steady ∙ steady })
   under-after name end schedule old mid new status same steady (recording.written some is has) =
-      recording.written some is (record { text = has.text; is_text = has.is_text; found = has.found; steady = has.steady ∙ steady; others = rw (← same) has.others })
+      recording.written some is
+      (record { text = has.text; is_text = has.is_text; found = has.found; steady = has.steady ∙ steady; others = rw (← same) has.others })
   under-after name end schedule old mid new status same steady (recording.failed some is fails) =
       recording.failed some is (record { rises = rw (← steady) fails.rises; others = rw (← same) fails.others })
 
@@ -63,7 +64,8 @@ wrong-usage (refusal.NoFile name) words is same = absurd is
 wrong-usage (refusal.BadText offset) words is same = absurd is
 wrong-usage refusal.ReadFault words is same = absurd is
 
-unread-status : (why : Refusal) (words : List (List ℕ)) (status : Status) → IsWordRefusal why words → status ≡ refused_status why → (status ≡ Usage) ⊎ (status ≡ NoMemory)
+unread-status : (why : Refusal) (words : List (List ℕ)) (status : Status) → IsWordRefusal why words → status ≡ refused_status why
+    → (status ≡ Usage) ⊎ (status ≡ NoMemory)
 unread-status refusal.Usage words status is same = inl same
 unread-status refusal.NoMemory words status is same = inr same
 unread-status (refusal.NoFile name) words status is same = absurd is
@@ -78,17 +80,21 @@ module _ {F S K E : Type 0} (files : OfFiles F) (source : OfSource S) (output : 
   refused-usage asked (refusal.BadText offset) old new is same = cc
   refused-usage asked refusal.ReadFault old new is same = cc
 
-  recorded-usage : (file : Option (List ℕ)) (end : End) (schedule : List ℕ) (old new : F) (status : Status) → Records files file end schedule old new status → status ≡ Usage → ⊥
+  recorded-usage : (file : Option (List ℕ)) (end : End) (schedule : List ℕ) (old new : F) (status : Status)
+      → Records files file end schedule old new status → status ≡ Usage → ⊥
   recorded-usage None end schedule old new status is usage = no-usage end (sym is.0 ∙ usage)
   recorded-usage (Some name) end schedule old new status (recording.no_memory is unwritten) usage = cc (sym is ∙ usage)
   recorded-usage (Some name) end schedule old new status (recording.written some is has) usage = no-usage end (sym is ∙ usage)
   recorded-usage (Some name) end schedule old new status (recording.failed some is fails) usage = cc (sym is ∙ usage)
 
-  answered-usage : (asked : Asked) (old new : F) (began : Began S K E) (ended : Ended S K E) → AnswersTo files source output errors asked old new began ended → ended.status ≡ Usage → ⊥
+  answered-usage : (asked : Asked) (old new : F) (began : Began S K E) (ended : Ended S K E)
+      → AnswersTo files source output errors asked old new began ended → ended.status ≡ Usage → ⊥
   answered-usage asked old new began ended (answer.refused why is untouched) usage = refused-usage asked why old new is (sym untouched.status ∙ usage)
-  answered-usage asked old new began ended (answer.ran is) usage = recorded-usage (record_of asked) is.finish.end is.finish.schedule.threads old new ended.status is.records usage
+  answered-usage asked old new began ended (answer.ran is) usage =
+      recorded-usage (record_of asked) is.finish.end is.finish.schedule.threads old new ended.status is.records usage
 
-  pub usage-answer : (words : List (List ℕ)) (old new : F) (began : Began S K E) (ended : Ended S K E) → IsAnswered files source output errors words old new began ended → IsUsage ended.status words
+  pub usage-answer : (words : List (List ℕ)) (old new : F) (began : Began S K E) (ended : Ended S K E)
+      → IsAnswered files source output errors words old new began ended → IsUsage ended.status words
   usage-answer words old new began ended (answer.unread why is untouched) = record {
     wrong = λ usage. wrong-usage why words is (sym untouched.status ∙ usage);
     only = λ none. unread-status why words ended.status is untouched.status;
@@ -136,14 +142,15 @@ pub few-generated : (words : List (List ℕ)) (named : Generate) → WordsAskFor
 few-generated words named is = few _ named.steps is.asks.steps
 
 -- no plain run is asked for if the words were refused
-pub no-plain : (why : Refusal) (words : List (List ℕ)) (status : Status) → IsWordRefusal why words → status ≡ refused_status why → status ≢ NoMemory → (named : Plain) → ¬ (WordsAskFor words (plain named))
+pub no-plain : (why : Refusal) (words : List (List ℕ)) (status : Status) → IsWordRefusal why words → status ≡ refused_status why
+    → status ≢ NoMemory → (named : Plain) → ¬ (WordsAskFor words (plain named))
 no-plain refusal.Usage words status is same some named = is (plain named)
 no-plain refusal.NoMemory words status is same some named = absurd (some same)
 no-plain (refusal.NoFile name) words status is same some named = absurd is
 no-plain (refusal.BadText offset) words status is same some named = absurd is
 no-plain refusal.ReadFault words status is same some named = absurd is
 
--- what a map tells is there
+-- what a map has is there
 pub has-name : (told : Option Names) (name bytes : List ℕ) → Tells told name (Some bytes) → HasName told name
 has-name None name bytes is = tt
 has-name (Some map) name bytes is = rw is refl

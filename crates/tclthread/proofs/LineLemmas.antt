@@ -26,21 +26,28 @@ part-after old mid new piece more grows p = record {
 }
 
 -- four pieces, as a line has them
-pub all-four : (a b c d e : Option (List ℕ)) (name words more last : List ℕ) → Grows a b name → Grows b c words → Grows c d more → Grows d e last → Grows a e (name ++ ((words ++ more) ++ last))
+pub all-four : (a b c d e : Option (List ℕ)) (name words more last : List ℕ) → Grows a b name → Grows b c words → Grows c d more
+    → Grows d e last → Grows a e (name ++ ((words ++ more) ++ last))
 all-four a b c d e name words more last p q r s =
     Grows-append a b e name ((words ++ more) ++ last) p (Grows-append b d e (words ++ more) last (Grows-append b c d words more q r) s)
 
 pub first-fails : (a b : Option (List ℕ)) (name words more last : List ℕ) → GrowsByPart a b name → GrowsByPart a b (name ++ ((words ++ more) ++ last))
 first-fails a b name words more last p = part-front a b name ((words ++ more) ++ last) p
 
-pub second-fails : (a b c : Option (List ℕ)) (name words more last : List ℕ) → Grows a b name → GrowsByPart b c words → GrowsByPart a c (name ++ ((words ++ more) ++ last))
-second-fails a b c name words more last p q = part-after a b c name ((words ++ more) ++ last) p (part-front b c (words ++ more) last (part-front b c words more q))
+pub second-fails : (a b c : Option (List ℕ)) (name words more last : List ℕ) → Grows a b name → GrowsByPart b c words
+    → GrowsByPart a c (name ++ ((words ++ more) ++ last))
+second-fails a b c name words more last p q =
+    part-after a b c name ((words ++ more) ++ last) p (part-front b c (words ++ more) last (part-front b c words more q))
 
-pub third-fails : (a b c d : Option (List ℕ)) (name words more last : List ℕ) → Grows a b name → Grows b c words → GrowsByPart c d more → GrowsByPart a d (name ++ ((words ++ more) ++ last))
-third-fails a b c d name words more last p q r = part-after a b d name ((words ++ more) ++ last) p (part-front b d (words ++ more) last (part-after b c d words more q r))
+pub third-fails : (a b c d : Option (List ℕ)) (name words more last : List ℕ) → Grows a b name → Grows b c words → GrowsByPart c d more
+    → GrowsByPart a d (name ++ ((words ++ more) ++ last))
+third-fails a b c d name words more last p q r =
+    part-after a b d name ((words ++ more) ++ last) p (part-front b d (words ++ more) last (part-after b c d words more q r))
 
-pub fourth-fails : (a b c d e : Option (List ℕ)) (name words more last : List ℕ) → Grows a b name → Grows b c words → Grows c d more → GrowsByPart d e last → GrowsByPart a e (name ++ ((words ++ more) ++ last))
-fourth-fails a b c d e name words more last p q r s = part-after a b e name ((words ++ more) ++ last) p (part-after b d e (words ++ more) last (Grows-append b c d words more q r) s)
+pub fourth-fails : (a b c d e : Option (List ℕ)) (name words more last : List ℕ) → Grows a b name → Grows b c words → Grows c d more
+    → GrowsByPart d e last → GrowsByPart a e (name ++ ((words ++ more) ++ last))
+fourth-fails a b c d e name words more last p q r s =
+    part-after a b e name ((words ++ more) ++ last) p (part-after b d e (words ++ more) last (Grows-append b c d words more q r) s)
 
 -- what holds holds of a failure
 pub on-err : {T X : Type 0} (result : Result T X) (P : Type 0) → P → OnErr result P

@@ -91,9 +91,12 @@ module _ {S K E : Type 0} (source : OfSource S) (output : OfSink K) (errors : Of
       where
         go : (told : Option (List ℕ))
             → IfSome told (λ bytes. (machine : Machine) × Runs (start_machine stage.setup bytes) stage.desk.schedule machine
-            × IsFaithful (is_cut stage.desk.kept) (start_machine stage.setup bytes) stage.desk.schedule (output.got stage.began.output) (output.got stage.desk.devices.output)
+            × IsFaithful (is_cut stage.desk.kept) (start_machine stage.setup bytes) stage.desk.schedule (output.got stage.began.output)
+            (output.got stage.desk.devices.output)
             (errors.got stage.began.errors) (errors.got stage.desk.devices.errors) machine)
-            → IfSome told (λ bytes. (machine : Machine) × Runs (start_machine stage.setup bytes) stage.desk.schedule machine × HoldsLastPart (source.held finish.input) machine.input)
+            → IfSome told
+            (λ bytes. (machine : Machine) × Runs (start_machine stage.setup bytes) stage.desk.schedule machine × HoldsLastPart
+            (source.held finish.input) machine.input)
             → IfSome told (λ bytes. (machine : Machine) → Runs (start_machine stage.setup bytes) stage.desk.schedule machine
             → Chooses mode (start_machine stage.setup bytes) stage.desk.schedule × EndsAs finish.end mode machine stage.desk.schedule)
             → IfSome told (λ bytes. HasMachine source output errors setup mode began finish bytes)

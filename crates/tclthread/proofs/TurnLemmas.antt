@@ -1,5 +1,6 @@
 -- How threads take turns.
-use Rattle.std.proofs.Common.{◌≡◌, ◌∙◌, ◌≤◌, ◌+◌, ◌⊎◌, ℕ, List, [], ◌∷◌, ◌++◌, length, Option, None, Some, IfSome, IsSome, refl, sym, ap, subst, arith, inl, inr, length-append}
+use Rattle.std.proofs.Common.{◌≡◌, ◌∙◌, ◌≤◌, ◌+◌, ◌⊎◌, ℕ, List, [], ◌∷◌, ◌++◌, length, Option, None, Some, IfSome, IsSome, refl}
+use Rattle.std.proofs.Common.{sym, ap, subst, arith, inl, inr, length-append}
 use Rattle.tt_core.specs.Faithful.{AsksLine}
 use Rattle.tt_core.specs.Stage.{IsNextAfter, OfMachine, SameBeginning, Stage}
 use Rattle.tt_machine.proofs.Steps.{not_barred, same_run, same_step}
@@ -21,7 +22,8 @@ pub record LastStep (begun : Machine) (schedule : List ℕ) (thread : ℕ) (mach
   pub ran : Runs begun schedule before
   pub step : Steps before thread machine
 
-pub last-step : (begun machine : Machine) (schedule : List ℕ) (thread : ℕ) → Runs begun (schedule ++ thread ∷ []) machine → LastStep begun schedule thread machine
+pub last-step : (begun machine : Machine) (schedule : List ℕ) (thread : ℕ) → Runs begun (schedule ++ thread ∷ []) machine
+    → LastStep begun schedule thread machine
 last-step begun machine [] thread (run.more {next = next} step run.none) = record { before = begun; ran = run.none; step = step }
 last-step begun machine (one ∷ schedule) thread (run.more {next = next} step ran) =
     let last = last-step next machine schedule thread ran in
@@ -40,7 +42,8 @@ turns-more begun machine next after thread (one ∷ schedule) (run.more {next = 
 abbrev pub TookTurns : {S K E : Type 0} → (held : S → Option (List ℕ)) → Stage S K E → Type 0
 TookTurns held stage = AtRun held stage (λ begun machine. TakesTurns 0 begun stage.desk.schedule)
 
-pub stay-turns : {S K E : Type 0} (held : S → Option (List ℕ)) (now new : Stage S K E) → SameBeginning now new → new.desk.schedule ≡ now.desk.schedule → TookTurns held now → TookTurns held new
+pub stay-turns : {S K E : Type 0} (held : S → Option (List ℕ)) (now new : Stage S K E) → SameBeginning now new
+    → new.desk.schedule ≡ now.desk.schedule → TookTurns held now → TookTurns held new
 stay-turns held now new same steps took = rw (same.setup, same.began, steps) took
 
 pub more-turns : {S K E : Type 0} (held : S → Option (List ℕ)) (now new : Stage S K E) (last thread : ℕ)
@@ -51,8 +54,12 @@ more-turns held now new last thread same steps is nexts took =
   where
     go : (told : Option (List ℕ))
         → IfSome told (λ input. (machine : Machine) × Runs (start_machine now.setup input) now.desk.schedule machine × IsNextAfter last (Some thread) machine)
-        → IfSome told (λ input. (machine : Machine) → Runs (start_machine now.setup input) now.desk.schedule machine → TakesTurns 0 (start_machine now.setup input) now.desk.schedule)
-        → IfSome told (λ input. (machine : Machine) → Runs (start_machine now.setup input) (now.desk.schedule ++ thread ∷ []) machine → TakesTurns 0 (start_machine now.setup input) (now.desk.schedule ++ thread ∷ []))
+        → IfSome told
+        (λ input. (machine : Machine) → Runs (start_machine now.setup input) now.desk.schedule machine
+        → TakesTurns 0 (start_machine now.setup input) now.desk.schedule)
+        → IfSome told
+        (λ input. (machine : Machine) → Runs (start_machine now.setup input) (now.desk.schedule ++ thread ∷ []) machine
+        → TakesTurns 0 (start_machine now.setup input) (now.desk.schedule ++ thread ∷ []))
     go None nexts took = tt
     go (Some input) nexts took = λ machine ran.
         let begun = start_machine now.setup input in
@@ -70,7 +77,8 @@ TookAnd held stage fact = AtRun held stage (λ begun machine. TakesTurns 0 begun
 pub and-of : {S K E : Type 0} (held : S → Option (List ℕ)) (stage : Stage S K E) (P Q : Machine → Type 0)
     → TookTurns held stage → OfMachine held stage P → ((machine : Machine) → P machine → Q machine) → TookAnd held stage Q
 and-of held stage P Q took is f =
-    at-both held stage (λ begun machine. TakesTurns 0 begun stage.desk.schedule) (λ begun machine. Q machine) (λ begun machine. TakesTurns 0 begun stage.desk.schedule × Q machine)
+    at-both held stage (λ begun machine. TakesTurns 0 begun stage.desk.schedule) (λ begun machine. Q machine)
+    (λ begun machine. TakesTurns 0 begun stage.desk.schedule × Q machine)
     took (at-run held stage P (λ begun machine. Q machine) is (λ begun machine holds. f machine holds)) (λ begun machine turns holds. (turns, holds))
 
 -- at the limit a thread could go on
@@ -78,19 +86,22 @@ pub ends-full : {S K E : Type 0} (held : S → Option (List ℕ)) (stage : Stage
     → TookTurns held stage → OfMachine held stage (IsNextAfter last (Some thread)) → length stage.desk.schedule ≡ steps
     → TookAnd held stage (λ machine. IsFull steps (InTurn steps) machine stage.desk.schedule)
 ends-full held stage last thread steps took nexts count =
-    and-of held stage (IsNextAfter last (Some thread)) (λ machine. IsFull steps (InTurn steps) machine stage.desk.schedule) took nexts (λ machine next. record { limit = refl; full = count; thread = thread; can = next.0 })
+    and-of held stage (IsNextAfter last (Some thread)) (λ machine. IsFull steps (InTurn steps) machine stage.desk.schedule) took nexts
+    (λ machine next. record { limit = refl; full = count; thread = thread; can = next.0 })
 
 -- no thread can go on, and the machine is over or stuck
 pub ends-over : {S K E : Type 0} (held : S → Option (List ℕ)) (stage : Stage S K E) (code : ℕ)
     → TookTurns held stage → OfMachine held stage (λ machine. machine.shared.over ≡ Some code)
     → TookAnd held stage (λ machine. Unit {0} × (machine.shared.over ≡ Some code))
-ends-over held stage code took over = and-of held stage (λ machine. machine.shared.over ≡ Some code) (λ machine. Unit {0} × (machine.shared.over ≡ Some code)) took over (λ machine is. (tt, is))
+ends-over held stage code took over =
+    and-of held stage (λ machine. machine.shared.over ≡ Some code) (λ machine. Unit {0} × (machine.shared.over ≡ Some code)) took over (λ machine is. (tt, is))
 
 pub ends-stuck : {S K E : Type 0} (held : S → Option (List ℕ)) (stage : Stage S K E) (last steps : ℕ)
     → TookTurns held stage → OfMachine held stage (IsNextAfter last None) → OfMachine held stage (λ machine. machine.shared.over ≡ None)
     → TookAnd held stage (λ machine. IsSome (Some steps) × IsStuck machine)
 ends-stuck held stage last steps took barred going =
-    at-both held stage (λ begun machine. TakesTurns 0 begun stage.desk.schedule × ((number : ℕ) → IsBarred machine number)) (λ begun machine. machine.shared.over ≡ None) (λ begun machine. TakesTurns 0 begun stage.desk.schedule × (IsSome (Some steps) × IsStuck machine))
+    at-both held stage (λ begun machine. TakesTurns 0 begun stage.desk.schedule × ((number : ℕ) → IsBarred machine number))
+    (λ begun machine. machine.shared.over ≡ None) (λ begun machine. TakesTurns 0 begun stage.desk.schedule × (IsSome (Some steps) × IsStuck machine))
     (and-of held stage (IsNextAfter last None) (λ machine. (number : ℕ) → IsBarred machine number) took barred (λ machine is. is))
     (at-run held stage (λ machine. machine.shared.over ≡ None) (λ begun machine. machine.shared.over ≡ None) going (λ begun machine is. is))
     (λ begun machine is over. (is.0, (refl, record { going = over; barred = is.1 })))
@@ -111,7 +122,8 @@ pub ends-reading : {S K E : Type 0} (held : S → Option (List ℕ)) (now new : 
     → TookAnd held new (λ machine. StopsAtLine (InTurn steps) machine new.desk.schedule)
 ends-reading held now new last thread steps same stays is nexts asks took =
     same-run-of held now new (λ taken begun machine. TakesTurns 0 begun taken × StopsAtLine (InTurn steps) machine taken) same stays
-    (at-both held now (λ begun machine. TakesTurns 0 begun now.desk.schedule × IsNextAfter last (Some thread) machine) (λ begun machine. AsksLine thread machine)
+    (at-both held now (λ begun machine. TakesTurns 0 begun now.desk.schedule × IsNextAfter last (Some thread) machine)
+    (λ begun machine. AsksLine thread machine)
     (λ begun machine. TakesTurns 0 begun now.desk.schedule × StopsAtLine (InTurn steps) machine now.desk.schedule)
     (and-of held now (IsNextAfter last (Some thread)) (IsNextAfter last (Some thread)) took nexts (λ machine next. next))
     (at-run held now (AsksLine thread) (λ begun machine. AsksLine thread machine) asks (λ begun machine line. line))
@@ -119,12 +131,15 @@ ends-reading held now new last thread steps same stays is nexts asks took =
 
 -- a run that was cut off
 pub ends-cut : {S K E : Type 0} (held : S → Option (List ℕ)) (stage : Stage S K E) → TookTurns held stage → TookAnd held stage (λ machine. Unit {0})
-ends-cut held stage took = at-both held stage (λ begun machine. TakesTurns 0 begun stage.desk.schedule) (λ begun machine. TakesTurns 0 begun stage.desk.schedule) (λ begun machine. TakesTurns 0 begun stage.desk.schedule × Unit {0}) took took (λ begun machine turns again. (turns, tt))
+ends-cut held stage took =
+    at-both held stage (λ begun machine. TakesTurns 0 begun stage.desk.schedule) (λ begun machine. TakesTurns 0 begun stage.desk.schedule)
+    (λ begun machine. TakesTurns 0 begun stage.desk.schedule × Unit {0}) took took (λ begun machine turns again. (turns, tt))
 
 -- ---- the loop ----
 
 -- a system whose threads took this many turns
-pub record IsTurning {S K E : Type 0} (held : S → Option (List ℕ)) (reads : S → ℕ) (faults : K → ℕ) (errors : E → ℕ) (old now : Stage S K E) (last count : ℕ) : Type 0 where
+pub record IsTurning {S K E : Type 0} (held : S → Option (List ℕ)) (reads : S → ℕ) (faults : K → ℕ) (errors : E → ℕ) (old now : Stage S K E)
+    (last count : ℕ) : Type 0 where
   pub counted : length now.desk.schedule ≡ count
   pub last_is : last ≡ last_of 0 now.desk.schedule
   pub took : TookTurns held now
@@ -144,18 +159,20 @@ pub length-more : (taken new : List ℕ) (thread count : ℕ) → length taken �
 length-more taken new thread count counted is = rw is (omega (arith, counted, length-append taken (thread ∷ [])))
 
 -- a step more is allowed, or none
-pub within-more : (taken new : List ℕ) (thread count steps : ℕ) → length taken ≡ count → count + 1 ≤ steps → (new ≡ taken) ⊎ (new ≡ taken ++ thread ∷ []) → length new ≤ steps
+pub within-more : (taken new : List ℕ) (thread count steps : ℕ) → length taken ≡ count → count + 1 ≤ steps
+    → (new ≡ taken) ⊎ (new ≡ taken ++ thread ∷ []) → length new ≤ steps
 within-more taken new thread count steps counted below (inl same) = rw same (omega (arith, counted, below))
 within-more taken new thread count steps counted below (inr more) = omega (arith, below, length-more taken new thread count counted more)
 
--- what was not put where no step was taken
+-- what was not put if no step was taken
 pub nothing-put-yet : {X : Type 0} (taken new : List ℕ) (thread count : ℕ) (old mid last : X) → length taken ≡ count
     → (new ≡ taken) ⊎ (new ≡ taken ++ thread ∷ []) → (new ≡ taken → last ≡ mid) → (count ≡ 0 → mid ≡ old) → new ≡ [] → last ≡ old
 nothing-put-yet taken new thread count old mid last counted (inl same) stays before empty = stays same ∙ before (sym counted ∙ ap length (sym same ∙ empty))
 nothing-put-yet taken new thread count old mid last counted (inr more) stays before empty = absurd (some-entry taken new thread more empty)
 
 pub either-turns : {S K E : Type 0} (held : S → Option (List ℕ)) (now new : Stage S K E) (last thread : ℕ)
-    → SameBeginning now new → (new.desk.schedule ≡ now.desk.schedule) ⊎ (new.desk.schedule ≡ now.desk.schedule ++ thread ∷ []) → last ≡ last_of 0 now.desk.schedule
+    → SameBeginning now new → (new.desk.schedule ≡ now.desk.schedule) ⊎ (new.desk.schedule ≡ now.desk.schedule ++ thread ∷ [])
+    → last ≡ last_of 0 now.desk.schedule
     → OfMachine held now (IsNextAfter last (Some thread)) → TookTurns held now → TookTurns held new
 either-turns held now new last thread same (inl steps) is nexts took = stay-turns held now new same steps took
 either-turns held now new last thread same (inr steps) is nexts took = more-turns held now new last thread same steps is nexts took

@@ -30,7 +30,7 @@ module _ {S K E : Type 0} (source : OfSource S) (output : OfSink K) (errors : Of
     pub ends : EndsAs finish.end mode machine finish.schedule.threads
 
   -- What a run leaves: the steps are some that the mode allows; without a step nothing was written; a fault ends the
-  -- run, and comes of its own stream alone; and if standard input told its bytes, there is that machine.
+  -- run, and comes of its own stream alone; and if the bytes of standard input are known, there is that machine.
   pub record RunLeaves (setup : Setup) (mode : Mode) (began : Began S K E) (finish : Finish S K E) : Type 0 where
     pub allowed : Allows mode finish.schedule.threads
     pub no_output : finish.schedule.threads ≡ [] → finish.output ≡ began.output

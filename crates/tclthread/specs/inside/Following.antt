@@ -14,7 +14,7 @@ use Rattle.tclthread.specs.declared.status.End.TheVariants as ends
 use Rattle.tclthread.specs.declared.status.Refusal.{Refusal}
 use Rattle.tclthread.specs.declared.status.Refusal.TheVariants.{NoFile, ReadFault, NoMemory}
 
--- if standard input told its bytes, this holds of the machine at the start and of the one after the schedule
+-- if the bytes of standard input are known, this holds of the machine at the start and of the one after the schedule
 abbrev pub AtRun :
     {S K E : Type 0} → (held : S → Option (List ℕ)) → Stage S K E → (Machine → Machine → Type 0) → Type 0
 AtRun held stage fact =

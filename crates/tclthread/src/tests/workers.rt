@@ -12,7 +12,7 @@ use std::thread::Threads;
 use tt_devices::{Gate, MemoryFiles, MemorySink, MemorySource, Slice};
 
 /// A script, the most steps of a run, and what that comes to on any number of workers: its status, what it writes, what
-/// standard error gets, and the schedule where there is one alone.
+/// standard error gets, and the schedule if there is one alone.
 #[derive(Clone, Copy)]
 struct Row<'a> {
     script: &'a [u8],

@@ -8,7 +8,8 @@ use Rattle.tclthread.proofs.program.call.Goals as goal
 pub returns-in-Ok-clause-answer : goal.returns-in-Ok-clause-answer
 returns-in-Ok-clause-answer g c =
     of-given c.args.all (λ all. drop 1 (into_iter_items all)) c.in-Ok.words.items c.as_slice.result.now
-    (λ list. IsAnswered g.F.Files g.S.Source g.K.Sink g.E.Sink (map string_bytes list) c.args.files.now c.session.new.files (record { input = c.args.input; output = c.args.output; errors = c.args.errors }) c.session.result)
+    (λ list. IsAnswered g.F.Files g.S.Source g.K.Sink g.E.Sink (map string_bytes list) c.args.files.now c.session.new.files
+    (record { input = c.args.input; output = c.args.output; errors = c.args.errors }) c.session.result)
     c.in-Ok.ensures.read c.as_slice.ensures.value c.session.ensures.answer
 
 pub returns-in-Err-clause-answer : goal.returns-in-Err-clause-answer

@@ -9,12 +9,20 @@ returns-in_default-print-clause-records g c = rw c.in-Some.is (no_memory refl (r
 pub returns-in-Ok-write-clause-records : goal.returns-in-Ok-write-clause-records
 returns-in-Ok-write-clause-records g c =
     rw c.in-Some.is (written
-    (λ is. elim c.match-matches.branch [ in-NoMemory w ↦ absurd (cc (w.matches-is, c.if-matches.false)) | in_default-matches w ↦ w.in_default-matches.not-NoMemory is ])
+    (λ is. elim c.match-matches.branch
+    [ in-NoMemory w ↦ absurd (cc (w.matches-is, c.if-matches.false)) | in_default-matches w ↦ w.in_default-matches.not-NoMemory is ])
     c.status-in-Ok-write.ensures
-    (record { text = c.as_bytes.result.now; is_text = rw c.as_bytes.ensures.bytes c.in-Ok.ensures; found = c.in-Ok-write.ensures.written; steady = c.in-Ok-write.ensures.steady; others = c.in-Ok-write.ensures.others }))
+    (record {
+      text = c.as_bytes.result.now;
+      is_text = rw c.as_bytes.ensures.bytes c.in-Ok.ensures;
+      found = c.in-Ok-write.ensures.written;
+      steady = c.in-Ok-write.ensures.steady;
+      others = c.in-Ok-write.ensures.others;
+    }))
 
 pub returns-clause-records : goal.returns-clause-records
 returns-clause-records g c =
     rw c.in-Some.is (failed
-    (λ is. elim c.match-matches.branch [ in-NoMemory w ↦ absurd (cc (w.matches-is, c.if-matches.false)) | in_default-matches w ↦ w.in_default-matches.not-NoMemory is ])
+    (λ is. elim c.match-matches.branch
+    [ in-NoMemory w ↦ absurd (cc (w.matches-is, c.if-matches.false)) | in_default-matches w ↦ w.in_default-matches.not-NoMemory is ])
     refl (record { rises = c.in-Err.ensures.cause; others = c.in-Err.ensures.others }))

@@ -5,7 +5,8 @@ use Rattle.tclthread.proofs.run.run.Goals as goal
 pub returns-in-Err : goal.returns-in-Err
 returns-in-Err g c =
     let given = c.in-Err.ensures.handed_back in
-    idle-leaves g.S.Source g.K.Sink g.E.Sink _ _ _ _ refl c.new-in-Err.ensures.empty (ap (λ f. f.input) given) (ap (λ f. f.output) given) (ap (λ f. f.errors) given)
+    idle-leaves g.S.Source g.K.Sink g.E.Sink _ _ _ _ refl c.new-in-Err.ensures.empty (ap (λ f. f.input) given) (ap (λ f. f.output) given)
+    (ap (λ f. f.errors) given)
 
 pub returns-in-Ok : goal.returns-in-Ok
 returns-in-Ok g c =

@@ -21,4 +21,5 @@ start-requires-clause-steps g c κs within = plain-steps _ (told_plain c.in-Ok-P
 
 pub returns-in-Err : goal.returns-in-Err
 returns-in-Err g c =
-    unread-answer g.F.Files g.S.Source g.K.Sink g.E.Sink _ c.in-Err.why _ _ _ c.in-Err.ensures.refused c.refuse.ensures.status c.refuse.ensures.no_step c.refuse.ensures.streams c.refuse.ensures.line
+    unread-answer g.F.Files g.S.Source g.K.Sink g.E.Sink _ c.in-Err.why _ _ _ c.in-Err.ensures.refused c.refuse.ensures.status
+    c.refuse.ensures.no_step c.refuse.ensures.streams c.refuse.ensures.line

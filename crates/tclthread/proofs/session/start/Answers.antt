@@ -11,7 +11,8 @@ returns-in-Ok g c =
       finish = c.run_freely-finish.result;
       begins = c.in-Ok.ensures.ready;
       leaves = c.run_freely-finish.ensures;
-      records = records-after g.F.Files _ _ _ c.args.files.now c.prepare_plain.new.files c.close.new.files _ c.in-Ok.ensures.same c.in-Ok.ensures.no_write c.close.ensures.records;
+      records = records-after g.F.Files _ _ _ c.args.files.now c.prepare_plain.new.files c.close.new.files _ c.in-Ok.ensures.same
+          c.in-Ok.ensures.no_write c.close.ensures.records;
       line = rw c.faults-before.ensures at c.close.ensures.line;
       schedule = c.close.ensures.schedule;
       input = c.close.ensures.streams.0;
