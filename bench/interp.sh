@@ -1,7 +1,7 @@
 #!/usr/bin/env bash
 # Prints the time of a turn, for 1,000, 10,000 and 100,000 turns: of `while` with an `incr`, of such a loop with a call
 # of an empty procedure, of `foreach`, and of such a loop with an `append` to a growing text or a `lappend` to a growing
-# list; the least of five times. Where tclsh is installed, the time of the same script in it stands beside each: of a
+# list; the least of five times. If tclsh is installed, the time of the same script in it stands beside each: of a
 # loop that it compiles, and of one that it doesn't, since the loop's name stands in a variable.
 # Further runs differ by what else the machine does.
 # Usage: bench/interp.sh [CASE TURNS]

@@ -11,7 +11,7 @@ folder=$(mktemp -d)
 trap 'rm -rf "$folder"' EXIT
 program=./crates/tclthread/out/tclthread
 
-# Builds the program where it is needed.
+# Builds the program if it is needed.
 ./tclthread --replay examples/hello.schedule examples/hello.tcl >/dev/null
 
 # The least time of a replay, in nanoseconds.

@@ -2,7 +2,7 @@
 # Prints the time that an action takes in scripts whose threads share: 200 jobs of a pool that hold a shared array,
 # 20,000 increments of a shared counter, 10,000 lines through a pipe between two threads, and 4,000 jobs of a pool. Each
 # is replayed by a schedule that is made here; the start of the process and the reading of both files count in.
-# Where tclsh has its Thread package, the time of the same script in it stands beside each, over as many actions; there
+# If tclsh has its Thread package, the time of the same script in it stands beside each, over as many actions; there
 # the threads run as they like, on all processors.
 # Further runs differ by what else the machine does.
 # Usage: bench/shared-scripts.sh [RUNS]
@@ -24,7 +24,7 @@ time_of() {
 }
 
 # A line on the script and the schedule of that name.
-tell() {
+report() {
     local name=$1 what=$2 wanted=$3 actions time
     actions=$(awk 'NR > 1 {sum += $2} END {print sum}' "$folder/$name.schedule")
     time=$(time_of "$wanted" ./crates/tclthread/out/tclthread --replay "$folder/$name.schedule" "$folder/$name.tcl")
@@ -66,7 +66,7 @@ TCL
     for _ in $(seq 50); do printf '%s\n' '2 1' '3 1' '4 1' '5 1' '2 5' '3 5' '4 5' '5 5'; done
     echo '1 206'
 } >"$folder/held.schedule"
-tell held '200 jobs with holds' '200 jobs, sum 20100, squares 2686700'
+report held '200 jobs with holds' '200 jobs, sum 20100, squares 2686700'
 
 # 60,006 units are spent, so the thread pauses six times; the last three actions are the counter's, the line and the end.
 cat >"$folder/counter.tcl" <<'TCL'
@@ -75,7 +75,7 @@ for {set i 0} {$i < 20000} {incr i} {tsv::incr a x}
 puts [tsv::get a x]
 TCL
 printf '%s\n' 'schedule 1' "1 $((20000 + 6 + 3))" >"$folder/counter.schedule"
-tell counter '20,000 increments' 20000
+report counter '20,000 increments' 20000
 
 # Each line is put in one step of the main thread and got in the next one of the other thread. A thread pauses before
 # its unit of each multiple of 10,000: it spends three on a line, and has spent 9 + 3 k (the main thread) and 6 + 3 k
@@ -107,23 +107,13 @@ awk '
         print "1 1\n2 3\n1 3"
     }
 ' >"$folder/pipe.schedule"
-tell pipe '10,000 lines through a pipe' 10000
+report pipe '10,000 lines through a pipe' 10000
 
 # Two workers take a job each, and then end it. The main thread pauses once while it posts and once while it gets.
-cat >"$folder/jobs.tcl" <<'TCL'
-package require Thread
-set p [tpool::create -minworkers 2 -maxworkers 2]
-for {set i 0} {$i < 4000} {incr i} {lappend jobs [tpool::post -nowait $p {expr 6 * 7}]}
-set left $jobs
-while {[llength $left]} {tpool::wait $p $left left}
-set sum 0
-foreach j $jobs {incr sum [tpool::get $p $j]}
-tpool::release $p
-puts $sum
-TCL
+jobs_script 2 >"$folder/jobs.tcl"
 {
     printf '%s\n' 'schedule 1' "1 $((1 + 4000 + 1))"
     for _ in $(seq 2000); do printf '%s\n' '2 1' '3 1' '2 1' '3 1'; done
     echo "1 $((1 + 4000 + 1 + 3))"
 } >"$folder/jobs.schedule"
-tell jobs '4,000 jobs' 168000
+report jobs '4,000 jobs' 168000

@@ -3,7 +3,7 @@
 # and the greatest resident memory; the least time of RUNS: four threads that each count and never speak; 30,000 sends
 # with an answer; 50,000 without one; 4,000 jobs of a pool; 400 threads that are sent five scripts each; four threads at
 # one mutex, 20,000 times; and a script of one thread, with 64 workers too. The start of the process counts in.
-# Where tclsh has its Thread package, the same script in it stands beside each; where tclsh is there at all, so does what
+# If tclsh has its Thread package, the same script in it stands beside each; if tclsh is there at all, so does what
 # 400 interpreters take in it, since each of its threads has one.
 # Further runs differ by what else the machine does.
 # Usage: bench/workers.sh [RUNS]
@@ -30,7 +30,7 @@ least() {
 }
 
 # A line on the script of that name with each of these counts of workers.
-tell() {
+report() {
     local name=$1 what=$2 wanted=$3 workers entries time memory
     shift 3
     printf '%s:' "$what"
@@ -58,7 +58,7 @@ for {set k 0} {$k < 4} {incr k} {
 foreach t $threads {thread::join $t}
 puts counted
 TCL
-tell silent 'four threads that never speak' counted 1 2 4
+report silent 'four threads that never speak' counted 1 2 4
 
 cat >"$folder/sends.tcl" <<'TCL'
 package require Thread
@@ -66,7 +66,7 @@ set t [thread::create]
 for {set i 0} {$i < 30000} {incr i} {set n [thread::send $t {incr n}]}
 puts $n
 TCL
-tell sends '30,000 sends with an answer' 30000 1 2 4
+report sends '30,000 sends with an answer' 30000 1 2 4
 
 cat >"$folder/posts.tcl" <<'TCL'
 package require Thread
@@ -74,20 +74,10 @@ set t [thread::create]
 for {set i 0} {$i < 50000} {incr i} {thread::send -async $t {incr n}}
 puts [thread::send $t {set n}]
 TCL
-tell posts '50,000 sends without one' 50000 1 2 4
+report posts '50,000 sends without one' 50000 1 2 4
 
-cat >"$folder/jobs.tcl" <<'TCL'
-package require Thread
-set p [tpool::create -minworkers 4 -maxworkers 4]
-for {set i 0} {$i < 4000} {incr i} {lappend jobs [tpool::post -nowait $p {expr 6 * 7}]}
-set left $jobs
-while {[llength $left]} {tpool::wait $p $left left}
-set sum 0
-foreach j $jobs {incr sum [tpool::get $p $j]}
-tpool::release $p
-puts $sum
-TCL
-tell jobs '4,000 jobs of a pool' 168000 1 2 4
+jobs_script 4 >"$folder/jobs.tcl"
+report jobs '4,000 jobs of a pool' 168000 1 2 4
 
 cat >"$folder/many.tcl" <<'TCL'
 package require Thread
@@ -98,7 +88,7 @@ for {set round 0} {$round < 5} {incr round} {
 foreach t $threads {thread::send $t {}}
 puts [tsv::get total count]
 TCL
-tell many '400 threads sent five scripts each' 2000 1 2 4
+report many '400 threads sent five scripts each' 2000 1 2 4
 if command -v tclsh >/dev/null; then
     # A thread of tclsh has an interpreter of its own, at least.
     echo 'for {set k 0} {$k < 400} {incr k} {interp create}; puts made' >"$folder/interps.tcl"
@@ -123,10 +113,10 @@ for {set k 0} {$k < 4} {incr k} {
 foreach t $threads {thread::join $t}
 puts [tsv::get total count]
 TCL
-tell mutex 'four threads at one mutex, 20,000 times' 20000 1 2 4
+report mutex 'four threads at one mutex, 20,000 times' 20000 1 2 4
 
 cat >"$folder/alone.tcl" <<'TCL'
 for {set i 0} {$i < 2000000} {incr i} {}
 puts $i
 TCL
-tell alone 'a script of one thread' 2000000 1 64
+report alone 'a script of one thread' 2000000 1 64
