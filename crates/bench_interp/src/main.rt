@@ -40,10 +40,10 @@ const CASES: [Case; 5] = [
 
 const TURNS: [u64; 3] = [1_000, 10_000, 100_000];
 
-// How many turns are told of without arguments.
+// How many turns are reported without arguments.
 const FEW: u64 = 100;
 
-// How often each script is timed; the least time is told.
+// How often each script is timed; the least time is reported.
 const ROUNDS: u32 = 5;
 
 fn main(rt: HostRuntime) -> anyhow::Result<()> {
@@ -131,7 +131,7 @@ fn setup_of(alloc: Global, case: Case, turns: u64) -> anyhow::Result<Setup> {
     })
 }
 
-// The code that thread 1 ends with, where each request before is answered that it is done.
+// The code that thread 1 ends with, if each request before is answered that it is done.
 fn evaluate(alloc: Global, setup: &Setup) -> anyhow::Result<i64> {
     let start = Start::Script(setup.script.copy()?);
     let mut interp = Interp::new(alloc, &start, 1, setup)?;

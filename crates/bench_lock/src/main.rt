@@ -217,7 +217,7 @@ fn with_resting<R: Threads + Wait + Clock + Sync>(
     Ok((lock.close(all), took.load(SeqCst)))
 }
 
-// How many in a second, where so many took so many microseconds.
+// How many in a second, if so many took so many microseconds.
 fn per_second(count: u64, micros: u128) -> u128 {
     u128::from(count) * 1_000_000 / micros.max(1)
 }

@@ -11,7 +11,7 @@ use tt_tsv::Arrays;
 
 const SIZES: [u32; 3] = [10, 1_000, 100_000];
 
-// How many increments are timed together, and how many times; the least is told.
+// How many increments are timed together, and how many times; the least is reported.
 const TIMES: u32 = 100_000;
 
 const ROUNDS: u32 = 10;

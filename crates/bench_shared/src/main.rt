@@ -1,7 +1,7 @@
 //! Times of what threads share: requests of each kind, and increments of shared variables.
 //!
-//! Without arguments it says what comes out. With the argument `times` and the name of a part, `requests` or `arrays`, it
-//! prints that part's times.
+//! Without arguments it says what comes out. With the argument `times` and the name of a part, `requests` or `arrays`,
+//! it prints that part's times.
 #![tactic(auto)]
 
 mod arrays;

@@ -1,6 +1,6 @@
-//! Requests on what threads share: a send and a take, a lock and an unlock, a job posted, begun and ended, and a line put
-//! into a pipe and got, each with few and with many threads or with little and with much that is queued.
-//! Times are in nanoseconds for one, and in microseconds for 16,384: so many lines of 64 bytes are 1 MiB.
+//! Requests on what threads share: a send and a take, a lock and an unlock, a job posted, begun and ended, and a line
+//! put into a pipe and got, each with few and with many threads or with little and with much that is queued. Times are
+//! in nanoseconds for one, and in microseconds for 16,384: so many lines of 64 bytes are 1 MiB.
 
 use std::alloc::Global;
 use std::rt::Clock;
@@ -20,8 +20,8 @@ enum Work {
     Lines,
 }
 
-/// What is done, its name, among how many threads, and with how much queued. All threads but the first wait for the lock,
-/// and the second is the worker of the pool.
+/// What is done, its name, among how many threads, and with how much queued. All threads but the first wait for the
+/// lock, and the second is the worker of the pool.
 type Case = (Work, &'static str, u32, u32);
 
 const TOLD: [Case; 4] = [
@@ -46,7 +46,7 @@ const TIMED: [Case; 12] = [
     (Work::Lines, "a line", 2, 16_384),
 ];
 
-// How many are timed together, and how many times; the least is told.
+// How many are timed together, and how many times; the least is reported.
 const TIMES: u32 = 16_384;
 
 const ROUNDS: u32 = 10;
@@ -124,7 +124,7 @@ impl Bench {
 
     fn prepare(self, shared: &mut Shared, queued: u32) -> anyhow::Result<()> {
         self.make(shared)?;
-        for _ in shared.made()..self.last {
+        for _ in shared.thread_count()..self.last {
             self.create(shared)?;
         }
         for _ in 0..queued {

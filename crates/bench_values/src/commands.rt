@@ -36,7 +36,7 @@ const COMMANDS: [(&str, &[Word]); 7] = [
 /// The counts of items or bytes, each with its logarithm.
 const SIZES: [(usize, u128); 4] = [(8_192, 13), (16_384, 14), (32_768, 15), (65_536, 16)];
 
-// How many times are taken; the least is told.
+// How many times are taken; the least is reported.
 const ROUNDS: usize = 8;
 
 pub(crate) fn run_all(

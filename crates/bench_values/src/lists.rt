@@ -14,7 +14,7 @@ const ITEMS: &[u8] = b"word {two words} \"two more\" back\\ slash {a {b} c} #sig
 // An operand of a function, with others in it.
 const OPERAND: &[u8] = b"12 * $x - abs(3), ";
 
-// How often a chain is read; the least times are told.
+// How often a chain is read; the least times are reported.
 const ROUNDS: usize = 16;
 
 pub(crate) fn run_all(
@@ -83,7 +83,7 @@ fn run_expression(
     Ok(())
 }
 
-// A chain `1+1+..` of this size: past 1,000 operators it is told as nested too deeply.
+// A chain `1+1+..` of this size: past 1,000 operators it is reported as nested too deeply.
 fn run_chain(rt: &(impl Clock + Print), alloc: Global, size: usize) -> anyhow::Result<()> {
     let mut text = Vec::from_slice(alloc, b"1")?;
     for _ in 0..size / 2 {

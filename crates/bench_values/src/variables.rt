@@ -15,7 +15,7 @@ const LINKS: u64 = 10;
 // How often it is read or written for one time.
 const TIMES: u32 = 100_000;
 
-// How many times are taken; the least is told.
+// How many times are taken; the least is reported.
 const ROUNDS: usize = 16;
 
 pub(crate) fn run_all(

@@ -1,9 +1,9 @@
 //! First commands read: words in braces, scripts in brackets, short bodies, dense scripts, and 1,000
 //! brackets or indices, one in the other.
 //!
-//! Without arguments it says if the lane kernels answer what plain loops do, and where a word of 64 KiB, the brackets and
-//! the indices end. With the argument `brackets` or `indices` it reads only those; with `lanes` it prints the times of the
-//! kernels, and with any other, as `times`, how long reading takes for a byte.
+//! Without arguments it says if the lane kernels answer what plain loops do, and where a word of 64 KiB, the brackets
+//! and the indices end. With the argument `brackets` or `indices` it reads only those; with `lanes` it prints the times
+//! of the kernels, and with any other, as `times`, how long reading takes for a byte.
 #![tactic(auto)]
 
 mod lanes;

@@ -1,5 +1,6 @@
 -- The commands on arrays have one outcome each (array(n)).
-use Rattle.std.proofs.Common.{◌≡◌, ◌∙◌, ◌++◌, ℕ, Bool, true, false, bytes_eq, codes, is_some, unwrap_or, List, [], ◌∷◌, Option, Some, None, Result, refl, ap, sym, subst}
+use Rattle.std.proofs.Common.{◌≡◌, ◌∙◌, ◌++◌, ℕ, Bool, true, false, bytes_eq, codes, is_some, unwrap_or, List, [], ◌∷◌}
+use Rattle.std.proofs.Common.{Option, Some, None, Result, refl, ap, sym, subst}
 use Rattle.std.specs.List.{AllByRecursion}
 use Rattle.tt_calls.specs.Outcomes.{fine}
 use Rattle.tt_calls.specs.Usages.{bad_option}
@@ -15,11 +16,14 @@ use Rattle.tt_store.specs.Held.{Drops, Held, IsWritten, Meaning}
 use Rattle.tt_store.specs.Scalars.{outcome_by}
 use Rattle.tt_store.specs.Spots.{spot}
 use Rattle.tt_variable_commands.specs.ArrayChanging as changing
-use Rattle.tt_variable_commands.specs.ArrayChanging.{DropsEach, DropsIf, DropsLike, DropsOne, DropsWhole, SetsEach, SetsIf, SetsItems, SetsOne, SetsPairs, is_paired, message_by, none_set, pairs_in}
+use Rattle.tt_variable_commands.specs.ArrayChanging.{DropsEach, DropsIf, DropsLike, DropsOne, DropsWhole, SetsEach}
+use Rattle.tt_variable_commands.specs.ArrayChanging.{SetsIf, SetsItems, SetsOne, SetsPairs, is_paired, message_by}
+use Rattle.tt_variable_commands.specs.ArrayChanging.{none_set, pairs_in}
 use Rattle.tt_variable_commands.specs.ArrayCommands.{IsSubcommand, Runs, RunsIf, array, first_named, is_array, row_of, subcommands}
 use Rattle.tt_variable_commands.specs.ArrayReading as reading
 use Rattle.tt_variable_commands.specs.Vocabulary.{is_element}
-use Rattle.tt_variable_commands.specs.ArrayReading.{Counts, Gets, HasIndicesIf, HasSizeIf, Lists, Names, PairsOf, TellsSize, exists_told, names_like, pair_of, size_told}
+use Rattle.tt_variable_commands.specs.ArrayReading.{Counts, Gets, HasIndicesIf, HasSizeIf, Lists, Names, PairsOf}
+use Rattle.tt_variable_commands.specs.ArrayReading.{TellsSize, exists_told, names_like, pair_of, size_told}
 use Rattle.laws_language.proofs.Once.{Once, Only, fails-once, find-each, goes-fails, goes-once, once-by, once-made, once-told, only-made, only-told}
 use Rattle.laws_language.proofs.Held.{drops-once, finds-once, indices-once, is_written-once, size_of-once}
 use Rattle.laws_language.proofs.VariableCommands.{fails_with-once, refuses-once}
@@ -64,7 +68,8 @@ names-once usage (name ∷ []) old = names_told-once None name old
 names-once usage (name ∷ pattern ∷ []) old = names_told-once (Some pattern) name old
 names-once usage (name ∷ pattern ∷ more ∷ words) old = refuses-once usage old
 
-pairs-same : (held : Held) (name : Name) {indices : List Name} {one other : List (List ℕ)} → PairsOf held name indices one → PairsOf held name indices other → one ≡ other
+pairs-same : (held : Held) (name : Name) {indices : List Name} {one other : List (List ℕ)} → PairsOf held name indices one →
+    PairsOf held name indices other → one ≡ other
 pairs-same held name reading.none reading.none = refl
 pairs-same held name (reading.more {index = index} {found = found} {items = items} finds rest) (reading.more {found = finding} {items = others} its later) =
     ap (λ f. pair_of index f ++ items) (finds-once held (spot name (Some index)) found finding finds its)
@@ -131,7 +136,8 @@ set-once usage (name ∷ list ∷ more ∷ words) old = refuses-once usage old
 -- ---- removing ----
 
 dropped-once : (old : Held) (name : Name) (index : Option Name) {new next : Held}
-    → (removed : Result Unit VarFault) × Drops old (spot name index) new removed → (removed : Result Unit VarFault) × Drops old (spot name index) next removed → new ≡ next
+    → (removed : Result Unit VarFault) × Drops old (spot name index) new removed → (removed : Result Unit VarFault)
+    × Drops old (spot name index) next removed → new ≡ next
 dropped-once old name index {new} {next} is its = (drops-once old (spot name index) is.0 its.0 new next is.1 its.1).1
 
 drops-same : (name : Name) {indices : List Name} {old new next : Held} → DropsEach name indices old new → DropsEach name indices old next → new ≡ next

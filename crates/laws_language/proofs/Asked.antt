@@ -1,4 +1,4 @@
--- What is asked next is one request, where each answer is one.
+-- What is asked next is one request, if each answer is one.
 use Rattle.std.proofs.Common.{◌≡◌, ◌+◌, ◌≤◌, ℕ, List, refl, ap, sym, subst, arith}
 use Rattle.tt_calls.specs.declared.reply.Reply.{Reply}
 use Rattle.tt_calls.specs.declared.request.Request.{Request}
@@ -25,16 +25,20 @@ use Rattle.laws_language.proofs.Steps.{asked_again, extends-later}
 abbrev Comes : Type 0
 Comes = Course Want Got Ending Counts
 
-one-want : {course : Comes} {want other : Want} {serving during : List ℕ} → course ≡ Stop want serving → course ≡ Stop other during → (want ≡ other) × (serving ≡ during)
+one-want : {course : Comes} {want other : Want} {serving during : List ℕ} → course ≡ Stop want serving → course ≡ Stop other during → (want ≡ other)
+    × (serving ≡ during)
 one-want is its = (cc, cc)
 
-one-asked : {course : Comes} {one other : Request} {serving during : List ℕ} → course ≡ Stop (Ask one) serving → course ≡ Stop (Ask other) during → (one ≡ other) × (serving ≡ during)
+one-asked : {course : Comes} {one other : Request} {serving during : List ℕ} → course ≡ Stop (Ask one) serving → course ≡ Stop (Ask other) during →
+    (one ≡ other) × (serving ≡ during)
 one-asked is its = (cc, cc)
 
-one-end : {course : Comes} {one other : Ending} {state after : Counts} {steps left : ℕ} {rest more : List Got} → course ≡ Fin one state steps rest → course ≡ Fin other after left more → one ≡ other
+one-end : {course : Comes} {one other : Ending} {state after : Counts} {steps left : ℕ} {rest more : List Got} → course ≡ Fin one state steps rest →
+    course ≡ Fin other after left more → one ≡ other
 one-end is its = cc
 
-stop-end : {course : Comes} {want : Want} {serving : List ℕ} {ending : Ending} {state : Counts} {steps : ℕ} {rest : List Got} → course ≡ Stop want serving → course ≡ Fin ending state steps rest → ⊥
+stop-end : {course : Comes} {want : Want} {serving : List ℕ} {ending : Ending} {state : Counts} {steps : ℕ} {rest : List Got} →
+    course ≡ Stop want serving → course ≡ Fin ending state steps rest → ⊥
 stop-end is its = cc
 
 -- a request is answered by a reply alone

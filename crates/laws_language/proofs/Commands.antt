@@ -41,7 +41,8 @@ continues-once answers.Other other words old once = once
 continues-once (answers.Outcome outcome) other words old once = once-told (answers.Outcome outcome) old
 continues-once (answers.Body body text) other words old once = once-told (answers.Body body text) old
 
-either-once : (one other : Table) (words : List (List ℕ)) (old : Held) → Once (one words old) → ((held : Held) → Once (other words held)) → Once (Either one other words old)
+either-once : (one other : Table) (words : List (List ℕ)) (old : Held) → Once (one words old) → ((held : Held) → Once (other words held)) →
+    Once (Either one other words old)
 either-once one other words old first later =
     once-after (one words old) (λ (answer : Answer) (held : Held). Continues answer other words held) first
     (λ answer held. continues-once answer other words held (later held))

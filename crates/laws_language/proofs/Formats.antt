@@ -29,7 +29,8 @@ formatted-same (ended e) (printed some is fits rest) = absurd (no-template e som
 formatted-same (ended e) (too_long some is long) = absurd (no-template e some)
 formatted-same (ended e) (refused some is) = absurd (no-template e some)
 formatted-same (printed some is fits rest) (ended e) = absurd (no-template e some)
-formatted-same {before} {other = end} (printed {bytes = one} {rest = rest} {later = after} some is fits more) (printed {bytes = other} {rest = left} {later = later} any its fit most) =
+formatted-same {before} {other = end} (printed {bytes = one} {rest = rest} {later = after} some is fits more)
+    (printed {bytes = other} {rest = left} {later = later} any its fit most) =
     let same = one-piece is its in
     formatted-same more
     (subst (λ (bytes : List ℕ). IsFormatted (before ++ bytes) rest after end) (sym same.0)

@@ -9,7 +9,9 @@ use Rattle.tt_vars.specs.declared.answers.Written.TheVariants.{Yes, No}
 use Rattle.tt_vars.specs.declared.variable.Place.{Place}
 use Rattle.tt_vars.specs.Links as variables
 use Rattle.tt_vars.specs.Variables.{Frame, Name}
-use Rattle.tt_store.specs.Held.{AreMarked, AreSet, Calls, Drops, Finds, Gives, HasIndices, HasSize, Held, IsMarked, IsRead, IsThere, IsWritten, LinksTo, Marks, ReadsWord, Sets, is_there, more, none, place, stored, value_of, with_levels}
+use Rattle.tt_store.specs.Held.{AreMarked, AreSet, Calls, Drops, Finds, Gives, HasIndices, HasSize, Held, IsMarked}
+use Rattle.tt_store.specs.Held.{IsRead, IsThere, IsWritten, LinksTo, Marks, ReadsWord, Sets, is_there, more, none}
+use Rattle.tt_store.specs.Held.{place, stored, value_of, with_levels}
 use Rattle.tt_store.specs.Levels.{called, with_frames}
 use Rattle.tt_store.specs.Spots.{place_in, spot, spot_of, full_name}
 use Rattle.laws_language.proofs.Once.{Once, Only, once-by, only-made, only-told}
@@ -82,7 +84,9 @@ gives-once word text old =
 
 pub links_to-once : (old : Held) (local : Name) (frame : ℕ) (word : Name) → Once (λ (answer : Linked) (new : Held). LinksTo old local frame word new answer)
 links_to-once old local frame word one other new next is its =
-    let linked = links-once old.levels.frames old.levels.current local (place_in frame (spot_of word)) new.levels.frames next.levels.frames one other is.links its.links in
+    let linked =
+    links-once old.levels.frames old.levels.current local
+    (place_in frame (spot_of word)) new.levels.frames next.levels.frames one other is.links its.links in
     (linked.1, is.rest ∙ ap (λ (frames : List Frame). with_levels old (with_frames old.levels frames)) linked.0 ∙ sym its.rest)
 
 pub drops-once : (old : Held) (spot : _) → Once (λ (removed : Result Unit VarFault) (new : Held). Drops old spot new removed)
@@ -94,7 +98,8 @@ drops-once old spot one other new next is its =
 
 all_set-once : {arguments : List Argument} {old new next : Held} → AreSet arguments old new → AreSet arguments old next → new ≡ next
 all_set-once none none = refl
-all_set-once {next = end} (more {argument = argument} {arguments = arguments} {old = old} {next = next} {written = one} sets rest) (more {next = after} {written = other} gives later) =
+all_set-once {next = end} (more {argument = argument} {arguments = arguments} {old = old} {next = next} {written = one} sets rest)
+    (more {next = after} {written = other} gives later) =
     let same = (sets-once old (spot argument.name None) argument.value one other next after sets gives).1 in
     all_set-once rest (subst (λ (held : Held). AreSet arguments held end) (sym same) later)
 

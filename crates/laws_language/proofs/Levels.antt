@@ -1,5 +1,6 @@
 -- The commands on levels and links have one outcome each (global(n), upvar(n), uplevel(n), info(n)).
-use Rattle.std.proofs.Common.{◌≡◌, ◌==◌, ◌||◌, ℕ, zero, suc, Bool, true, false, drop, is_some, bytes_eq, cond, nat_lt, List, [], ◌∷◌, Option, Some, None, length, decimal, codes, refl, ap, sym, subst}
+use Rattle.std.proofs.Common.{◌≡◌, ◌==◌, ◌||◌, ℕ, zero, suc, Bool, true, false, drop, is_some, bytes_eq, cond, nat_lt}
+use Rattle.std.proofs.Common.{List, [], ◌∷◌, Option, Some, None, length, decimal, codes, refl, ap, sym, subst}
 use Rattle.std.specs.List.{AllByRecursion}
 use Rattle.tt_calls.specs.Outcomes.{failed, fine}
 use Rattle.tt_calls.specs.Usages.{bad_option, wrong_number}
@@ -14,12 +15,14 @@ use Rattle.tt_store.specs.Levels.{HasDepth, Levels, above, caller_of}
 use Rattle.tt_variable_commands.specs.Beginning.{BeginsScript, BeginsAt, uplevel}
 use Rattle.tt_variable_commands.specs.LevelCommands.{IsCommand, Runs, commands, first_named, row_of}
 use Rattle.tt_variable_commands.specs.Counting.{IsAlong, IsFrame, IsFrameBy, count_of, frame_below, frame_up, is_numbered}
-use Rattle.tt_variable_commands.specs.Linking.{Each, GlobalBy, LinksFrom, LinksIn, LinksName, LinksOne, LinksPair, UpvarBy, fails, global, message_of, more, none, pairs_of, upvar}
+use Rattle.tt_variable_commands.specs.Linking.{Each, GlobalBy, LinksFrom, LinksIn, LinksName, LinksOne, LinksPair}
+use Rattle.tt_variable_commands.specs.Linking.{UpvarBy, fails, global, message_of, more, none, pairs_of, upvar}
 use Rattle.tt_store.specs.Scalars.{outcome_by}
 use Rattle.tt_variable_commands.specs.LevelMessages.{bad_level, bad_name}
 use Rattle.tt_variable_commands.specs.Telling.{Tells, bit, exists, info, level, topic_of}
 use Rattle.tt_variable_commands.specs.LevelWords.{is_levelled, is_odd, parted}
-use Rattle.laws_language.proofs.Once.{Once, Only, either-way, fails-once, find-each, goes-fails, goes-once, once-by, once-made, once-then, once-told, only-made, only-told}
+use Rattle.laws_language.proofs.Once.{Once, Only, either-way, fails-once, find-each, goes-fails, goes-once, once-by}
+use Rattle.laws_language.proofs.Once.{once-made, once-then, once-told, only-made, only-told}
 use Rattle.laws_language.proofs.Held.{is_there-once, links_to-once}
 use Rattle.laws_language.proofs.VariableCommands.{ComesToOne, ends-once, fails_with-once, refuses-once}
 
@@ -64,7 +67,8 @@ links_one-once false word local frame other old =
     once-by (λ (answer : Linked) (new : Held). LinksTo old local frame other new answer) (message_of word) (links_to-once old local frame other)
 
 module _ {X : Type 0} (Links : X → Held → Option (List ℕ) → Held → Type 0) (once : (x : X) (old : Held) → Once (Links x old)) where
-  each-same : {xs : List X} {old new next : Held} {one other : Option (List ℕ)} → Each Links xs old one new → Each Links xs old other next → (one ≡ other) × (new ≡ next)
+  each-same : {xs : List X} {old new next : Held} {one other : Option (List ℕ)} → Each Links xs old one new → Each Links xs old other next →
+      (one ≡ other) × (new ≡ next)
   each-same none none = (refl, refl)
   each-same {next = end} {other = other} (more {xs = xs} links rest) (more its later) =
       let same = goes-once Links once links its in
@@ -134,7 +138,7 @@ level-once : (words : List (List ℕ)) (old : Held) → Once (level words old)
 level-once [] old = once-made (HasDepth old.levels) (λ depth. fine (decimal depth)) old (depth-once old.levels)
 level-once (word ∷ words) old = refuses-once (codes "info level") old
 
--- what is told is chosen by a word
+-- what is answered is chosen by a word
 tells-once : (word : List ℕ) (words : List (List ℕ)) (old : Held) → Once (Tells (topic_of word) word words old)
 tells-once word words old =
     let nothing = topic_of [] in

@@ -10,7 +10,7 @@ Only {A} R = (one other : A) → R one → R other → one ≡ other
 abbrev pub Once : {A B : Type 0} → (A → B → Type 0) → Type 0
 Once {A} {B} R = (one other : A) (new next : B) → R one new → R other next → (one ≡ other) × (new ≡ next)
 
--- what is told outright
+-- what is answered outright
 pub only-told : {A : Type 0} (told : A) → Only (λ (a : A). a ≡ told)
 only-told told one other is its = is ∙ sym its
 
@@ -26,7 +26,7 @@ pub once-made : {W A B : Type 0} (R : W → Type 0) (make : W → A) (kept : B) 
 once-made R make kept only one other new next is its =
     (is.2 ∙ ap make (only is.0 its.0 is.1 its.1) ∙ sym its.2, is.3 ∙ sym its.3)
 
--- the same where what is kept comes with it
+-- the same if what is kept comes with it
 pub once-by : {W A B : Type 0} (R : W → B → Type 0) (make : W → A) → Once R
     → Once (λ (a : A) (b : B). (w : W) × R w b × (a ≡ make w))
 once-by R make once one other new next is its =
@@ -64,7 +64,8 @@ module _ {X A B : Type 0} (R : X → B → Option A → B → Type 0) (once : (x
   pub goes-fails : {x : X} {old next after : B} {told : A} → R x old None next → R x old (Some told) after → ⊥
   goes-fails {x} {old} {next} {after} {told} is its = none-told (once x old None (Some told) next after is its).0
 
-  pub fails-once : {x : X} {old next after : B} {told tells : A} → R x old (Some told) next → R x old (Some tells) after → (Some told ≡ Some tells) × (next ≡ after)
+  pub fails-once : {x : X} {old next after : B} {told tells : A} → R x old (Some told) next → R x old (Some tells) after → (Some told ≡ Some tells)
+      × (next ≡ after)
   fails-once {x} {old} {next} {after} {told} {tells} is its = once x old (Some told) (Some tells) next after is its
 
 -- ---- the first of a list that passes ----

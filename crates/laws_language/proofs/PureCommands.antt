@@ -1,5 +1,6 @@
 -- The commands that answer by their words alone have one outcome each (string(n), lsort(n), lsearch(n), format(n)).
-use Rattle.std.proofs.Common.{◌≡◌, ◌∙◌, ◌-◌, ◌↔◌, ℕ, ℤ, Bool, true, false, IsTrue, List, [], ◌∷◌, Option, Some, None, Result, Ok, Err, length, take, drop, bytes_eq, codes, refl, sym}
+use Rattle.std.proofs.Common.{◌≡◌, ◌∙◌, ◌-◌, ◌↔◌, ℕ, ℤ, Bool, true, false, IsTrue, List, [], ◌∷◌, Option, Some, None}
+use Rattle.std.proofs.Common.{Result, Ok, Err, length, take, drop, bytes_eq, codes, refl, sym}
 use Rattle.std.specs.List.{AllByRecursion}
 use Rattle.tt_format.specs.Formatting.{IsFormat}
 use Rattle.tt_list_commands.specs.declared.sorting.Sorting.{Sorting}
@@ -34,7 +35,10 @@ use Rattle.tt_pure.specs.Searching.{IsLsearch, IsSearchBy, IsSearchOf, IsSearchW
 use Rattle.tt_pure.specs.Sorting as sorting
 use Rattle.tt_pure.specs.Sorting.{IsLsort, IsSortBy, IsSortOf, IsSortWith, plain_sort, sort_flags}
 use Rattle.tt_pure.specs.StringTable.{IsNamedAnswer, IsString, first_subcommand, string_row, subcommands}
-use Rattle.tt_pure.specs.Strings.{IsFirstAnswer, IsLastAnswer, IsMapAnswer, IsMappedBy, IsMappedIf, IsMatchAnswer, IsRepeatAnswer, IsRepeatedBy, compare_answer, equal_answer, index_answer, is_paired, length_answer, lower_answer, place_text, range_answer, repetition_answer, reverse_answer, trim_answer, truth, upper_answer}
+use Rattle.tt_pure.specs.Strings.{IsFirstAnswer, IsLastAnswer, IsMapAnswer, IsMappedBy, IsMappedIf, IsMatchAnswer}
+use Rattle.tt_pure.specs.Strings.{IsRepeatAnswer, IsRepeatedBy, compare_answer, equal_answer, index_answer, is_paired}
+use Rattle.tt_pure.specs.Strings.{length_answer, lower_answer, place_text, range_answer, repetition_answer}
+use Rattle.tt_pure.specs.Strings.{reverse_answer, trim_answer, truth, upper_answer}
 use Rattle.tt_pure.specs.Table.{IsAnswer, IsOutcome, command_of, commands, row_of}
 use Rattle.tt_pure.specs.Texts.{IsSplitAnswer, IsSplitAt, concat, join}
 use Rattle.tt_pure.specs.Usages.{bad_option, outcome_of, wrong_number}
@@ -43,7 +47,7 @@ use Rattle.laws_language.proofs.Formats.{format-once}
 use Rattle.laws_language.proofs.Once.{Only, find-each, only-made, only-told}
 use Rattle.laws_language.proofs.Strings.{first-once, last-once, mapped-once, repeated-once, split-once}
 
--- a meaning tells one answer to words
+-- a meaning has one answer to words
 abbrev MeansOne : Meaning → Type 0
 MeansOne meaning = (wrong : ListAnswer) (words : List (List ℕ)) → Only (meaning wrong words)
 
@@ -181,7 +185,8 @@ search_with-once : (wrong : ListAnswer) (how : Option Search) (list pattern : Li
 search_with-once wrong (Some how) list pattern = only-told (search_answer how list pattern)
 search_with-once wrong None list pattern = only-told wrong
 
-search_by-once : (wrong : ListAnswer) (unknown : Option (List ℕ)) (options : List (List ℕ)) (list pattern : List ℕ) → Only (IsSearchBy wrong unknown options list pattern)
+search_by-once : (wrong : ListAnswer) (unknown : Option (List ℕ)) (options : List (List ℕ)) (list pattern : List ℕ) →
+    Only (IsSearchBy wrong unknown options list pattern)
 search_by-once wrong (Some word) options list pattern = only-told (bad_option word)
 search_by-once wrong None options list pattern = search_with-once wrong (searching.with_flags plain_search options) list pattern
 

@@ -1,5 +1,6 @@
 -- Readings from the left come to the commands of the text: each takes a byte at least.
-use Rattle.std.proofs.Common.{◌≡◌, ℕ, zero, suc, ◌+◌, ◌<◌, ◌≤◌, List, [], ◌∷◌, ◌++◌, length, drop, Option, Some, None, refl, sym, subst, append-nil, append_assoc, length-drop, arith}
+use Rattle.std.proofs.Common.{◌≡◌, ℕ, zero, suc, ◌+◌, ◌<◌, ◌≤◌, List, [], ◌∷◌, ◌++◌, length, drop, Option, Some, None}
+use Rattle.std.proofs.Common.{refl, sym, subst, append-nil, append_assoc, length-drop, arith}
 use Rattle.tt_code.specs.Substitution.{words_needs}
 use Rattle.tt_script.specs.Reading.{first, moved}
 use Rattle.tt_script.specs.Words.{PlainCommand, PlainFirst, nothing, bad, command}

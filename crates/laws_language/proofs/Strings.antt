@@ -121,7 +121,8 @@ module _ (splitting : List Character) where
       let first : c ≡ d = cc in
       (ap (λ x. x ∷ front) first ∙ ap (λ xs. d ∷ xs) same.0, same.1)
 
-  no-field : (text front : List Character) (s : Character) (rest : List Character) → HasNone splitting text → is_among splitting s ≡ true → text ≡ front ++ s ∷ rest → ⊥
+  no-field : (text front : List Character) (s : Character) (rest : List Character) → HasNone splitting text → is_among splitting s ≡ true →
+      text ≡ front ++ s ∷ rest → ⊥
   no-field [] [] s rest none is e = absurd (cc e)
   no-field [] (d ∷ front) s rest none is e = absurd (cc e)
   no-field (c ∷ text) [] s rest none is e = let same : s ≡ c = cc in true-false same is none.0
@@ -129,8 +130,10 @@ module _ (splitting : List Character) where
 
   split-same : {text : List Character} {one other : List (List ℕ)} → IsSplit splitting text one → IsSplit splitting text other → one ≡ other
   split-same (last none) (last lacks) = refl
-  split-same {text} (last none) (field {first = first} {rest = rest} begins more) = absurd (no-field text first begins.splits rest none begins.listed begins.cut)
-  split-same {text} (field {first = first} {rest = rest} begins more) (last none) = absurd (no-field text first begins.splits rest none begins.listed begins.cut)
+  split-same {text} (last none) (field {first = first} {rest = rest} begins more) =
+      absurd (no-field text first begins.splits rest none begins.listed begins.cut)
+  split-same {text} (field {first = first} {rest = rest} begins more) (last none) =
+      absurd (no-field text first begins.splits rest none begins.listed begins.cut)
   split-same (field {first = first} {rest = rest} {fields = after} begins more) (field {first = start} {rest = left} {fields = others} begun most) =
       let same = fields-same first start begins.splits begun.splits rest left begins.none begun.none begins.listed begun.listed (sym begins.cut ∙ begun.cut) in
       let ends = split-same more (subst (λ (text : List Character). IsSplit splitting text others) (sym same.1) most) in

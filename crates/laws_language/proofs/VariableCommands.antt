@@ -1,5 +1,6 @@
 -- The commands on variables have one outcome each (set(n), unset(n), incr(n), append(n), lappend(n), lassign(n)).
-use Rattle.std.proofs.Common.{◌≡◌, ℕ, Bool, true, false, bytes_eq, nat_lt, codes, drop, List, [], ◌∷◌, Option, Some, None, Result, option_map, refl, sym, subst, length}
+use Rattle.std.proofs.Common.{◌≡◌, ℕ, Bool, true, false, bytes_eq, nat_lt, codes, drop, List, [], ◌∷◌, Option, Some}
+use Rattle.std.proofs.Common.{None, Result, option_map, refl, sym, subst, length}
 use Rattle.std.specs.List.{AllByRecursion}
 use Rattle.tt_calls.specs.declared.outcome.Outcome.{Outcome}
 use Rattle.tt_calls.specs.Outcomes.{failed, fine}
@@ -18,14 +19,16 @@ use Rattle.tt_vars.specs.declared.answers.VarFault.{VarFault}
 use Rattle.tt_vars.specs.declared.answers.Written.{Written}
 use Rattle.tt_outcomes.specs.declared.want.Body.TheVariants as body
 use Rattle.tt_store.specs.declared.answers.Answer.TheVariants as answers
-use Rattle.tt_store.specs.Commands.{Coming, IsCommand, IsPure, PackageBy, Runs, commands, ends, eval, first_named, flush, package_require, required, row_of, version_of}
+use Rattle.tt_store.specs.Commands.{Coming, IsCommand, IsPure, PackageBy, Runs, commands, ends, eval, first_named}
+use Rattle.tt_store.specs.Commands.{flush, package_require, required, row_of, version_of}
 use Rattle.tt_store.specs.Held.{Drops, Fails, Finds, Held, Meaning, ReadsWord, Refuses, Sets, with_levels}
 use Rattle.tt_store.specs.Levels.{begun_in}
 use Rattle.tt_store.specs.Listed as listed
 use Rattle.tt_store.specs.Listed.{Assigns, AssignsItems, AssignsOne, lappend, lassign, message_of, paired, told_rest}
 use Rattle.tt_store.specs.Messages.{cannot_unset}
 use Rattle.tt_store.specs.Scalars as scalars
-use Rattle.tt_store.specs.Scalars.{Changes, Counts, DropsOne, GivesMade, Unsets, UnsetsAll, UnsetsIf, append, counting, outcome_by, first_unknown, front, incr, incremented, made_of, set, told_of, unset}
+use Rattle.tt_store.specs.Scalars.{Changes, Counts, DropsOne, GivesMade, Unsets, UnsetsAll, UnsetsIf, append, counting}
+use Rattle.tt_store.specs.Scalars.{outcome_by, first_unknown, front, incr, incremented, made_of, set, told_of, unset}
 use Rattle.tt_store.specs.Spots.{spot_of}
 use Rattle.laws_language.proofs.Once.{Once, Only, fails-once, goes-fails, goes-once, find-each, once-by, once-kept, once-made, once-then, once-told, only-made}
 use Rattle.laws_language.proofs.PureCommands.{pure-once}

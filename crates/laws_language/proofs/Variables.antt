@@ -4,7 +4,9 @@ use Rattle.tt_vars.specs.declared.answers.Linked.{Linked}
 use Rattle.tt_vars.specs.declared.answers.VarFault.{VarFault}
 use Rattle.tt_vars.specs.declared.variable.Place.{Place}
 use Rattle.tt_vars.specs.Variables.{Name, Frame, Puts}
-use Rattle.tt_vars.specs.Links.{AreSame, HasNames, HasSize, Links, Reads, Removed, Removes, StandsFor, Writes, elements_at, is_same, itself, link_answer, linked, linked_by, nothing, onward, place_of, read_at, removed_of, written_at}
+use Rattle.tt_vars.specs.Links.{AreSame, HasNames, HasSize, Links, Reads, Removed, Removes, StandsFor, Writes}
+use Rattle.tt_vars.specs.Links.{elements_at, is_same, itself, link_answer, linked, linked_by, nothing, onward, place_of}
+use Rattle.tt_vars.specs.Links.{read_at, removed_of, written_at}
 use Rattle.std.specs.Map.{keys_of}
 use Rattle.std.specs.Option.{option_map}
 use Rattle.laws_language.proofs.Once.{Once, Only, only-made, once-then}

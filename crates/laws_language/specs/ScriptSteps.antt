@@ -9,7 +9,7 @@ use Rattle.tt_frames.specs.Programs.{PlainStep, Wrong, Does, steps_of}
 
 -- the commands of a text from a place on
 pub data AreCommands (text : List ℕ) : (from : ℕ) → List PlainStep → Type 0 where
-  -- none, where no command follows
+  -- none, if no command follows
   no_command : {from : ℕ} → first (drop from text) ≡ nothing → AreCommands text from []
   -- one that can't be read, and none after it
   unreadable : {from start : ℕ} {fault : ParseFault}

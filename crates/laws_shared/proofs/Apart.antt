@@ -47,7 +47,8 @@ module _ {X : Type 0} where
       go true here later = subst (λ text. at text es ≡ None) (sym (same_key id e.0 here)) apart.0
       go false here later = rw here later
 
-  pub apart-insert : (id : List ℕ) (entries : Entries X) (x : X) → at id entries ≡ None → AreApart entries → AreApart (insert_entry (slice_cmp nat_cmp) entries id x)
+  pub apart-insert : (id : List ℕ) (entries : Entries X) (x : X) → at id entries ≡ None → AreApart entries →
+      AreApart (insert_entry (slice_cmp nat_cmp) entries id x)
   apart-insert id [] x none apart = (refl, apart)
   apart-insert id (e ∷ es) x none apart = go (slice_cmp nat_cmp id e.0) refl none (apart-insert id es x)
     where
@@ -100,6 +101,7 @@ module _ {X : Type 0} (stays : X → Bool) (change : X → X) where
   apart-ended [] apart = apart
   apart-ended (e ∷ es) apart = go (stays e.1) (apart-ended es apart.1)
     where
-      go : (stay : Bool) → AreApart (ended es) → AreApart (map (λ entry. (entry.0, change entry.1)) (cond stay (e ∷ filter (λ entry. stays entry.1) es) (filter (λ entry. stays entry.1) es)))
+      go : (stay : Bool) → AreApart (ended es) →
+          AreApart (map (λ entry. (entry.0, change entry.1)) (cond stay (e ∷ filter (λ entry. stays entry.1) es) (filter (λ entry. stays entry.1) es)))
       go true later = (left-is e.0 es apart.1 ∙ ap (left stays change) apart.0, later)
       go false later = later

@@ -20,10 +20,13 @@ use Rattle.tt_tsv.specs.Calls as arrays
 use Rattle.tt_tsv.specs.Arrays.{Table}
 
 -- a call that need not wait is answered
-answered : (table : Table) (t : ℕ) (call : TsvCall) → IsTrue (not (waits table t call)) → step.Reply (reply_of (step_after table t call)) ≡ step_after table t call
+answered : (table : Table) (t : ℕ) (call : TsvCall) → IsTrue (not (waits table t call)) →
+    step.Reply (reply_of (step_after table t call)) ≡ step_after table t call
 answered table t call ready = go (waits table t call) ready
   where
-    go : (waiting : Bool) → IsTrue (not waiting) → step.Reply (reply_of (if waiting then step.Wait else step.Reply (arrays.act table t call).reply)) ≡ (if waiting then step.Wait else step.Reply (arrays.act table t call).reply)
+    go : (waiting : Bool) → IsTrue (not waiting) →
+        step.Reply (reply_of (if waiting then step.Wait else step.Reply (arrays.act table t call).reply)) ≡
+        (if waiting then step.Wait else step.Reply (arrays.act table t call).reply)
     go true ready = absurd (cc ready)
     go false ready = refl
 
@@ -37,7 +40,8 @@ one state t request line ready = record { arrays = arrays_kept state t request l
 first-is : {one other : Step} {steps others : List Step} → one ∷ steps ≡ other ∷ others → one ≡ other
 first-is is = cc
 
-more_arrays : (table : Table) (call : Option ArrayCall) (calls : List ArrayCall) → arrays_after (arrays_after table (cons_option call [])) calls ≡ arrays_after table (cons_option call calls)
+more_arrays : (table : Table) (call : Option ArrayCall) (calls : List ArrayCall) →
+    arrays_after (arrays_after table (cons_option call [])) calls ≡ arrays_after table (cons_option call calls)
 more_arrays table None calls = refl
 more_arrays table (Some call) calls = refl
 
@@ -63,5 +67,6 @@ arrays_alone old new (action ∷ actions) (more can rest) =
     let calls = array_calls actions in
     record {
       arrays = later.arrays ∙ ap (λ table. arrays_after table calls) first.arrays ∙ more_arrays old.arrays (array_call action) calls;
-      replies = more_replies old.arrays next.arrays (array_call action) calls (acted old action).gives.reply (array_replies next actions) first.arrays first.replies later.replies;
+      replies = more_replies old.arrays next.arrays (array_call action) calls (acted old action).gives.reply
+          (array_replies next actions) first.arrays first.replies later.replies;
     }

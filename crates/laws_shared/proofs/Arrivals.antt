@@ -1,5 +1,6 @@
 -- How many events bring a channel, after the queues were changed.
-use Rattle.std.proofs.Common.{◌≡◌, ◌≢◌, ◌∙◌, ◌-◌, ◌+◌, ◌==◌, ℕ, Bool, true, false, cond, List, [], ◌∷◌, ◌++◌, count_by, length, Option, Some, None, if◌then◌else◌, ap, refl, sym, arith}
+use Rattle.std.proofs.Common.{◌≡◌, ◌≢◌, ◌∙◌, ◌-◌, ◌+◌, ◌==◌, ℕ, Bool, true, false, cond, List, [], ◌∷◌, ◌++◌, count_by}
+use Rattle.std.proofs.Common.{length, Option, Some, None, if◌then◌else◌, ap, refl, sym, arith}
 use Rattle.std.proofs.lemmas.Bool.Decides.{nat_tests}
 use Rattle.std.proofs.lemmas.List.Sums.{sum_by-cons, sum_by_push}
 use Rattle.tt_calls.specs.declared.event.Event.{Event}
@@ -18,7 +19,8 @@ count text events = count_by (brings text) events
 pub count-cons : (text : List ℕ) (event : Event) (events : List Event) → count text (event ∷ events) ≡ weight text event + count text events
 count-cons text event events = sum_by-cons (weight text) event events
 
-count-placed : (text : List ℕ) (head : Bool) (event : Event) (events : List Event) → count text (with_event head event events) ≡ count text events + weight text event
+count-placed : (text : List ℕ) (head : Bool) (event : Event) (events : List Event) →
+    count text (with_event head event events) ≡ count text events + weight text event
 count-placed text true event events = count-cons text event events ∙ omega arith
 count-placed text false event events = sum_by_push (weight text) events event
 
@@ -42,7 +44,8 @@ by_queue queues t u text old new expected there here other = go (u == t) refl
 -- ---- quiet changes ----
 
 -- an event that brings none is put into a queue
-pub by_mail : (queues : Queues) (t : ℕ) (head : Bool) (event : Event) → ((text : List ℕ) → brings text event ≡ false) → SameArrivals queues (queued queues t head event)
+pub by_mail : (queues : Queues) (t : ℕ) (head : Bool) (event : Event) → ((text : List ℕ) → brings text event ≡ false) →
+    SameArrivals queues (queued queues t head event)
 by_mail queues t head event quiet = go (queue_of queues t) refl
   where
     go : (found : Option (List Event)) → queue_of queues t ≡ found → SameArrivals queues (queued_in queues t head event found)
@@ -93,7 +96,8 @@ by_taking queues t u event events text there = go (u == t) refl
     go : (b : Bool) → (u == t) ≡ b → arrivals (with_queue queues t events) u text + (if b then weight text event else 0) ≡ arrivals queues u text
     go true is =
         let same : u ≡ t = deciding.same u t is in
-        let had : arrivals queues u text ≡ count text (event ∷ events) = ap (λ one. arrivals queues one text) same ∙ ap (λ found. count text (events_in found)) there in
+        let had : arrivals queues u text ≡ count text (event ∷ events) =
+        ap (λ one. arrivals queues one text) same ∙ ap (λ found. count text (events_in found)) there in
         let has : arrivals (with_queue queues t events) u text ≡ count text events =
         by_queue queues t u text (event ∷ events) events (count text events) there (λ one. refl) (λ differs. absurd (differs same)) in
         omega (arith, had, has, count-cons text event events)
@@ -105,7 +109,8 @@ by_taking queues t u event events text there = go (u == t) refl
 pub by_emptying : (queues : Queues) (t u : ℕ) (text : List ℕ) → arrivals (emptied queues t) u text ≡ (if u == t then 0 else arrivals queues u text)
 by_emptying queues t u text = go (queue_of queues t) refl
   where
-    at : (found : Option (List Event)) → queue_of queues t ≡ found → (b : Bool) → (u == t) ≡ b → arrivals (emptied_in queues t found) u text ≡ (if b then 0 else arrivals queues u text)
+    at : (found : Option (List Event)) → queue_of queues t ≡ found → (b : Bool) → (u == t) ≡ b →
+        arrivals (emptied_in queues t found) u text ≡ (if b then 0 else arrivals queues u text)
     at None there true is =
         let same : u ≡ t = deciding.same u t is in
         ap (λ one. arrivals queues one text) same ∙ ap (λ found. count text (events_in found)) there
@@ -115,7 +120,8 @@ by_emptying queues t u text = go (queue_of queues t) refl
     at (Some events) there false is =
         by_queue queues t u text events [] (arrivals queues u text) there (λ same. absurd (deciding.differs u t is same)) (λ differs. refl)
 
-    go : (found : Option (List Event)) → queue_of queues t ≡ found → arrivals (emptied_in queues t found) u text ≡ (if u == t then 0 else arrivals queues u text)
+    go : (found : Option (List Event)) → queue_of queues t ≡ found →
+        arrivals (emptied_in queues t found) u text ≡ (if u == t then 0 else arrivals queues u text)
     go found there = at found there (u == t) refl
 
 pub many_emptied : (queues : Queues) (t : ℕ) → length (emptied queues t) ≡ length queues

@@ -4,7 +4,8 @@ use Rattle.tt_calls.specs.declared.chan_call.ChanCall.{ChanCall}
 use Rattle.tt_calls.specs.declared.chan_call.ChanCall.TheVariants as chan
 use Rattle.tt_calls.specs.declared.reply.Reply.TheVariants.{Go, Value}
 use Rattle.tt_calls.specs.Replies.{answers, refuses, Answered}
-use Rattle.tt_chans.specs.Calls.{act_own, attaches, eof, gets, id_of, if_owned, moved as move_ends, puts, puts_at, standard_message, table_after, transfers, waits}
+use Rattle.tt_chans.specs.Calls.{act_own, attaches, eof, gets, id_of, if_owned, moved as move_ends, puts, puts_at}
+use Rattle.tt_chans.specs.Calls.{standard_message, table_after, transfers, waits}
 use Rattle.tt_chans.specs.Channels.{ChannelTable, channel_of, is_standard, with_channel, with_pipe, without_channel}
 use Rattle.tt_chans.specs.Ends.{gets_line, owned, puts_into, takes_line, with_owner}
 use Rattle.tt_chans.specs.Lines.{has_line}
@@ -51,14 +52,16 @@ abbrev pub Removes : (P : ChannelTable → Type 0) → ChannelTable → (t : ℕ
 Removes P table t call = (text : List ℕ) (old : Channel) → call ≡ chan.Close text → IsFound t (channel_of table text) old → P (without_channel table text)
 
 module _ (P : ChannelTable → Type 0) (table : ChannelTable) (t : ℕ) (target : Option ℕ) (same : P table) where
-  if_found : (does : Channel → Answered ChannelTable) (text : List ℕ) → ((channel : Channel) → IsFound t (channel_of table text) channel → P (does channel).table) → P (if_owned does table t text).table
+  if_found : (does : Channel → Answered ChannelTable) (text : List ℕ) →
+      ((channel : Channel) → IsFound t (channel_of table text) channel → P (does channel).table) → P (if_owned does table t text).table
   if_found does text found = go (owned t (channel_of table text)) refl
     where
       go : (one : Option Channel) → owned t (channel_of table text) ≡ one → P (if_owned does table t text).table
       go None is = rw (is, if_owned) same
       go (Some channel) is = rw (is, if_owned) (found channel (owned_is t (channel_of table text) channel is))
 
-  by_reader : (text other bytes : List ℕ) (found : Option Channel) → channel_of table other ≡ found → Sets P table t target (chan.Put text bytes) → P (puts_at table other bytes found).table
+  by_reader : (text other bytes : List ℕ) (found : Option Channel) → channel_of table other ≡ found → Sets P table t target (chan.Put text bytes) →
+      P (puts_at table other bytes found).table
   by_reader text other bytes None is sets = same
   by_reader text other bytes (Some reader) is sets =
       sets other reader (puts_into reader bytes reader.end).channel is (speaks refl (puts_owner reader bytes reader.end))
@@ -70,7 +73,8 @@ module _ (P : ChannelTable → Type 0) (table : ChannelTable) (t : ℕ) (target 
       go Writes is = rw (is, puts) (by_reader text channel.other bytes (channel_of table channel.other) refl sets)
       go (Reads before ended) is = rw (is, puts) same
 
-  by_attach : (text : List ℕ) (found : Option Channel) → channel_of table text ≡ found → Sets P table t target (chan.Attach text) → P (attaches table t text found).table
+  by_attach : (text : List ℕ) (found : Option Channel) → channel_of table text ≡ found → Sets P table t target (chan.Attach text) →
+      P (attaches table t text found).table
   by_attach text None is sets = same
   by_attach text (Some channel) is sets = go channel.owner refl
     where
@@ -79,7 +83,8 @@ module _ (P : ChannelTable → Type 0) (table : ChannelTable) (t : ℕ) (target 
       go (Thread thread) whose = rw (whose, attaches) same
       go (Moving from to) whose = rw (whose, attaches) same
 
-  by_transfer : (thread text : List ℕ) (to : Option ℕ) (channel : Channel) → target ≡ to → IsFound t (channel_of table text) channel → Sets P table t target (chan.Transfer thread text) → P (transfers table t thread text to channel).table
+  by_transfer : (thread text : List ℕ) (to : Option ℕ) (channel : Channel) → target ≡ to → IsFound t (channel_of table text) channel →
+      Sets P table t target (chan.Transfer thread text) → P (transfers table t thread text to channel).table
   by_transfer thread text None channel is found sets = same
   by_transfer thread text (Some to) channel is found sets = go (to == t)
     where
@@ -87,11 +92,13 @@ module _ (P : ChannelTable → Type 0) (table : ChannelTable) (t : ℕ) (target 
       go true = same
       go false = sets text channel (with_owner channel (Moving (Some t) to)) found.there (moved refl is found.owner refl)
 
-  by_own : (call : ChanCall) → Sets P table t target call → Removes P table t call → (call ≡ chan.Pipe → P (with_pipe table t)) → P (act_own table t target call).table
+  by_own : (call : ChanCall) → Sets P table t target call → Removes P table t call → (call ≡ chan.Pipe → P (with_pipe table t)) →
+      P (act_own table t target call).table
   by_own chan.Pipe sets removes makes = makes refl
   by_own (chan.Put text bytes) sets removes makes = if_found (puts table text bytes) text (λ channel found. by_put text bytes channel sets)
   by_own (chan.GetLine text) sets removes makes =
-      if_found (gets table text) text (λ channel found. sets text channel (gets_line channel text channel.end).channel found.there (speaks refl (line_owner channel text channel.end)))
+      if_found (gets table text) text
+      (λ channel found. sets text channel (gets_line channel text channel.end).channel found.there (speaks refl (line_owner channel text channel.end)))
   by_own (chan.Eof text) sets removes makes = if_found (eof table) text (λ channel found. same)
   by_own (chan.Close text) sets removes makes = if_found _ text (λ channel found. removes text channel refl found)
   by_own (chan.Detach text) sets removes makes =
@@ -105,13 +112,15 @@ module _ (P : ChannelTable → Type 0) (table : ChannelTable) (t : ℕ) (target 
       go None = same
       go (Some channel) = same
 
-  pub by_call : (call : ChanCall) → Sets P table t target call → Removes P table t call → (call ≡ chan.Pipe → P (with_pipe table t)) → P (table_after table t target call)
+  pub by_call : (call : ChanCall) → Sets P table t target call → Removes P table t call → (call ≡ chan.Pipe → P (with_pipe table t)) →
+      P (table_after table t target call)
   by_call call sets removes makes = either (waits table t call) (is_standard (id_of call))
     where
       if_standard : (b : Bool) → P (if b then refuses table (standard_message (id_of call) call) else act_own table t target call).table
       if_standard true = same
       if_standard false = by_own call sets removes makes
 
-      either : (waiting standard : Bool) → P (if waiting then table else (if standard then refuses table (standard_message (id_of call) call) else act_own table t target call).table)
+      either : (waiting standard : Bool) →
+          P (if waiting then table else (if standard then refuses table (standard_message (id_of call) call) else act_own table t target call).table)
       either true standard = same
       either false standard = if_standard standard

@@ -1,8 +1,11 @@
 -- Ids of channels are drawn upwards: each that is there has a number that was drawn, and none is there twice.
-use Rattle.std.proofs.Common.{◌≡◌, ◌≢◌, ◌+◌, ◌*◌, ◌≤◌, ◌<◌, ◌^◌, ℕ, Bool, true, false, if◌then◌else◌, List, [], ◌∷◌, length, Option, Some, None, IfSome, refl, sym, subst, arith}
+use Rattle.std.proofs.Common.{◌≡◌, ◌≢◌, ◌+◌, ◌*◌, ◌≤◌, ◌<◌, ◌^◌, ℕ, Bool, true, false, if◌then◌else◌, List, [], ◌∷◌}
+use Rattle.std.proofs.Common.{length, Option, Some, None, IfSome, refl, sym, subst, arith}
 use Rattle.std.specs.Map.{remove_entry}
 use Rattle.tt_calls.specs.declared.request.Request.{Request}
-use Rattle.tt_chans.specs.Channels.{ChannelTable, channel_of, given, inserted, no_channels, owner_given, read_end, read_id, table_after_end, with_channel, with_pipe, without_channel, write_end, write_id}
+use Rattle.tt_chans.specs.Channels.{ChannelTable, channel_of, given, inserted, no_channels, owner_given, read_end}
+use Rattle.tt_chans.specs.Channels.{read_id, table_after_end, with_channel, with_pipe, without_channel, write_end}
+use Rattle.tt_chans.specs.Channels.{write_id}
 use Rattle.tt_chans.specs.Ends.{after_end, stays_open, with_owner}
 use Rattle.tt_chans.specs.declared.channel.Channel.{Channel}
 use Rattle.laws_shared.proofs.Apart.{AreApart, apart-ended, apart-insert, apart-remove, apart-set, left, left-is, other_key, remove_here}
@@ -60,7 +63,8 @@ module _ (table : ChannelTable) (drawn : IsDrawn table) where
   pub by_close : (text : List ℕ) → IsDrawn (without_channel table text)
   by_close text = record { used = λ other. go other (is_key text other) refl; apart = apart-remove text table.channels drawn.apart }
     where
-      go : (other : List ℕ) (b : Bool) → is_key text other ≡ b → IfSome (at other (remove_entry (is_key text) table.channels)) (λ channel. IsUsed table.next other)
+      go : (other : List ℕ) (b : Bool) → is_key text other ≡ b →
+          IfSome (at other (remove_entry (is_key text) table.channels)) (λ channel. IsUsed table.next other)
       go other true same =
           let none : at other (remove_entry (is_key text) table.channels) ≡ None =
           subst (λ one. at one (remove_entry (is_key text) table.channels) ≡ None) (same_key text other same) (remove_here text table.channels drawn.apart) in
@@ -70,11 +74,13 @@ module _ (table : ChannelTable) (drawn : IsDrawn table) where
 
   pub by_end : (t : ℕ) → IsDrawn (table_after_end table t)
   by_end t = record {
-    used = λ text. subst (λ found. IfSome found (λ channel. IsUsed table.next text)) (sym (left-is (stays_open t) (after_end t) text table.channels drawn.apart)) (go text (channel_of table text) (drawn.used text));
+    used = λ text. subst (λ found. IfSome found (λ channel. IsUsed table.next text))
+        (sym (left-is (stays_open t) (after_end t) text table.channels drawn.apart)) (go text (channel_of table text) (drawn.used text));
     apart = apart-ended (stays_open t) (after_end t) table.channels drawn.apart;
   }
     where
-      go : (text : List ℕ) (found : Option Channel) → IfSome found (λ channel. IsUsed table.next text) → IfSome (left (stays_open t) (after_end t) found) (λ channel. IsUsed table.next text)
+      go : (text : List ℕ) (found : Option Channel) → IfSome found (λ channel. IsUsed table.next text) →
+          IfSome (left (stays_open t) (after_end t) found) (λ channel. IsUsed table.next text)
       go text None is = tt
       go text (Some channel) is = either (stays_open t channel)
         where
@@ -107,7 +113,9 @@ by_pipe P table t text reads writes is =
 pub pipe_drawn : (table : ChannelTable) (t : ℕ) → IsDrawn table → table.next + 2 < 2 ^ 64 → IsDrawn (with_pipe table t)
 pipe_drawn table t drawn small =
     let with_reader = inserted table.channels (read_id table) (read_end table t) in
-    let still_new = by_insert (λ found. found ≡ None) (write_id table) (read_id table) table.channels (read_end table t) (λ same. absurd (ids_apart table small same)) (write_new table drawn small) in
+    let still_new =
+    by_insert (λ found. found ≡ None) (write_id table) (read_id table) table.channels (read_end table t)
+    (λ same. absurd (ids_apart table small same)) (write_new table drawn small) in
     record {
       used = λ text. by_pipe (λ found. IfSome found (λ channel. IsUsed (table.next + 2) text)) table t text
           (λ same. (table.next, omega arith, same))

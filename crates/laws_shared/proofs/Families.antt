@@ -21,7 +21,9 @@ use Rattle.tt_calls.specs.declared.pool_call.PoolCall.{PoolCall}
 use Rattle.tt_pools.specs.Calls as pools
 use Rattle.tt_pools.specs.declared.step.PoolStep.{PoolStep}
 use Rattle.tt_shared.specs.Acts.{act, creates, gives_of, has_newline, moves, on_pools, pools_after, reads, starts, stops_unheld, with_workers}
-use Rattle.tt_shared.specs.Sends.{awaits_at, broadcasts_to, come, delivers_at, delivers_value, is_asked, names_procedure, procedure_in_use, reports_to, sends, sends_linked, sends_named, sets, takes, takes_first}
+use Rattle.tt_shared.specs.Sends.{awaits_at, broadcasts_to, come, delivers_at, delivers_value, is_asked}
+use Rattle.tt_shared.specs.Sends.{names_procedure, procedure_in_use, reports_to, sends, sends_linked, sends_named, sets}
+use Rattle.tt_shared.specs.Sends.{takes, takes_first}
 use Rattle.tt_shared.specs.Mail.{first_of, variable_post}
 use Rattle.tt_shared.specs.State.{Acted, State, is_marked, room, with_thread}
 use Rattle.tt_shared.specs.declared.applied.Line.{Line}
@@ -43,7 +45,8 @@ Families = Table × LockTable × ChannelTable
 abbrev pub families : State → Families
 families state = (state.arrays, state.locks, state.channels)
 
-by_if : (b : Bool) (one other : Acted) (kept : Families) → families one.state ≡ kept → families other.state ≡ kept → families (if b then one else other).state ≡ kept
+by_if : (b : Bool) (one other : Acted) (kept : Families) → families one.state ≡ kept → families other.state ≡ kept →
+    families (if b then one else other).state ≡ kept
 by_if true one other kept first second = first
 by_if false one other kept first second = second
 
@@ -75,15 +78,18 @@ by_names state t (Some name) = refl
 
 -- ---- sends ----
 
-by_linked : (state : State) (t target : ℕ) (script : List ℕ) (mode : Mode) (variable : Option (List ℕ)) (head : Bool) → families (sends_linked state t target script mode variable head).state ≡ families state
+by_linked : (state : State) (t target : ℕ) (script : List ℕ) (mode : Mode) (variable : Option (List ℕ)) (head : Bool) →
+    families (sends_linked state t target script mode variable head).state ≡ families state
 by_linked state t target script Waits variable head = by_if _ _ _ _ refl refl
 by_linked state t target script Later variable head = refl
 
-by_named : (state : State) (t : ℕ) (text script : List ℕ) (mode : Mode) (variable : Option (List ℕ)) (head : Bool) (target : Option ℕ) → families (sends_named state t text script mode variable head target).state ≡ families state
+by_named : (state : State) (t : ℕ) (text script : List ℕ) (mode : Mode) (variable : Option (List ℕ)) (head : Bool) (target : Option ℕ) →
+    families (sends_named state t text script mode variable head target).state ≡ families state
 by_named state t text script mode variable head None = refl
 by_named state t text script mode variable head (Some target) = by_linked state t target script mode variable head
 
-by_sends : (state : State) (t : ℕ) (text script : List ℕ) (mode : Mode) (variable : Option (List ℕ)) (head : Bool) → families (sends state t text script mode variable head).state ≡ families state
+by_sends : (state : State) (t : ℕ) (text script : List ℕ) (mode : Mode) (variable : Option (List ℕ)) (head : Bool) →
+    families (sends state t text script mode variable head).state ≡ families state
 by_sends state t text script mode variable head =
     by_if (is_asked mode variable) _ _ _ (by_named state t text script mode variable head (linked state.rows text)) refl
 
@@ -94,7 +100,8 @@ by_awaits state t n (Some found) = by_if _ _ _ _ refl refl
 by_sets : (state : State) (post : VariablePost) (value : List ℕ) → families (sets state post value) ≡ families state
 by_sets state post value = either _ _ _ _ refl refl
 
-by_value : (state : State) (t n : ℕ) (outcome : Outcome) (found : Option VariablePost) → families (delivers_value state t n outcome found).state ≡ families state
+by_value : (state : State) (t n : ℕ) (outcome : Outcome) (found : Option VariablePost) →
+    families (delivers_value state t n outcome found).state ≡ families state
 by_value state t n outcome None = refl
 by_value state t n outcome (Some post) = by_if _ _ _ _ (by_sets _ post outcome.value) refl
 
@@ -201,7 +208,8 @@ abbrev pub is_on_arrays : Request → Bool
 is_on_arrays (ask.Tsv call) = true
 is_on_arrays request = false
 
-pub arrays_kept : (state : State) (t : ℕ) (request : Request) (line : Line) → is_on_arrays request ≡ false → (act state t request line).state.arrays ≡ state.arrays
+pub arrays_kept : (state : State) (t : ℕ) (request : Request) (line : Line) → is_on_arrays request ≡ false →
+    (act state t request line).state.arrays ≡ state.arrays
 arrays_kept state t (ask.Tsv call) line is = absurd (cc is)
 arrays_kept state t (ask.Lock call) line is = refl
 arrays_kept state t (ask.Pool call) line is = ap (λ (kept : Shelves). kept.0) (by_pools state t call)

@@ -34,7 +34,7 @@ module _ (state : State) (id : List ℕ) (drawn : IsDrawn state.channels) where
   abbrev table : ChannelTable
   table = state.channels
 
-  -- what is found then, where nothing is put in or taken
+  -- what is found then, if nothing is put in or taken
   abbrev Quiet : Option Channel → Type 0
   Quiet found = Flow table.next id (bytes_at table id) (bytes_in found) [] []
 
@@ -83,7 +83,8 @@ module _ (state : State) (id : List ℕ) (drawn : IsDrawn state.channels) where
   by_end : (t : ℕ) → Quiet (channel_of (table_after_end table t) id)
   by_end t = subst Quiet (sym (left-is (stays_open t) (after_end t) id table.channels drawn.apart)) (go (channel_of table id) same)
     where
-      go : (found : Option Channel) → Flow table.next id (bytes_in found) (bytes_in found) [] [] → Flow table.next id (bytes_in found) (bytes_in (left (stays_open t) (after_end t) found)) [] []
+      go : (found : Option Channel) → Flow table.next id (bytes_in found) (bytes_in found) [] [] →
+          Flow table.next id (bytes_in found) (bytes_in (left (stays_open t) (after_end t) found)) [] []
       go None is = is
       go (Some channel) is = either (stays_open t channel)
         where
@@ -106,7 +107,8 @@ module _ (state : State) (id : List ℕ) (drawn : IsDrawn state.channels) where
       (λ text old closes found small. by_close text)
       (λ is small. by_new_pipe t small)
 
-  pub quiet_after : (t : ℕ) (request : Request) (line : Line) → ((call : ChanCall) → request ≡ ask.Chan call → moves_bytes call ≡ false) → QuietIn (act state t request line).state.channels
+  pub quiet_after : (t : ℕ) (request : Request) (line : Line) → ((call : ChanCall) → request ≡ ask.Chan call → moves_bytes call ≡ false) →
+      QuietIn (act state t request line).state.channels
   quiet_after t request line quiet =
       by_action QuietIn state t (λ small. same) (λ text small. by_come t text (channel_of table text) refl) request line
       (λ call asks. quiet_call t (target_of state call) call (quiet call asks))

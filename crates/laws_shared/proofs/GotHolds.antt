@@ -1,5 +1,6 @@
 -- Who gets a hold of a lock holds it then.
-use Rattle.std.proofs.Common.{◌≡◌, ◌∙◌, ◌+◌, ◌<◌, ◌==◌, ◌||◌, ℕ, suc, Bool, true, false, cond, nat_lt, if◌then◌else◌, List, [], ◌∷◌, count_by, Option, Some, None, refl, arith}
+use Rattle.std.proofs.Common.{◌≡◌, ◌∙◌, ◌+◌, ◌<◌, ◌==◌, ◌||◌, ℕ, suc, Bool, true, false, cond, nat_lt, if◌then◌else◌}
+use Rattle.std.proofs.Common.{List, [], ◌∷◌, count_by, Option, Some, None, refl, arith}
 use Rattle.std.proofs.lemmas.Bool.Decides.{nat_tests}
 use Rattle.std.proofs.lemmas.List.Elements.{All-append, All-cons, All-nil}
 use Rattle.std.proofs.lemmas.List.Sums.{sum_by-cons}
@@ -14,7 +15,10 @@ use Rattle.tt_calls.specs.declared.request.Request.TheVariants as ask
 use Rattle.tt_chans.specs.Channels.{ChannelTable}
 use Rattle.tt_chans.specs.declared.channel.Channel.{Channel}
 use Rattle.laws_shared.specs.Actions.{Moment, acted}
-use Rattle.laws_shared.specs.Happenings.{Recipient, Happening, Happening as happening, recipient_of, began, deaths, delivered, got, happened, happens, hold_changed, holders_in, holds_changed, holds_of, is_owner, lock_named, others, owner_changed, owners_changed, post_died, post_set, posted_from, reported, sent, set_of, set_where, slot_died}
+use Rattle.laws_shared.specs.Happenings.{Recipient, Happening, Happening as happening, recipient_of, began, deaths}
+use Rattle.laws_shared.specs.Happenings.{delivered, got, happened, happens, hold_changed, holders_in, holds_changed}
+use Rattle.laws_shared.specs.Happenings.{holds_of, is_owner, lock_named, others, owner_changed, owners_changed}
+use Rattle.laws_shared.specs.Happenings.{post_died, post_set, posted_from, reported, sent, set_of, set_where, slot_died}
 use Rattle.laws_shared.specs.Owners.{owner_at}
 use Rattle.tt_locks.specs.Lock.{is_among}
 use Rattle.tt_locks.specs.Table.{LockTable, lock_of}
@@ -128,7 +132,8 @@ module _ (new : LockTable) where
       later = holds_of new text t
 
       go : (b : Bool) → nat_lt (holds_of old text t) (holds_of new text t) ≡ b
-          → All (IsHeld new) (if b then happening.GetsHold text t ∷ [] else (if nat_lt (holds_of new text t) (holds_of old text t) then happening.Frees text t ∷ [] else []))
+          → All (IsHeld new)
+          (if b then happening.GetsHold text t ∷ [] else (if nat_lt (holds_of new text t) (holds_of old text t) then happening.Frees text t ∷ [] else []))
       go true is = one _ (among_more (holds_of old text t) (holders_in (lock_of new text)) t is)
       go false is = if_one (nat_lt (holds_of new text t) (holds_of old text t)) _ tt
 
@@ -153,6 +158,7 @@ pub got_held : (moment : Moment) → All (IsHeld (acted moment.before moment.act
 got_held moment =
     let old = moment.before in
     let done = acted old moment.action in
-    All-append (IsHeld done.state.locks) (happens old done.state moment.action.thread moment.action.request done.gives.reply) (owners_changed old.channels done.state.channels)
+    All-append (IsHeld done.state.locks) (happens old done.state moment.action.thread moment.action.request done.gives.reply)
+    (owners_changed old.channels done.state.channels)
     (by_table old done.state moment.action.thread moment.action.request done.gives.reply)
     (by_owners done.state.locks old.channels done.state.channels)

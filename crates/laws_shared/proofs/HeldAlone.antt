@@ -68,12 +68,15 @@ held_after state t other name (ask.Tsv call) line own goes = by_call state t oth
 held_after state t other name request line own goes =
     subst (λ table. is_own t (array_of table name) ≡ true) (sym (arrays_kept state other request line refl)) own
 
-pub by_holder : (state : State) (action : Action) (t : ℕ) (name : List ℕ) → CanHappen state action → HoldsArray state t name → IsOn action name → action.thread ≡ t
+pub by_holder : (state : State) (action : Action) (t : ℕ) (name : List ℕ) → CanHappen state action → HoldsArray state t name → IsOn action name →
+    action.thread ≡ t
 by_holder state action t name can own on = go (action.thread == t) refl
   where
     go : (b : Bool) → (action.thread == t) ≡ b → action.thread ≡ t
     go true is = deciding.same action.thread t is
-    go false is = absurd (deciding.not_both (enabled state action.thread action.request) can.enabled (others_wait state t action.thread name action.request own on (deciding.differs action.thread t is)))
+    go false is =
+        absurd (deciding.not_both (enabled state action.thread action.request) can.enabled
+        (others_wait state t action.thread name action.request own on (deciding.differs action.thread t is)))
 
 -- ---- a list of them ----
 

@@ -64,7 +64,8 @@ one_hold state reached = one_in_state state (reached_have state reached)
 
 -- ---- a hold stays ----
 
-still : (state : State) (t u : ℕ) (text : List ℕ) (alone : Bool) (request : Request) (line : Line) → HaveOneHolder state.locks → hold_of state t text ≡ Some alone
+still : (state : State) (t u : ℕ) (text : List ℕ) (alone : Bool) (request : Request) (line : Line) → HaveOneHolder state.locks →
+    hold_of state t text ≡ Some alone
     → Still t alone (lock_of (act state u request line).state.locks text)
 still state t u text alone (ask.Lock call) line have was = still_after state.locks t u text alone have was call
 still state t u text alone request line have was =
@@ -84,7 +85,8 @@ stays_one state action t text alone have was holds =
 Mine : Bool → ℕ → List ℕ → Happening → Type 0
 Mine alone t text what = alone ≡ true → (other : ℕ) → what ≡ happening.GetsHold text other → other ≡ t
 
-got_mine : (state : State) (action : Action) (t : ℕ) (text : List ℕ) (alone : Bool) → HaveOneHolder (after state action).locks → hold_of (after state action) t text ≡ Some alone
+got_mine : (state : State) (action : Action) (t : ℕ) (text : List ℕ) (alone : Bool) → HaveOneHolder (after state action).locks →
+    hold_of (after state action) t text ≡ Some alone
     → All (Mine alone t text) (happened (record { before = state; action = action }))
 unfolding Mine
 got_mine state action t text alone have holds =
@@ -94,17 +96,20 @@ got_mine state action t text alone have holds =
     one_in table text t other (lock_of table text) refl have (holds ∙ ap Some is) (subst (IsHeld table) same held))
     (happened (record { before = state; action = action })) (got_held (record { before = state; action = action }))
 
-pub got_one : (state : State) (action : Action) (t other : ℕ) (text : List ℕ) → HaveOneHolder (after state action).locks → hold_of (after state action) t text ≡ Some true
+pub got_one : (state : State) (action : Action) (t other : ℕ) (text : List ℕ) → HaveOneHolder (after state action).locks →
+    hold_of (after state action) t text ≡ Some true
     → Contains (happened (record { before = state; action = action })) (happening.GetsHold text other) → other ≡ t
 unfolding Mine
 got_one state action t other text have holds got =
-    All-contains (Mine true t text) (happened (record { before = state; action = action })) (happening.GetsHold text other) (got_mine state action t text true have holds) got refl other refl
+    All-contains (Mine true t text) (happened (record { before = state; action = action })) (happening.GetsHold text other)
+    (got_mine state action t text true have holds) got refl other refl
 
 record Kept (old : State) (actions : List Action) (new : State) (t : ℕ) (text : List ℕ) (alone : Bool) : Type 0 where
   stays : hold_of new t text ≡ Some alone
   mine : All (Mine alone t text) (happenings old actions)
 
-along : (old new : State) (actions : List Action) (t : ℕ) (text : List ℕ) (alone : Bool) → HaveOneHolder old.locks → Acts old actions new → hold_of old t text ≡ Some alone
+along : (old new : State) (actions : List Action) (t : ℕ) (text : List ℕ) (alone : Bool) → HaveOneHolder old.locks → Acts old actions new →
+    hold_of old t text ≡ Some alone
     → All (λ moment. HoldsLock (after moment.before moment.action) t text) (moments old actions) → Kept old actions new t text alone
 along old new [] t text alone have none was holds = record { stays = was; mine = All-nil (Mine alone t text) }
 along old new (action ∷ actions) t text alone have (more can rest) was holds =

@@ -1,5 +1,6 @@
 -- An array that a thread holds stays held by it, whatever call the thread makes itself, but for the end of its last hold.
-use Rattle.std.proofs.Common.{◌≡◌, ◌∙◌, ◌≤◌, ℕ, ◌%◌, ◌==◌, Bool, true, false, cond, if◌then◌else◌, nat_le, List, [], ◌∷◌, length, codes, Option, Some, None, is_some, refl, ap, sym, subst, bytes_eq, arith}
+use Rattle.std.proofs.Common.{◌≡◌, ◌∙◌, ◌≤◌, ℕ, ◌%◌, ◌==◌, Bool, true, false, cond, if◌then◌else◌, nat_le, List, []}
+use Rattle.std.proofs.Common.{◌∷◌, length, codes, Option, Some, None, is_some, refl, ap, sym, subst, bytes_eq, arith}
 use Rattle.std.proofs.lemmas.Bool.Decides.{nat_tests}
 use Rattle.std.specs.Map.{set_value}
 use Rattle.indexmap.specs.IndexMap.{insert_entry}
@@ -10,8 +11,10 @@ use Rattle.tt_lists.specs.declared.items.Split.{Split}
 use Rattle.tt_lists.specs.declared.items.Split.TheVariants as split
 use Rattle.laws_shared.proofs.Deciding as deciding
 use Rattle.tt_calls.specs.Replies.{answers, refuses}
-use Rattle.tt_tsv.specs.Calls.{act, array_act, changes, empty_answer, exists_message, fills, is_own, moves_of, refills, run, run_asked, table_after, unsets, waits}
-use Rattle.tt_tsv.specs.Arrays.{Table, added, array_of, changed, changes_in, element_of, emptied, held, is_held, is_held_by, let_go, with_array, makes_in, with_element, without_array, without_element}
+use Rattle.tt_tsv.specs.Calls.{act, array_act, changes, empty_answer, exists_message, fills, is_own, moves_of, refills}
+use Rattle.tt_tsv.specs.Calls.{run, run_asked, table_after, unsets, waits}
+use Rattle.tt_tsv.specs.Arrays.{Table, added, array_of, changed, changes_in, element_of, emptied, held, is_held}
+use Rattle.tt_tsv.specs.Arrays.{is_held_by, let_go, with_array, makes_in, with_element, without_array, without_element}
 use Rattle.tt_tsv.specs.Words.{Asked, asked_of}
 use Rattle.tt_tsv.specs.declared.array.Array.{Array}
 
@@ -94,12 +97,14 @@ module _ (t : ℕ) (name other : List ℕ) where
   abbrev Keeps : (Array → Array) → Type 0
   Keeps change = (array : Array) → is_held_by t array ≡ true → is_held_by t (change array) ≡ true
 
-  by_changed : (change : Array → Array) → Keeps change → (table : Table) (found : Option Array) → array_of table other ≡ found → Stays t name table (changes_in change table other found)
+  by_changed : (change : Array → Array) → Keeps change → (table : Table) (found : Option Array) → array_of table other ≡ found →
+      Stays t name table (changes_in change table other found)
   by_changed change keeps table None is own = own
   by_changed change keeps table (Some array) is own =
       by_set table (change array) (λ same held. keeps array (subst (λ found. is_own t found ≡ true) is held)) own
 
-  by_made : (change : Array → Array) → Keeps change → (table : Table) (found : Option Array) → array_of table other ≡ found → Stays t name table (makes_in change table other found)
+  by_made : (change : Array → Array) → Keeps change → (table : Table) (found : Option Array) → array_of table other ≡ found →
+      Stays t name table (makes_in change table other found)
   by_made change keeps table None is own =
       by_insert table _ (λ same held. let nobody : is_own t None ≡ true = subst (λ found. is_own t found ≡ true) is held in absurd (cc nobody)) own
   by_made change keeps table (Some array) is own =
@@ -121,7 +126,9 @@ module _ (t : ℕ) (name other : List ℕ) where
       without : Table
       without = changed (without_element key) table other
 
-      go : (b : Bool) → is_own t (array_of (if b then refuses table (exists_message new) else empty_answer (with_array (with_element new value) without other)).table name) ≡ true
+      go : (b : Bool) →
+          is_own t (array_of
+          (if b then refuses table (exists_message new) else empty_answer (with_array (with_element new value) without other)).table name) ≡ true
       go true = own
       go false =
           by_made (with_element new value) (λ array is. is) without (array_of without other) refl
@@ -194,7 +201,8 @@ by_call t name table (Unhold other) deep own = go (is_own t (array_of table othe
 by_call t name table (Run words) deep own = by_asked t name table (asked_of words) own
 
 -- so it is after a call of its own
-pub own_call : (t : ℕ) (name : List ℕ) (table : Table) (call : TsvCall) → (call ≡ Unhold name → IsDeep table name) → Stays t name table (table_after table t call)
+pub own_call : (t : ℕ) (name : List ℕ) (table : Table) (call : TsvCall) → (call ≡ Unhold name → IsDeep table name) →
+    Stays t name table (table_after table t call)
 own_call t name table call deep own = go (waits table t call)
   where
     go : (b : Bool) → is_own t (array_of (if b then table else (act table t call).table) name) ≡ true

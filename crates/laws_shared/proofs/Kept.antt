@@ -1,5 +1,6 @@
 -- Channels that are not closed are kept: owned by who lives, or on their way to who lives.
-use Rattle.std.proofs.Common.{◌≡◌, ◌≢◌, ◌∙◌, ◌+◌, ◌<◌, ◌^◌, ◌==◌, ℕ, Bool, true, false, cond, if◌then◌else◌, List, Option, Some, None, IfSome, ap, refl, sym, subst, arith}
+use Rattle.std.proofs.Common.{◌≡◌, ◌≢◌, ◌∙◌, ◌+◌, ◌<◌, ◌^◌, ◌==◌, ℕ, Bool, true, false, cond, if◌then◌else◌, List}
+use Rattle.std.proofs.Common.{Option, Some, None, IfSome, ap, refl, sym, subst, arith}
 use Rattle.std.specs.Bool.{⊤}
 use Rattle.tt_calls.specs.declared.chan_call.ChanCall.{ChanCall}
 use Rattle.tt_calls.specs.declared.chan_call.ChanCall.TheVariants as chan
@@ -61,7 +62,8 @@ lives_on old new on Detached live = tt
 lives_on old new on (Moving None to) live = (on to live.0, tt)
 lives_on old new on (Moving (Some from) to) live = (on to live.0, (on from live.1.0, live.1.1))
 
-all_on : (old new : List Row) → ((u : ℕ) → is_living old u ≡ true → is_living new u ≡ true) → (found : Option Owner) → IfSome found (OwnerLives old) → IfSome found (OwnerLives new)
+all_on : (old new : List Row) → ((u : ℕ) → is_living old u ≡ true → is_living new u ≡ true) → (found : Option Owner) → IfSome found (OwnerLives old) →
+    IfSome found (OwnerLives new)
 all_on old new on None live = tt
 all_on old new on (Some owner) live = lives_on old new on owner live
 
@@ -69,7 +71,8 @@ pub mild_kept : (old new : State) → Mild old new → Kept old → Kept new
 mild_kept old new mild kept = record {
   queues = mild.many kept.queues;
   arrive = λ u text. mild.arrive u text ∙ kept.arrive u text ∙ ap (λ table. expected (owner_at table text) u) (sym mild.channels);
-  live = λ text. subst (λ table. IfSome (owner_at table text) (OwnerLives new.rows)) (sym mild.channels) (all_on old.rows new.rows mild.live (owner_at old.channels text) (kept.live text));
+  live = λ text. subst (λ table. IfSome (owner_at table text) (OwnerLives new.rows)) (sym mild.channels)
+      (all_on old.rows new.rows mild.live (owner_at old.channels text) (kept.live text));
 }
 
 -- ---- an end with another owner ----
@@ -125,7 +128,8 @@ module _ (queues : Queues) (rows : List Row) (table : ChannelTable) (t : ℕ) (l
       go : (text : List ℕ) (b : Bool) → is_key id text ≡ b → OwnerHolds queues rows text (owner_at (without_channel table id) text)
       go text true is =
           let same = same_key id text is in
-          let had : OwnerHolds queues rows id (Some (Thread t)) = subst (λ owner. OwnerHolds queues rows id (Some owner)) found.owner (was id old found.there) in
+          let had : OwnerHolds queues rows id (Some (Thread t)) =
+          subst (λ owner. OwnerHolds queues rows id (Some owner)) found.owner (was id old found.there) in
           let none : owner_at (without_channel table id) id ≡ None = ap owner_in (remove_here id table.channels drawn.apart) in
           subst (λ one. OwnerHolds queues rows one (owner_at (without_channel table id) one)) same
           (subst (λ owner. OwnerHolds queues rows id owner) (sym none) (had.0, tt))
@@ -152,8 +156,10 @@ module _ (queues : Queues) (rows : List Row) (table : ChannelTable) (t : ℕ) (l
 
 -- ---- a channel that is sent ----
 
-pub by_sent : (queues : Queues) (rows : List Row) (table : ChannelTable) (t to : ℕ) (events : List Event) (id : List ℕ) (channel : Channel) → AllHold queues rows table
-    → channel_of table id ≡ Some channel → channel.owner ≡ Thread t → is_living rows t ≡ true → is_living rows to ≡ true → t ≢ to → queue_of queues to ≡ Some events
+pub by_sent : (queues : Queues) (rows : List Row) (table : ChannelTable) (t to : ℕ) (events : List Event) (id : List ℕ) (channel : Channel) →
+    AllHold queues rows table
+    → channel_of table id ≡ Some channel → channel.owner ≡ Thread t → is_living rows t ≡ true → is_living rows to ≡ true → t ≢ to →
+    queue_of queues to ≡ Some events
     → AllHold (queued queues to false (event.Moved id)) rows (with_channel table id (with_owner channel (Moving (Some t) to)))
 by_sent queues rows table t to events id channel all there mine lives target differs place = record { each = λ text. go text (is_key text id) refl }
   where

@@ -1,5 +1,6 @@
 -- Each action of a thread that lives keeps the channels, and so does a run.
-use Rattle.std.proofs.Common.{◌≡◌, ◌∙◌, ◌-◌, ◌<◌, ◌^◌, ◌==◌, ℕ, zero, suc, Bool, true, false, if◌then◌else◌, List, [], ◌∷◌, length, slice_get, codes, Option, Some, None, IfSome, ap, refl, sym, subst, ℤ, arith}
+use Rattle.std.proofs.Common.{◌≡◌, ◌∙◌, ◌-◌, ◌<◌, ◌^◌, ◌==◌, ℕ, zero, suc, Bool, true, false, if◌then◌else◌, List, []}
+use Rattle.std.proofs.Common.{◌∷◌, length, slice_get, codes, Option, Some, None, IfSome, ap, refl, sym, subst, ℤ, arith}
 use Rattle.std.specs.Map.{values_of}
 use Rattle.tt_calls.specs.Replies as replies
 use Rattle.tt_calls.specs.Replies.{Answered}
@@ -69,15 +70,20 @@ taking state t (Some (event ∷ events)) is =
 by_taking : (state : State) (t : ℕ) → is_living state.rows t ≡ true → Kept state → Kept (takes state t).state
 by_taking state t lives kept = go (queue_of state.queues t) refl
   where
-    come_event : (event : Event) (events : List Event) → queue_of state.queues t ≡ Some (event ∷ events) → Kept (come (record state { queues = with_queue state.queues t events }) t event)
+    come_event : (event : Event) (events : List Event) → queue_of state.queues t ≡ Some (event ∷ events) →
+        Kept (come (record state { queues = with_queue state.queues t events }) t event)
     come_event (event.Moved id) events there =
-        kept_of _ (length-put state.queues _ events ∙ kept.queues) (by_coming state.queues state.rows state.channels t lives (all_of state kept) events id there)
+        kept_of _ (length-put state.queues _ events ∙ kept.queues)
+        (by_coming state.queues state.rows state.channels t lives (all_of state kept) events id there)
     come_event (event.Script n script answer plain) events there =
-        kept_of _ (length-put state.queues _ events ∙ kept.queues) (by_other state.queues state.rows state.channels t lives (all_of state kept) events _ there (λ text. refl))
+        kept_of _ (length-put state.queues _ events ∙ kept.queues)
+        (by_other state.queues state.rows state.channels t lives (all_of state kept) events _ there (λ text. refl))
     come_event (event.SetVar name value) events there =
-        kept_of _ (length-put state.queues _ events ∙ kept.queues) (by_other state.queues state.rows state.channels t lives (all_of state kept) events _ there (λ text. refl))
+        kept_of _ (length-put state.queues _ events ∙ kept.queues)
+        (by_other state.queues state.rows state.channels t lives (all_of state kept) events _ there (λ text. refl))
     come_event event.Stop events there =
-        kept_of _ (length-put state.queues _ events ∙ kept.queues) (by_other state.queues state.rows state.channels t lives (all_of state kept) events _ there (λ text. refl))
+        kept_of _ (length-put state.queues _ events ∙ kept.queues)
+        (by_other state.queues state.rows state.channels t lives (all_of state kept) events _ there (λ text. refl))
 
     go : (found : Option (List Event)) → queue_of state.queues t ≡ found → Kept (takes state t).state
     go None there = subst Kept (sym (taking state t None there)) kept
@@ -106,10 +112,12 @@ at_too (x' ∷ xs) [] i x same there = absurd (omega (arith, same))
 at_too (x' ∷ xs) (y ∷ ys) zero x same there = (y, refl)
 at_too (x' ∷ xs) (y ∷ ys) (suc i) x same there = at_too xs ys i x (omega (arith, same)) there
 
-has_queue : (state : State) (n : ℕ) (row : Row) → HaveQueues state → row_of state.rows n ≡ Some row → (events : List Event) × (queue_of state.queues n ≡ Some events)
+has_queue : (state : State) (n : ℕ) (row : Row) → HaveQueues state → row_of state.rows n ≡ Some row → (events : List Event)
+    × (queue_of state.queues n ≡ Some events)
 has_queue state n row queues there = go (n == 0) there
   where
-    go : (b : Bool) → (if b then None else slice_get state.rows (n - 1)) ≡ Some row → (events : List Event) × ((if b then None else slice_get state.queues (n - 1)) ≡ Some events)
+    go : (b : Bool) → (if b then None else slice_get state.rows (n - 1)) ≡ Some row → (events : List Event)
+        × ((if b then None else slice_get state.queues (n - 1)) ≡ Some events)
     go true there = absurd (cc there)
     go false there = at_too state.rows state.queues (n - 1) row queues there
 
@@ -122,7 +130,8 @@ module _ (state : State) (t : ℕ) (lives : is_living state.rows t ≡ true) (ke
   refused thread text None message = kept
   refused thread text (Some to) message = kept
 
-  by_owner : (thread text : List ℕ) (target : Option ℕ) (channel : Channel) → linked state.rows thread ≡ target → IsFound t (channel_of state.channels text) channel
+  by_owner : (thread text : List ℕ) (target : Option ℕ) (channel : Channel) → linked state.rows thread ≡ target →
+      IsFound t (channel_of state.channels text) channel
       → Kept (sent thread text target (channels.transfers state.channels t thread text target channel))
   by_owner thread text None channel named found = refused thread text None (channels.named (codes "thread \"") thread (codes "\" does not exist"))
   by_owner thread text (Some to) channel named found = go (to == t) refl
@@ -136,7 +145,8 @@ module _ (state : State) (t : ℕ) (lives : is_living state.rows t ≡ true) (ke
       go : (b : Bool) → (to == t) ≡ b
           → Kept (sent thread text (Some to)
           (if b then replies.answers state.channels (reply.Value []) else
-          replies.answers (Rattle.tt_chans.specs.Channels.with_channel state.channels text (Rattle.tt_chans.specs.Ends.with_owner channel (Moving (Some t) to))) reply.Go))
+          replies.answers
+          (Rattle.tt_chans.specs.Channels.with_channel state.channels text (Rattle.tt_chans.specs.Ends.with_owner channel (Moving (Some t) to))) reply.Go))
       go true is = kept
       go false is =
           kept_of _ (many_mail state.queues to false (event.Moved text) ∙ kept.queues)
@@ -150,7 +160,8 @@ module _ (state : State) (t : ℕ) (lives : is_living state.rows t ≡ true) (ke
       target = linked state.rows thread
 
       own : (found : Option Channel) → owned t (channel_of state.channels text) ≡ found
-          → Kept (sent thread text (linked state.rows thread) (channels.if_owned (channels.transfers state.channels t thread text (linked state.rows thread)) state.channels t text))
+          → Kept (sent thread text (linked state.rows thread)
+          (channels.if_owned (channels.transfers state.channels t thread text (linked state.rows thread)) state.channels t text))
       own None is = rw (is, channels.if_owned) (refused thread text (linked state.rows thread) _)
       own (Some channel) is =
           rw (is, channels.if_owned) (by_owner thread text (linked state.rows thread) channel refl (owned_is t (channel_of state.channels text) channel is))
@@ -168,14 +179,17 @@ module _ (state : State) (t : ℕ) (lives : is_living state.rows t ≡ true) (ke
 
 -- ---- the end of a thread ----
 
-tell_one : (rows : List Row) (t : ℕ) (queues : Queues) (post : VariablePost) → SameArrivals queues (told_died rows t queues post) × (length (told_died rows t queues post) ≡ length queues)
+tell_one : (rows : List Row) (t : ℕ) (queues : Queues) (post : VariablePost) → SameArrivals queues (told_died rows t queues post)
+    × (length (told_died rows t queues post) ≡ length queues)
 tell_one rows t queues post = go (hears rows t post)
   where
-    go : (b : Bool) → SameArrivals queues (if b then queued queues post.sender false (died post.name) else queues) × (length (if b then queued queues post.sender false (died post.name) else queues) ≡ length queues)
+    go : (b : Bool) → SameArrivals queues (if b then queued queues post.sender false (died post.name) else queues)
+        × (length (if b then queued queues post.sender false (died post.name) else queues) ≡ length queues)
     go true = (by_mail queues post.sender false (died post.name) (λ text. refl), many_mail queues post.sender false (died post.name))
     go false = (λ u text. refl, refl)
 
-tell : (rows : List Row) (t : ℕ) (posts : List VariablePost) (queues : Queues) → SameArrivals queues (tells_died rows t posts queues) × (length (tells_died rows t posts queues) ≡ length queues)
+tell : (rows : List Row) (t : ℕ) (posts : List VariablePost) (queues : Queues) → SameArrivals queues (tells_died rows t posts queues)
+    × (length (tells_died rows t posts queues) ≡ length queues)
 tell rows t [] queues = (λ u text. refl, refl)
 tell rows t (post ∷ posts) queues =
     let first = tell_one rows t queues post in
@@ -229,7 +243,8 @@ reached_kept state reached small = along (start_state reached.main) state reache
 
 -- ---- in words ----
 
-is_kept : (state : State) (text : List ℕ) (owner : Owner) → ((u : ℕ) → arrivals state.queues u text ≡ expected (Some owner) u) → OwnerLives state.rows owner → IsKept state text owner
+is_kept : (state : State) (text : List ℕ) (owner : Owner) → ((u : ℕ) → arrivals state.queues u text ≡ expected (Some owner) u) →
+    OwnerLives state.rows owner → IsKept state text owner
 is_kept state text (Thread t) arrive live = live
 is_kept state text Detached arrive live = tt
 is_kept state text (Moving from to) arrive live = (live.0, arrive to ∙ ap deciding.one_if (deciding.itself to))
@@ -237,7 +252,8 @@ is_kept state text (Moving from to) arrive live = (live.0, arrive to ∙ ap deci
 pub are_kept : (state : State) → Kept state → AreKept state
 are_kept state kept text = go (owner_at state.channels text) (λ u. kept.arrive u text) (kept.live text)
   where
-    go : (found : Option Owner) → ((u : ℕ) → arrivals state.queues u text ≡ expected found u) → IfSome found (OwnerLives state.rows) → IfSome found (IsKept state text)
+    go : (found : Option Owner) → ((u : ℕ) → arrivals state.queues u text ≡ expected found u) → IfSome found (OwnerLives state.rows) →
+        IfSome found (IsKept state text)
     go None arrive live = tt
     go (Some owner) arrive live = is_kept state text owner arrive live
 

@@ -1,5 +1,6 @@
 -- Channels stay kept when one has come: the event that brought it was the only one.
-use Rattle.std.proofs.Common.{◌≡◌, ◌≢◌, ◌∙◌, ◌+◌, ◌<◌, ◌==◌, ℕ, Bool, true, false, cond, if◌then◌else◌, List, ◌∷◌, Option, Some, None, ap, refl, sym, subst, arith}
+use Rattle.std.proofs.Common.{◌≡◌, ◌≢◌, ◌∙◌, ◌+◌, ◌<◌, ◌==◌, ℕ, Bool, true, false, cond, if◌then◌else◌, List, ◌∷◌}
+use Rattle.std.proofs.Common.{Option, Some, None, ap, refl, sym, subst, arith}
 use Rattle.std.proofs.lemmas.Bool.Decides.{nat_tests}
 use Rattle.tt_calls.specs.declared.event.Event.{Event}
 use Rattle.tt_calls.specs.declared.event.Event.TheVariants as event
@@ -34,8 +35,9 @@ module _ (queues : Queues) (rows : List Row) (table : ChannelTable) (t : ℕ) (l
   abbrev later : Queues
   later = with_queue queues t events
 
-  -- what the taking of an event leaves, where it does not bring the channel
-  others : (event : Event) (text : List ℕ) → queue_of queues t ≡ Some (event ∷ events) → weight text event ≡ 0 → (u : ℕ) → arrivals later u text ≡ arrivals queues u text
+  -- what the taking of an event leaves, if it does not bring the channel
+  others : (event : Event) (text : List ℕ) → queue_of queues t ≡ Some (event ∷ events) → weight text event ≡ 0 → (u : ℕ) →
+      arrivals later u text ≡ arrivals queues u text
   others event text there none u =
       let counted : arrivals later u text + deciding.more_if (u == t) 0 ≡ arrivals queues u text =
       ap (λ n. arrivals later u text + deciding.more_if (u == t) n) (sym none) ∙ by_taking queues t u event events text there in
@@ -82,7 +84,8 @@ module _ (queues : Queues) (rows : List Row) (table : ChannelTable) (t : ℕ) (l
         go true is = refl
         go false is = absurd (grind (arith, nat_tests, is))
 
-    come : (channel : Channel) → channel_of table id ≡ Some channel → AllHold later rows (with_channel table id (with_owner channel (owner_given t channel.owner)))
+    come : (channel : Channel) → channel_of table id ≡ Some channel →
+        AllHold later rows (with_channel table id (with_owner channel (owner_given t channel.owner)))
     come channel found = record { each = λ text. go text (is_key text id) refl }
       where
         new : Channel
@@ -91,7 +94,8 @@ module _ (queues : Queues) (rows : List Row) (table : ChannelTable) (t : ℕ) (l
         go : (text : List ℕ) (b : Bool) → is_key text id ≡ b → OwnerHolds later rows text (owner_at (with_channel table id new) text)
         go text true is =
             let alike : text ≡ id = same_key text id is in
-            let put : owner_at (with_channel table id new) id ≡ Some (Thread t) = ap owner_in (set_here id table.channels new channel found) ∙ ap Some (given_owner channel found) in
+            let put : owner_at (with_channel table id new) id ≡ Some (Thread t) =
+            ap owner_in (set_here id table.channels new channel found) ∙ ap Some (given_owner channel found) in
             subst (λ one. OwnerHolds later rows one (owner_at (with_channel table id new) one)) (sym alike)
             (subst (λ owner. OwnerHolds later rows id owner) (sym put) (none_left, lives))
         go text false is =

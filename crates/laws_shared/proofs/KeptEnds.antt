@@ -19,7 +19,7 @@ use Rattle.tt_threads.specs.declared.row.Row.{Row}
 
 -- ---- the end of a thread ----
 
--- whose a channel is then; none, where it was closed
+-- whose a channel is then; none, if it was closed
 abbrev owner_left : ℕ → Owner → Option Owner
 owner_left t owner =
     if elim owner [ Thread thread ↦ not (thread == t) | Detached ↦ true | Moving from to ↦ not (to == t) || is_sent from ]
@@ -44,7 +44,8 @@ module _ (queues later : Queues) (rows : List Row) (t : ℕ) (code : ℤ) (text 
   nothing owner none u = counted u ∙ ap (λ n. if u == t then 0 else n) (none u) ∙ deciding.still_zero (u == t)
 
   -- it was on its way to another thread, and still is
-  on_its_way : (to : ℕ) → (to == t) ≡ false → ((u : ℕ) → arrivals queues u text ≡ (if to == u then 1 else 0)) → (u : ℕ) → arrivals (emptied later t) u text ≡ (if to == u then 1 else 0)
+  on_its_way : (to : ℕ) → (to == t) ≡ false → ((u : ℕ) → arrivals queues u text ≡ (if to == u then 1 else 0)) → (u : ℕ) →
+      arrivals (emptied later t) u text ≡ (if to == u then 1 else 0)
   on_its_way to other had u = counted u ∙ ap (λ n. if u == t then 0 else n) (had u) ∙ go (u == t) refl
     where
       go : (b : Bool) → (u == t) ≡ b → deciding.zero_if b (deciding.one_if (to == u)) ≡ deciding.one_if (to == u)
@@ -79,8 +80,11 @@ module _ (queues later : Queues) (rows : List Row) (t : ℕ) (code : ℤ) (text 
       apart = holds.1.1.1
 
       go : (b : Bool) → (to == t) ≡ b → HoldsThen (if not b || true then Some (if b then Thread s else unsent t (Some s) to) else None)
-      go true is =
-          (λ u. counted u ∙ ap (λ n. if u == t then 0 else n) (holds.0 u) ∙ gone u (u == t) refl, by_end rows t code s (λ me. apart (me ∙ sym (deciding.same to t is))) lives)
+      go true is = (
+        λ u. counted u ∙ ap (λ n. if u == t then 0 else n) (holds.0 u)
+            ∙ gone u (u == t) refl,
+        by_end rows t code s (λ me. apart (me ∙ sym (deciding.same to t is))) lives,
+      )
         where
           gone : (u : ℕ) (b : Bool) → (u == t) ≡ b → deciding.zero_if b (deciding.one_if (to == u)) ≡ 0
           gone u true here = refl
@@ -89,17 +93,23 @@ module _ (queues later : Queues) (rows : List Row) (t : ℕ) (code : ℤ) (text 
         where
           sender : (b : Bool) → (s == t) ≡ b → HoldsThen (Some (if b then Moving None to else Moving (Some s) to))
           sender true me = (on_its_way to is holds.0, (by_end rows t code to (deciding.differs to t is) holds.1.0, tt))
-          sender false me = (on_its_way to is holds.0, (by_end rows t code to (deciding.differs to t is) holds.1.0, (by_end rows t code s (deciding.differs s t me) lives, apart)))
+          sender false me = (
+            on_its_way to is holds.0,
+            (by_end rows t code to (deciding.differs to t is) holds.1.0, (by_end rows t code s (deciding.differs s t me) lives, apart)),
+          )
 
-pub by_ending : (queues later : Queues) (rows : List Row) (table : ChannelTable) (t : ℕ) (code : ℤ) → SameArrivals queues later → IsDrawn table → AllHold queues rows table
+pub by_ending : (queues later : Queues) (rows : List Row) (table : ChannelTable) (t : ℕ) (code : ℤ) → SameArrivals queues later → IsDrawn table →
+    AllHold queues rows table
     → AllHold (emptied later t) (with_end rows t code) (table_after_end table t)
 by_ending queues later rows table t code arrive drawn all = record {
   each = λ text.
-      subst (λ found. OwnerHolds (emptied later t) (with_end rows t code) text (owner_in found)) (sym (left-is (stays_open t) (after_end t) text table.channels drawn.apart))
+      subst (λ found. OwnerHolds (emptied later t) (with_end rows t code) text (owner_in found))
+      (sym (left-is (stays_open t) (after_end t) text table.channels drawn.apart))
       (go text (channel_of table text) (all.each text));
 }
   where
-    go : (text : List ℕ) (found : Option Channel) → OwnerHolds queues rows text (owner_in found) → OwnerHolds (emptied later t) (with_end rows t code) text (owner_in (left (stays_open t) (after_end t) found))
+    go : (text : List ℕ) (found : Option Channel) → OwnerHolds queues rows text (owner_in found) →
+        OwnerHolds (emptied later t) (with_end rows t code) text (owner_in (left (stays_open t) (after_end t) found))
     go text None holds = (nothing queues later rows t code text arrive None holds.0, tt)
     go text (Some channel) holds =
         subst (λ owner. OwnerHolds (emptied later t) (with_end rows t code) text owner) (sym (owner-left t channel))

@@ -1,5 +1,7 @@
 -- What requests on the table of threads leave: who lives goes on living.
-use Rattle.std.proofs.Common.{◌≡◌, ◌∙◌, ◌-◌, ◌+◌, ◌==◌, ◌&&◌, ℕ, zero, suc, Bool, true, false, not, nat_lt, List, [], ◌∷◌, length, slice_get, Option, Some, None, if◌then◌else◌, ap, refl, sym, subst, bytes_eq, ℤ, pos, negsuc, arith}
+use Rattle.std.proofs.Common.{◌≡◌, ◌∙◌, ◌-◌, ◌+◌, ◌==◌, ◌&&◌, ℕ, zero, suc, Bool, true, false, not, nat_lt, List, []}
+use Rattle.std.proofs.Common.{◌∷◌, length, slice_get, Option, Some, None, if◌then◌else◌, ap, refl, sym, subst, bytes_eq}
+use Rattle.std.proofs.Common.{ℤ, pos, negsuc, arith}
 use Rattle.tt_calls.specs.declared.request.Request.{Request}
 use Rattle.tt_calls.specs.declared.request.Request.TheVariants as ask
 use Rattle.laws_shared.proofs.Numbered.{by_number, length-put, numbered-suc}
@@ -20,7 +22,8 @@ pub on_same : (rows : List Row) → GoesOn rows rows
 on_same rows = record { many = refl; live = λ u is. is }
 
 -- a row in place of another
-pub on_row : (rows : List Row) (n : ℕ) (old new : Row) → row_of rows n ≡ Some old → (lives old.life ≡ true → lives new.life ≡ true) → GoesOn rows (with_row rows n new)
+pub on_row : (rows : List Row) (n : ℕ) (old new : Row) → row_of rows n ≡ Some old → (lives old.life ≡ true → lives new.life ≡ true) →
+    GoesOn rows (with_row rows n new)
 on_row rows n old new there keeps = record {
   many = length-put rows (n - 1) new;
   live = λ u is.
@@ -44,7 +47,8 @@ module _ (rows : List Row) where
   by_if true one other first second = first
   by_if false one other first second = second
 
-  by_count : (change : Row → Row) → ((row : Row) → lives row.life ≡ true → lives (change row).life ≡ true) → (n : ℕ) (found : Option Row) → row_of rows n ≡ found
+  by_count : (change : Row → Row) → ((row : Row) → lives row.life ≡ true → lives (change row).life ≡ true) → (n : ℕ) (found : Option Row) →
+      row_of rows n ≡ found
       → GoesOn rows (threads.counts_at change rows n found).rows
   by_count change keeps n None is = on_same rows
   by_count change keeps n (Some row) is = on_row rows n row (change row) is (keeps row)
@@ -78,7 +82,8 @@ module _ (rows : List Row) where
 
   by_configure : (n : ℕ) (words : List (List ℕ)) (found : Option Row) → row_of rows n ≡ found → GoesOn rows (threads.configures_at rows n words found).rows
   by_configure n words None is = on_same rows
-  by_configure n words (Some row) is = by_if (nat_lt (length words) 2) _ _ (on_same rows) (by_sets n row (threads.with_settings words (threads.settings_of row)) is)
+  by_configure n words (Some row) is =
+      by_if (nat_lt (length words) 2) _ _ (on_same rows) (by_sets n row (threads.with_settings words (threads.settings_of row)) is)
 
   by_configures : (text : List ℕ) (words : List (List ℕ)) (target : Option ℕ) → GoesOn rows (threads.configures rows text words target).rows
   by_configures text words None = on_same rows

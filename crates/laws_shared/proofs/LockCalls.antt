@@ -10,7 +10,8 @@ use Rattle.tt_calls.specs.declared.lock_call.LockCall.TheVariants as ask
 use Rattle.tt_calls.specs.Replies.{refuses}
 use Rattle.tt_locks.specs.Calls.{act, acts_on, begins, cond_waits, destroys, destroys_named, gives_up, is_first, table_after, waits, waits_where}
 use Rattle.tt_locks.specs.LockLaws.{HasOneHolder, HaveOneHolder}
-use Rattle.tt_locks.specs.Lock.{Done, does_go, family_of, free, held, locks, read_locks, unlocks, write_locks, has_none, is_among, is_owned, unheld, waits_alone}
+use Rattle.tt_locks.specs.Lock.{Done, does_go, family_of, free, held, locks, read_locks, unlocks, write_locks, has_none}
+use Rattle.tt_locks.specs.Lock.{is_among, is_owned, unheld, waits_alone}
 use Rattle.tt_locks.specs.Table.{LockTable, in_family, is_id, is_same, lock_in, lock_of, new_id, with_lock, with_new, without_lock}
 use Rattle.tt_locks.specs.declared.lock.Lock.{Lock}
 use Rattle.laws_shared.proofs.LockHolds.{Still, among, by_lock, by_read, by_take, by_unheld, by_unlock, by_write, none-among, unchanged}
@@ -50,7 +51,8 @@ pub one_of : (table : LockTable) (text : List ℕ) (lock : Lock) → HaveOneHold
 one_of table [] lock have is = let same : table.first ≡ lock = cc is in subst HasOneHolder same have.first
 one_of table (b ∷ text) lock have is = if_some HasOneHolder _ lock (IfSome-lookup_from_All HasOneHolder (is_id (b ∷ text)) table.others have.others) is
 
-not_waiting : (waits_for : Lock → ℕ → Bool) (t : ℕ) (found : Option Lock) (lock : Lock) → found ≡ Some lock → waits_where waits_for t found ≡ false → waits_for lock t ≡ false
+not_waiting : (waits_for : Lock → ℕ → Bool) (t : ℕ) (found : Option Lock) (lock : Lock) → found ≡ Some lock → waits_where waits_for t found ≡ false →
+    waits_for lock t ≡ false
 not_waiting waits_for t None lock is free = absurd (cc is)
 not_waiting waits_for t (Some other) lock is free = let same : other ≡ lock = cc is in subst (λ one. waits_for one t ≡ false) same free
 
@@ -72,7 +74,8 @@ module _ (table : LockTable) (t u : ℕ) (text : List ℕ) (alone : Bool) (have 
   if_here id old there is = ap (hold_in t) (sym there) ∙ subst (λ one. hold_in t (lock_of table one) ≡ Some alone) is was
 
   by_deed : (does : Lock → ℕ → Done) (kind : Family) (id : List ℕ)
-      → ((lock : Lock) → lock_in table kind id ≡ Some lock → Found table kind id lock → hold_in t (Some lock) ≡ Some alone → Still t alone (Some (does lock u).lock))
+      → ((lock : Lock) → lock_in table kind id ≡ Some lock → Found table kind id lock → hold_in t (Some lock) ≡ Some alone →
+      Still t alone (Some (does lock u).lock))
       → StillIn (acts_on does table u kind id (lock_in table kind id)).table
   by_deed does kind id keeps = go (lock_in table kind id) refl
     where
@@ -165,11 +168,14 @@ module _ (table : LockTable) (t u : ℕ) (text : List ℕ) (alone : Bool) (have 
   by_act (ask.Lock id) free = by_deed locks family.Mutex id (λ lock is found had. by_lock lock t u alone had found.of)
   by_act (ask.ReadLock id) free = by_deed read_locks family.ReadWrite id (λ lock is found had. by_read lock t u alone had)
   by_act (ask.WriteLock id) free =
-      by_deed write_locks family.ReadWrite id (λ lock is found had. by_write lock t u alone had (not_waiting waits_alone u (lock_in table family.ReadWrite id) lock is free))
+      by_deed write_locks family.ReadWrite id
+      (λ lock is found had. by_write lock t u alone had (not_waiting waits_alone u (lock_in table family.ReadWrite id) lock is free))
   by_act (ask.Unlock kind id) free = by_deed unlocks kind id (λ lock is found had. by_unlock lock t u alone had (one_of table id lock have found.there))
-  by_act (ask.Notify id) free = by_deed (λ lock t. does_go (record lock { waiters = [] })) family.Condition id (λ lock is found had. unchanged lock t u alone had)
+  by_act (ask.Notify id) free =
+      by_deed (λ lock t. does_go (record lock { waiters = [] })) family.Condition id (λ lock is found had. unchanged lock t u alone had)
   by_act (ask.CondWait condition mutex) free = by_wait condition mutex (lock_in table family.Condition condition)
-  by_act (ask.CondTake condition mutex) free = by_deed (λ lock t. does_go (held lock t false)) family.Mutex mutex (λ lock is found had. by_take lock t u alone had found.of)
+  by_act (ask.CondTake condition mutex) free =
+      by_deed (λ lock t. does_go (held lock t false)) family.Mutex mutex (λ lock is found had. by_take lock t u alone had found.of)
 
   pub still_after : (call : LockCall) → StillIn (table_after table u call)
   still_after call = go (waits table u call) refl

@@ -1,5 +1,6 @@
 -- What is done to one lock leaves a thread that holds it still its hold as it was.
-use Rattle.std.proofs.Common.{◌≡◌, ◌∙◌, ◌≤◌, ◌&&◌, ◌||◌, ◌==◌, ℕ, Bool, true, false, not, if◌then◌else◌, List, [], ◌∷◌, length, Option, Some, None, ap, refl, sym, subst, arith}
+use Rattle.std.proofs.Common.{◌≡◌, ◌∙◌, ◌≤◌, ◌&&◌, ◌||◌, ◌==◌, ℕ, Bool, true, false, not, if◌then◌else◌, List, [], ◌∷◌}
+use Rattle.std.proofs.Common.{length, Option, Some, None, ap, refl, sym, subst, arith}
 use Rattle.std.proofs.lemmas.List.Elements.{All-head, All-tail}
 use Rattle.std.specs.List.{All}
 use Rattle.tt_calls.specs.declared.lock_call.Family.TheVariants as family
@@ -50,7 +51,8 @@ none-left (one ∷ other ∷ holders) u t few mine left = absurd (omega (arith, 
 pub one-alone : (kind : Kind) (writing : Bool) (holders : List ℕ) (t u : ℕ) → AreAllowed kind writing holders → is_alone kind writing ≡ true
     → is_among holders t ≡ true → is_among holders u ≡ true → u ≡ t
 one-alone Exclusive writing holders t u allowed alone first second = one-few holders t u allowed first second
-one-alone Recursive writing holders t u allowed alone first second = all-one holders allowed.0 u allowed.1 second ∙ sym (all-one holders allowed.0 t allowed.1 first)
+one-alone Recursive writing holders t u allowed alone first second =
+    all-one holders allowed.0 u allowed.1 second ∙ sym (all-one holders allowed.0 t allowed.1 first)
 one-alone ReadWrite true holders t u allowed alone first second = one-few holders t u allowed first second
 one-alone ReadWrite false holders t u allowed alone first second = absurd (cc alone)
 one-alone Condition writing holders t u allowed alone first second = absurd (cc alone)
@@ -61,15 +63,18 @@ one-alone Condition writing holders t u allowed alone first second = absurd (cc 
 abbrev pub Still : ℕ → Bool → Option Lock → Type 0
 Still t alone found = (now : Bool) → hold_in t found ≡ Some now → now ≡ alone
 
-pub among : (t : ℕ) (lock : Lock) (alone : Bool) → hold_in t (Some lock) ≡ Some alone → (is_among lock.holders t ≡ true) × (is_alone lock.kind lock.writing ≡ alone)
+pub among : (t : ℕ) (lock : Lock) (alone : Bool) → hold_in t (Some lock) ≡ Some alone → (is_among lock.holders t ≡ true)
+    × (is_alone lock.kind lock.writing ≡ alone)
 among t lock alone is = go (is_among lock.holders t) refl is
   where
-    go : (b : Bool) → is_among lock.holders t ≡ b → (if b then Some (is_alone lock.kind lock.writing) else None) ≡ Some alone → (is_among lock.holders t ≡ true) × (is_alone lock.kind lock.writing ≡ alone)
+    go : (b : Bool) → is_among lock.holders t ≡ b → (if b then Some (is_alone lock.kind lock.writing) else None) ≡ Some alone →
+        (is_among lock.holders t ≡ true) × (is_alone lock.kind lock.writing ≡ alone)
     go true has is = (has, cc is)
     go false has is = absurd (cc is)
 
 -- a lock that is changed in no way that matters
-alike : (t : ℕ) (alone : Bool) (old new : Lock) → hold_in t (Some old) ≡ Some alone → is_alone new.kind new.writing ≡ is_alone old.kind old.writing → Still t alone (Some new)
+alike : (t : ℕ) (alone : Bool) (old new : Lock) → hold_in t (Some old) ≡ Some alone → is_alone new.kind new.writing ≡ is_alone old.kind old.writing →
+    Still t alone (Some new)
 alike t alone old new was is now holds = sym (among t new now holds).1 ∙ is ∙ (among t old alone was).1
 
 -- a mutex
@@ -88,7 +93,8 @@ module _ (lock : Lock) (t u : ℕ) (alone : Bool) (was : hold_in t (Some lock) �
   unchanged now holds = let both : Some now ≡ Some alone = sym holds ∙ was in cc both
 
   -- a choice of two
-  either : (b : Bool) (one other : Done) → Still t alone (Some one.lock) → Still t alone (Some other.lock) → Still t alone (Some (if b then one else other).lock)
+  either : (b : Bool) (one other : Done) → Still t alone (Some one.lock) → Still t alone (Some other.lock) →
+      Still t alone (Some (if b then one else other).lock)
   either true one other first second = first
   either false one other first second = second
 
@@ -107,7 +113,8 @@ module _ (lock : Lock) (t u : ℕ) (alone : Bool) (was : hold_in t (Some lock) �
   pub by_take : is_same family.Mutex (family_of lock.kind) ≡ true → Still t alone (Some (held lock u false))
   by_take of = alike t alone lock (held lock u false) was (mutex lock.kind false lock.writing of)
 
-  choose : (b : Bool) (one other : Done) → (b ≡ true → Still t alone (Some one.lock)) → (b ≡ false → Still t alone (Some other.lock)) → Still t alone (Some (if b then one else other).lock)
+  choose : (b : Bool) (one other : Done) → (b ≡ true → Still t alone (Some one.lock)) → (b ≡ false → Still t alone (Some other.lock)) →
+      Still t alone (Some (if b then one else other).lock)
   choose true one other first second = first refl
   choose false one other first second = second refl
 
@@ -115,7 +122,8 @@ module _ (lock : Lock) (t u : ℕ) (alone : Bool) (was : hold_in t (Some lock) �
   by_read = choose lock.writing _ _ (λ is. unchanged) (λ is. alike t alone lock (held lock u false) was (ap (is_alone lock.kind) (sym is)))
 
   pub by_write : waits_alone lock u ≡ false → Still t alone (Some (write_locks lock u).lock)
-  by_write free = choose (not (is_among lock.holders u)) _ _ (λ out. absurd (alone-not out)) (λ mine. choose lock.writing _ _ (λ is. unchanged) (λ is. unchanged))
+  by_write free =
+      choose (not (is_among lock.holders u)) _ _ (λ out. absurd (alone-not out)) (λ mine. choose lock.writing _ _ (λ is. unchanged) (λ is. unchanged))
     where
       others : (none mine : Bool) → not mine ≡ true → (not none && not mine) ≡ false → none ≡ true
       others true mine out free = refl
@@ -130,9 +138,12 @@ module _ (lock : Lock) (t u : ℕ) (alone : Bool) (was : hold_in t (Some lock) �
   by_unheld allowed mine = go lock.kind lock.writing refl refl
     where
       go : (kind : Kind) (writing : Bool) → lock.kind ≡ kind → lock.writing ≡ writing → Still t alone (Some (unheld lock u))
-      go Exclusive writing is w now holds = alike t alone lock (unheld lock u) was (ap (λ kind. is_alone kind false) is ∙ ap (λ kind. is_alone kind lock.writing) (sym is)) now holds
-      go Recursive writing is w now holds = alike t alone lock (unheld lock u) was (ap (λ kind. is_alone kind false) is ∙ ap (λ kind. is_alone kind lock.writing) (sym is)) now holds
-      go Condition writing is w now holds = alike t alone lock (unheld lock u) was (ap (λ kind. is_alone kind false) is ∙ ap (λ kind. is_alone kind lock.writing) (sym is)) now holds
+      go Exclusive writing is w now holds =
+          alike t alone lock (unheld lock u) was (ap (λ kind. is_alone kind false) is ∙ ap (λ kind. is_alone kind lock.writing) (sym is)) now holds
+      go Recursive writing is w now holds =
+          alike t alone lock (unheld lock u) was (ap (λ kind. is_alone kind false) is ∙ ap (λ kind. is_alone kind lock.writing) (sym is)) now holds
+      go Condition writing is w now holds =
+          alike t alone lock (unheld lock u) was (ap (λ kind. is_alone kind false) is ∙ ap (λ kind. is_alone kind lock.writing) (sym is)) now holds
       go ReadWrite false is w now holds = alike t alone lock (unheld lock u) was (ap (is_alone lock.kind) (sym w)) now holds
       go ReadWrite true is w now holds =
           let few : length lock.holders ≤ 1 =

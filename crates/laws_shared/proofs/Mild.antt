@@ -1,5 +1,6 @@
 -- What most requests leave: the channels, who lives, and the events that bring channels.
-use Rattle.std.proofs.Common.{◌≡◌, ◌∙◌, ◌==◌, ℕ, zero, suc, Bool, true, false, if◌then◌else◌, List, [], ◌∷◌, ◌++◌, length, Option, Some, None, ap, refl, sym, subst}
+use Rattle.std.proofs.Common.{◌≡◌, ◌∙◌, ◌==◌, ℕ, zero, suc, Bool, true, false, if◌then◌else◌, List, [], ◌∷◌, ◌++◌}
+use Rattle.std.proofs.Common.{length, Option, Some, None, ap, refl, sym, subst}
 use Rattle.tt_calls.specs.declared.event.Event.{Event}
 use Rattle.tt_calls.specs.declared.event.Event.TheVariants as event
 use Rattle.tt_calls.specs.declared.outcome.Outcome.{Outcome}
@@ -15,7 +16,9 @@ use Rattle.laws_shared.proofs.Numbered.{by_more}
 use Rattle.laws_shared.specs.KeptChannels.{brings}
 use Rattle.tt_shared.specs.Acts.{act, creates, has_newline, reads, starts, stops_unheld, with_workers}
 use Rattle.tt_shared.specs.Mail.{Queues, queued, variable_post}
-use Rattle.tt_shared.specs.Sends.{awaits_at, broadcasts_to, delivers_at, delivers_value, is_asked, is_due, mailed, names_procedure, procedure_in_use, reports_to, sends, sends_linked, sends_named, sends_to, served, sets, takes_answer, tells}
+use Rattle.tt_shared.specs.Sends.{awaits_at, broadcasts_to, delivers_at, delivers_value, is_asked, is_due, mailed}
+use Rattle.tt_shared.specs.Sends.{names_procedure, procedure_in_use, reports_to, sends, sends_linked, sends_named}
+use Rattle.tt_shared.specs.Sends.{sends_to, served, sets, takes_answer, tells}
 use Rattle.tt_shared.specs.State.{Acted, State, answers, is_not_asked, with_thread}
 use Rattle.tt_shared.specs.declared.applied.Line.{Line}
 use Rattle.tt_shared.specs.declared.applied.Line.TheVariants as line
@@ -121,25 +124,31 @@ by_names : (state : State) (t : ℕ) (name : Option (List ℕ)) → Mild state (
 by_names state t None = same state
 by_names state t (Some name) = quietly state _ refl refl refl
 
-by_sends_to : (state : State) (t target : ℕ) (script : List ℕ) (mode : Mode) (variable : Option (List ℕ)) (head : Bool) → Mild state (sends_to state t target script mode variable head).state
+by_sends_to : (state : State) (t target : ℕ) (script : List ℕ) (mode : Mode) (variable : Option (List ℕ)) (head : Bool) →
+    Mild state (sends_to state t target script mode variable head).state
 by_sends_to state t target script mode variable head =
     and_on state _ _ (quietly state (record state { posts = Rattle.tt_shared.specs.Mail.posted state.posts t target mode variable }) refl refl refl)
     (mail _ target head _ (λ text. refl))
 
-by_linked : (state : State) (t target : ℕ) (script : List ℕ) (mode : Mode) (variable : Option (List ℕ)) (head : Bool) → Mild state (sends_linked state t target script mode variable head).state
+by_linked : (state : State) (t target : ℕ) (script : List ℕ) (mode : Mode) (variable : Option (List ℕ)) (head : Bool) →
+    Mild state (sends_linked state t target script mode variable head).state
 by_linked state t target script Waits variable head = by_if state _ _ _ (same state) (by_sends_to state t target script Waits variable head)
 by_linked state t target script Later variable head = by_sends_to state t target script Later variable head
 
-by_named : (state : State) (t : ℕ) (text script : List ℕ) (mode : Mode) (variable : Option (List ℕ)) (head : Bool) (target : Option ℕ) → Mild state (sends_named state t text script mode variable head target).state
+by_named : (state : State) (t : ℕ) (text script : List ℕ) (mode : Mode) (variable : Option (List ℕ)) (head : Bool) (target : Option ℕ) →
+    Mild state (sends_named state t text script mode variable head target).state
 by_named state t text script mode variable head None = same state
 by_named state t text script mode variable head (Some target) = by_linked state t target script mode variable head
 
-by_sends : (state : State) (t : ℕ) (text script : List ℕ) (mode : Mode) (variable : Option (List ℕ)) (head : Bool) → Mild state (sends state t text script mode variable head).state
-by_sends state t text script mode variable head = by_if state (is_asked mode variable) _ _ (by_named state t text script mode variable head (linked state.rows text)) (same state)
+by_sends : (state : State) (t : ℕ) (text script : List ℕ) (mode : Mode) (variable : Option (List ℕ)) (head : Bool) →
+    Mild state (sends state t text script mode variable head).state
+by_sends state t text script mode variable head =
+    by_if state (is_asked mode variable) _ _ (by_named state t text script mode variable head (linked state.rows text)) (same state)
 
 by_awaits : (state : State) (t n : ℕ) (found : Option Slot) → Mild state (awaits_at state t n found).state
 by_awaits state t n None = same state
-by_awaits state t n (Some found) = by_if state (found.sender == t) (takes_answer state n found.state) (is_not_asked state) (quietly state _ refl refl refl) (same state)
+by_awaits state t n (Some found) =
+    by_if state (found.sender == t) (takes_answer state n found.state) (is_not_asked state) (quietly state _ refl refl refl) (same state)
 
 by_sets : (old state : State) (post : VariablePost) (value : List ℕ) → Mild old state → Mild old (sets state post value)
 by_sets old state post value mild = either old _ _ _ (and_on old state _ mild (mail state post.sender false (event.SetVar post.name value) (λ text. refl))) mild
@@ -150,14 +159,16 @@ by_value state t n outcome (Some post) = by_if state _ _ _ (by_sets state _ post
 
 by_delivers : (state : State) (t n : ℕ) (outcome : Outcome) (found : Option Slot) → Mild state (delivers_at state t n outcome found).state
 by_delivers state t n outcome None = by_value state t n outcome (variable_post state.posts n)
-by_delivers state t n outcome (Some found) = by_if state (is_due t found) (answers filled (served state t outcome)) (is_not_asked state) (quietly state filled refl refl refl) (same state)
+by_delivers state t n outcome (Some found) =
+    by_if state (is_due t found) (answers filled (served state t outcome)) (is_not_asked state) (quietly state filled refl refl refl) (same state)
   where
     filled : State
     filled = record state { posts = record state.posts { slots = with_state state.posts.slots n (slot.Result outcome) } }
 
 by_tells : (state : State) (target : ℕ) (script : List ℕ) (plain : Bool) → Mild state (tells state target script plain)
 by_tells state target script plain =
-    and_on state _ _ (quietly state (record state { posts = Rattle.tt_shared.specs.Mail.with_plain state.posts }) refl refl refl) (mail _ target false _ (λ text. refl))
+    and_on state _ _ (quietly state (record state { posts = Rattle.tt_shared.specs.Mail.with_plain state.posts }) refl refl refl)
+    (mail _ target false _ (λ text. refl))
 
 by_reports : (state : State) (t : ℕ) (trace : List ℕ) (procedure : Option ErrorProcedure) → Mild state (reports_to state t trace procedure).state
 by_reports state t trace None = same state
@@ -171,7 +182,8 @@ by_broadcasts (suc n) t script state =
 
 by_workers : (n : ℕ) (start : Start) (state : State) → Mild state (with_workers n start state)
 by_workers zero start state = same state
-by_workers (suc n) start state = and_on state (with_workers n start state) _ (by_workers n start state) (thread (with_workers n start state) (new_row start false false))
+by_workers (suc n) start state =
+    and_on state (with_workers n start state) _ (by_workers n start state) (thread (with_workers n start state) (new_row start false false))
 
 pub by_starts : (state : State) (n : ℕ) (worker : Option Start) → Mild state (starts state n worker)
 by_starts state n None = same state

@@ -35,7 +35,8 @@ not_owned t (Some channel) other = go channel.owner refl
     go (Moving from to) is = if-not (is_owned channel.owner t) (ap (λ owner. is_owned owner t) is)
 
 module _ (table : ChannelTable) (t : ℕ) where
-  is-none : (does : Channel → Answered ChannelTable) (text : List ℕ) → owned t (channel_of table text) ≡ None → channels.if_owned does table t text ≡ channels.not_found table text
+  is-none : (does : Channel → Answered ChannelTable) (text : List ℕ) → owned t (channel_of table text) ≡ None →
+      channels.if_owned does table t text ≡ channels.not_found table text
   is-none does text none = rw (none, channels.if_owned) refl
 
   -- the call is one of those that the owner alone may make
@@ -54,10 +55,13 @@ module _ (table : ChannelTable) (t : ℕ) where
   ready (chan.AwaitMove text) asks none = absurd (cc asks)
   ready call asks none = refl
 
-  act_is : (target : Option ℕ) (call : ChanCall) → is_standard (channels.id_of call) ≡ false → channels.act table t target call ≡ channels.act_own table t target call
+  act_is : (target : Option ℕ) (call : ChanCall) → is_standard (channels.id_of call) ≡ false →
+      channels.act table t target call ≡ channels.act_own table t target call
   act_is target call other = go (is_standard (channels.id_of call)) other
     where
-      go : (b : Bool) → b ≡ false → (if b then replies.refuses table (channels.standard_message (channels.id_of call) call) else channels.act_own table t target call) ≡ channels.act_own table t target call
+      go : (b : Bool) → b ≡ false →
+          (if b then replies.refuses table
+          (channels.standard_message (channels.id_of call) call) else channels.act_own table t target call) ≡ channels.act_own table t target call
       go true is = absurd (cc is)
       go false is = refl
 

@@ -1,5 +1,6 @@
 -- What stands under a number, from 1, in a list after it was changed.
-use Rattle.std.proofs.Common.{◌≡◌, ◌∙◌, ◌-◌, ◌==◌, ℕ, zero, suc, Bool, true, false, List, [], ◌∷◌, ◌++◌, length, slice_get, slice_set, Option, Some, None, if◌then◌else◌, ap, refl, arith}
+use Rattle.std.proofs.Common.{◌≡◌, ◌∙◌, ◌-◌, ◌==◌, ℕ, zero, suc, Bool, true, false, List, [], ◌∷◌, ◌++◌, length}
+use Rattle.std.proofs.Common.{slice_get, slice_set, Option, Some, None, if◌then◌else◌, ap, refl, arith}
 use Rattle.std.proofs.lemmas.Bool.Decides.{nat_tests}
 use Rattle.tt_calls.specs.Numbers.{at_number}
 
@@ -11,21 +12,24 @@ less_one : (i : ℕ) → suc i - 1 ≡ i
 less_one i = omega arith
 
 module _ {X : Type 0} where
-  by_place : (P : Option X → Type 0) (xs : List X) (i j : ℕ) (x old : X) → slice_get xs i ≡ Some old → (j ≡ i → P (Some x)) → P (slice_get xs j) → P (slice_get (slice_set xs i x) j)
+  by_place : (P : Option X → Type 0) (xs : List X) (i j : ℕ) (x old : X) → slice_get xs i ≡ Some old → (j ≡ i → P (Some x)) → P (slice_get xs j) →
+      P (slice_get (slice_set xs i x) j)
   by_place P [] i j x old there here is = is
   by_place P (y ∷ ys) zero zero x old there here is = here refl
   by_place P (y ∷ ys) zero (suc j) x old there here is = is
   by_place P (y ∷ ys) (suc i) zero x old there here is = is
   by_place P (y ∷ ys) (suc i) (suc j) x old there here is = by_place P ys i j x old there (λ same. here (ap suc same)) is
 
-  past_place : (P : Option X → Type 0) (xs : List X) (j : ℕ) (x : X) → (P None → j ≡ length xs → P (Some x)) → P (slice_get xs j) → P (slice_get (xs ++ x ∷ []) j)
+  past_place : (P : Option X → Type 0) (xs : List X) (j : ℕ) (x : X) → (P None → j ≡ length xs → P (Some x)) → P (slice_get xs j) →
+      P (slice_get (xs ++ x ∷ []) j)
   past_place P [] zero x new is = new is refl
   past_place P [] (suc j) x new is = is
   past_place P (y ∷ ys) zero x new is = is
   past_place P (y ∷ ys) (suc j) x new is = past_place P ys j x (λ none same. new none (ap suc same)) is
 
   -- an element that is there is put in place of another
-  pub by_number : (P : Option X → Type 0) (xs : List X) (n m : ℕ) (x old : X) → at_number xs n ≡ Some old → (m ≡ n → P (Some x)) → P (at_number xs m) → P (at_number (slice_set xs (n - 1) x) m)
+  pub by_number : (P : Option X → Type 0) (xs : List X) (n m : ℕ) (x old : X) → at_number xs n ≡ Some old → (m ≡ n → P (Some x)) → P (at_number xs m) →
+      P (at_number (slice_set xs (n - 1) x) m)
   by_number P xs n m x old there here is = go (n == 0) (m == 0) refl refl there is
     where
       go : (first second : Bool) → (n == 0) ≡ first → (m == 0) ≡ second
@@ -53,7 +57,8 @@ module _ {X : Type 0} where
   numbered-suc xs i = ap (λ b. if b then None else slice_get xs (suc i - 1)) (not_zero i) ∙ ap (slice_get xs) (less_one i)
 
   -- one more at the end
-  pub by_more : (P : Option X → Type 0) (xs : List X) (m : ℕ) (x : X) → (P None → m ≡ suc (length xs) → P (Some x)) → P (at_number xs m) → P (at_number (xs ++ x ∷ []) m)
+  pub by_more : (P : Option X → Type 0) (xs : List X) (m : ℕ) (x : X) → (P None → m ≡ suc (length xs) → P (Some x)) → P (at_number xs m) →
+      P (at_number (xs ++ x ∷ []) m)
   by_more P xs m x new is = go (m == 0) refl is
     where
       go : (b : Bool) → (m == 0) ≡ b → P (if b then None else slice_get xs (m - 1)) → P (if b then None else slice_get (xs ++ x ∷ []) (m - 1))

@@ -54,13 +54,15 @@ flows next id None None put taken (made was never is no_put no_take) = absurd (c
 flows next id None (Some after) put taken (made was never is no_put no_take) = (no_put, no_take, cc is)
 flows next id (Some before) new put taken (made was never is no_put no_take) = absurd (cc was)
 
-keeps_channels : (moment : Moment) → CanHappen moment.before moment.action → Kept moment.before → IsDrawn moment.before.channels → NumbersFit (later moment) → KeepsChannels moment
+keeps_channels : (moment : Moment) → CanHappen moment.before moment.action → Kept moment.before → IsDrawn moment.before.channels →
+    NumbersFit (later moment) → KeepsChannels moment
 keeps_channels moment can kept drawn small =
     let state = moment.before in
     let action = moment.action in
     record {
       refused = λ call asks owner own other. not_owned_law state action.thread call action.line owner own other;
-      owned = λ t text own keeps. stays_after state t action.thread text drawn own action.request action.line (λ me gives. keeps record { thread = me; gives = gives }) small;
+      owned = λ t text own keeps. stays_after state t action.thread text drawn own action.request action.line
+          (λ me gives. keeps record { thread = me; gives = gives }) small;
       flows = λ id.
           flows state.channels.next id (bytes_at state.channels id) (bytes_at (later moment).channels id) (put_at id moment) (taken_at id moment)
           (flow_after state id action.thread action.request action.line drawn small);

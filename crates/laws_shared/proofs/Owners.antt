@@ -1,5 +1,6 @@
 -- A thread owns a channel until it gives it up.
-use Rattle.std.proofs.Common.{◌≡◌, ◌≢◌, ◌∙◌, ◌<◌, ◌^◌, ℕ, Bool, true, false, not, if◌then◌else◌, List, [], ◌∷◌, Option, Some, None, ap, refl, sym, subst, bytes_eq, arith}
+use Rattle.std.proofs.Common.{◌≡◌, ◌≢◌, ◌∙◌, ◌<◌, ◌^◌, ℕ, Bool, true, false, not, if◌then◌else◌, List, [], ◌∷◌, Option}
+use Rattle.std.proofs.Common.{Some, None, ap, refl, sym, subst, bytes_eq, arith}
 use Rattle.std.proofs.lemmas.List.Elements.{All-head, All-tail}
 use Rattle.std.specs.List.{All}
 use Rattle.tt_calls.specs.declared.chan_call.ChanCall.{ChanCall}
@@ -55,7 +56,8 @@ module _ (state : State) (t u : ℕ) (text : List ℕ) (drawn : IsDrawn state.ch
   owner_was : (id : List ℕ) (old : Channel) → channel_of table id ≡ Some old → text ≡ id → old.owner ≡ Thread t
   owner_was id old there same = the_owner t (ap owner_in (sym there) ∙ subst (λ one. owner_at table one ≡ Some (Thread t)) same own)
 
-  by_new : (id : List ℕ) (old new : Channel) → channel_of table id ≡ Some old → (text ≡ id → old.owner ≡ Thread t → new.owner ≡ Thread t) → Owns (with_channel table id new)
+  by_new : (id : List ℕ) (old new : Channel) → channel_of table id ≡ Some old → (text ≡ id → old.owner ≡ Thread t → new.owner ≡ Thread t) →
+      Owns (with_channel table id new)
   by_new id old new there keeps small =
       by_set (λ found. owner_in found ≡ Some (Thread t)) text id table.channels new (λ same had. ap Some (keeps same (owner_was id old there same))) own
 
@@ -73,7 +75,8 @@ module _ (state : State) (t u : ℕ) (text : List ℕ) (drawn : IsDrawn state.ch
   by_change call target id old new keeps there (attached asks nobody is) =
       by_new id old new there (λ same whose. absurd (not_thread t nobody (ap Some whose)))
 
-  by_close : (call : ChanCall) (id : List ℕ) (old : Channel) → Keeps (ask.Chan call) → call ≡ chan.Close id → IsFound u (channel_of table id) old → Owns (without_channel table id)
+  by_close : (call : ChanCall) (id : List ℕ) (old : Channel) → Keeps (ask.Chan call) → call ≡ chan.Close id → IsFound u (channel_of table id) old →
+      Owns (without_channel table id)
   by_close call id old keeps asks found small = go (is_key id text) refl
     where
       go : (b : Bool) → is_key id text ≡ b → owner_at (without_channel table id) text ≡ Some (Thread t)
@@ -92,7 +95,8 @@ module _ (state : State) (t u : ℕ) (text : List ℕ) (drawn : IsDrawn state.ch
 
   by_come : (id : List ℕ) (found : Option Channel) → channel_of table id ≡ found → Owns (given table u id found)
   by_come id None there small = own
-  by_come id (Some channel) there small = by_new id channel (with_owner channel (owner_given u channel.owner)) there (λ same whose. ap (owner_given u) whose) small
+  by_come id (Some channel) there small =
+      by_new id channel (with_owner channel (owner_given u channel.owner)) there (λ same whose. ap (owner_given u) whose) small
 
   -- another thread ends
   by_end : u ≢ t → Owns (table_after_end table u)

@@ -1,5 +1,6 @@
 -- What puts adds to a pipe, and what gets takes from it.
-use Rattle.std.proofs.Common.{◌≡◌, ◌≢◌, ◌∙◌, ℕ, Bool, true, false, if◌then◌else◌, List, [], ◌∷◌, ◌++◌, codes, Option, Some, None, ap, refl, sym, subst, bytes_eq}
+use Rattle.std.proofs.Common.{◌≡◌, ◌≢◌, ◌∙◌, ℕ, Bool, true, false, if◌then◌else◌, List, [], ◌∷◌, ◌++◌, codes, Option}
+use Rattle.std.proofs.Common.{Some, None, ap, refl, sym, subst, bytes_eq}
 use Rattle.std.proofs.lemmas.List.{append_assoc, append-nil}
 use Rattle.tt_calls.specs.declared.chan_call.ChanCall.TheVariants as chan
 use Rattle.tt_calls.specs.declared.reply.Reply.TheVariants as reply
@@ -55,31 +56,36 @@ module _ (table : ChannelTable) (id : List ℕ) where
     refused message = subst (λ put. After table put []) (sym (no_put (channel_of table text) message)) same
 
     -- it goes into the read end that the channel names
-    goes_in : (channel reader : Channel) (before : List ℕ) (ended : Bool) → channel_of table text ≡ Some channel → channel_of table channel.other ≡ Some reader → reader.end ≡ Reads before ended
+    goes_in : (channel reader : Channel) (before : List ℕ) (ended : Bool) → channel_of table text ≡ Some channel →
+        channel_of table channel.other ≡ Some reader → reader.end ≡ Reads before ended
         → Puts (took table channel.other (puts_into reader bytes (Reads before ended)))
     goes_in channel reader before ended there names is =
         subst (λ put. After (with_channel table channel.other (reads reader (before ++ bytes) ended)) put [])
         (sym (ap (λ found. put_into id bytes found reply.Go) there)) (go (bytes_eq channel.other id) refl)
       where
-        go : (b : Bool) → bytes_eq channel.other id ≡ b → After (with_channel table channel.other (reads reader (before ++ bytes) ended)) (if b then bytes else []) []
+        go : (b : Bool) → bytes_eq channel.other id ≡ b →
+            After (with_channel table channel.other (reads reader (before ++ bytes) ended)) (if b then bytes else []) []
         go true here =
             let same_id : channel.other ≡ id = deciding.same_text channel.other id here in
             opened
             (ap (bytes_at table) (sym same_id) ∙ ap bytes_in names ∙ ap bytes_of is)
-            (ap (bytes_at (with_channel table channel.other (reads reader (before ++ bytes) ended))) (sym same_id) ∙ ap bytes_in (set_here channel.other table.channels (reads reader (before ++ bytes) ended) reader names))
+            (ap (bytes_at (with_channel table channel.other (reads reader (before ++ bytes) ended))) (sym same_id)
+            ∙ ap bytes_in (set_here channel.other table.channels (reads reader (before ++ bytes) ended) reader names))
             refl
         go false here =
             elsewhere channel.other (reads reader (before ++ bytes) ended)
             (λ is. deciding.texts_differ channel.other id here (sym is))
 
-    by_reader : (channel : Channel) (found : Option Channel) → channel_of table text ≡ Some channel → channel_of table channel.other ≡ found → Puts (puts_at table channel.other bytes found)
+    by_reader : (channel : Channel) (found : Option Channel) → channel_of table text ≡ Some channel → channel_of table channel.other ≡ found →
+        Puts (puts_at table channel.other bytes found)
     by_reader channel None there names = refused _
     by_reader channel (Some reader) there names = go reader.end refl
       where
         go : (end : End) → reader.end ≡ end → Puts (took table channel.other (puts_into reader bytes end))
         go (Reads before ended) is = goes_in channel reader before ended there names is
         go Writes is =
-            subst (λ put. After (with_channel table channel.other reader) put []) (sym (no_put (channel_of table text) [])) (alike channel.other reader reader names refl)
+            subst (λ put. After (with_channel table channel.other reader) put []) (sym (no_put (channel_of table text) []))
+            (alike channel.other reader reader names refl)
 
     by_writer : (channel : Channel) → channel_of table text ≡ Some channel → Puts (puts table text bytes channel)
     by_writer channel there = go channel.end refl
@@ -116,7 +122,8 @@ module _ (table : ChannelTable) (id : List ℕ) where
         go false = same
 
     -- the end of the id itself, with other bytes
-    here : (old new : Channel) (before after taken : List ℕ) (ended over : Bool) → channel_of table text ≡ Some old → old.end ≡ Reads before ended → new.end ≡ Reads after over
+    here : (old new : Channel) (before after taken : List ℕ) (ended over : Bool) → channel_of table text ≡ Some old → old.end ≡ Reads before ended →
+        new.end ≡ Reads after over
         → text ≡ id → before ++ [] ≡ taken ++ after → After (with_channel table text new) [] taken
     here old new before after taken ended over there was is mine flows =
         opened
@@ -134,10 +141,14 @@ module _ (table : ChannelTable) (id : List ℕ) where
 
     module _ (channel : Channel) (bytes : List ℕ) (ended : Bool) (there : channel_of table text ≡ Some channel) (is : channel.end ≡ Reads bytes ended) where
       abbrev line_or_rest : Bool → Taken
-      line_or_rest newline = if newline then record { channel = reads channel (later_lines bytes) ended; reply = reply.Line (first_line bytes) } else takes_rest channel bytes
+      line_or_rest newline =
+          if newline then record { channel = reads channel (later_lines bytes) ended; reply = reply.Line (first_line bytes) } else takes_rest channel bytes
 
-      got : text ≡ id → (newline : Bool) → has_line bytes ≡ newline → After (with_channel table text (line_or_rest newline).channel) [] (taken_with newline (line_or_rest newline).reply)
-      got mine true has = here channel (reads channel (later_lines bytes) ended) bytes (later_lines bytes) (first_line bytes ++ 10 ∷ []) ended ended there is refl mine (line_taken bytes has)
+      got : text ≡ id → (newline : Bool) → has_line bytes ≡ newline →
+          After (with_channel table text (line_or_rest newline).channel) [] (taken_with newline (line_or_rest newline).reply)
+      got mine true has =
+          here channel (reads channel (later_lines bytes) ended) bytes (later_lines bytes) (first_line bytes ++ 10 ∷ []) ended ended there is refl mine
+          (line_taken bytes has)
       got mine false has =
           here channel (reads channel [] true) bytes [] (taken_with false (rest_reply bytes)) ended true there is refl mine
           (ap (λ taken. taken ++ []) (sym (rest_taken bytes)))
@@ -146,11 +157,14 @@ module _ (table : ChannelTable) (id : List ℕ) where
       by_line = go (bytes_eq text id) refl
         where
           go : (b : Bool) → bytes_eq text id ≡ b
-              → After (with_channel table text (takes_line channel bytes ended).channel) [] (if b then taken_with (has_newline (bytes_at table id)) (takes_line channel bytes ended).reply else [])
+              → After (with_channel table text (takes_line channel bytes ended).channel) []
+              (if b then taken_with (has_newline (bytes_at table id)) (takes_line channel bytes ended).reply else [])
           go true same_id =
               let mine : text ≡ id = deciding.same_text text id same_id in
-              let newline : has_newline (bytes_at table id) ≡ has_line bytes = ap has_newline (ap (bytes_at table) (sym mine) ∙ ap bytes_in there ∙ ap bytes_of is) in
-              subst (λ one. After (with_channel table text (takes_line channel bytes ended).channel) [] (taken_with one (takes_line channel bytes ended).reply)) (sym newline)
+              let newline : has_newline (bytes_at table id) ≡ has_line bytes =
+              ap has_newline (ap (bytes_at table) (sym mine) ∙ ap bytes_in there ∙ ap bytes_of is) in
+              subst (λ one. After (with_channel table text (takes_line channel bytes ended).channel) []
+              (taken_with one (takes_line channel bytes ended).reply)) (sym newline)
               (got mine (has_line bytes) refl)
           go false other =
               elsewhere text (takes_line channel bytes ended).channel
@@ -162,7 +176,9 @@ module _ (table : ChannelTable) (id : List ℕ) where
         writes : Gets (took table text (gets_line channel text Writes))
         writes = wrong (bytes_eq text id)
           where
-            wrong : (b : Bool) → After (with_channel table text channel) [] (if b then taken_with (has_newline (bytes_at table id)) (gets_line channel text Writes).reply else [])
+            wrong : (b : Bool) →
+                After (with_channel table text channel) []
+                (if b then taken_with (has_newline (bytes_at table id)) (gets_line channel text Writes).reply else [])
             wrong true = alike text channel channel there refl
             wrong false = alike text channel channel there refl
 

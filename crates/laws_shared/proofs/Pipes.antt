@@ -23,12 +23,14 @@ use Rattle.tt_shared.specs.declared.applied.Line.{Line}
 abbrev pub FlowsBy : State → List ℕ → ℕ → Request → Line → Type 0
 FlowsBy state id t request line =
     let done = act state t request line in
-    Flow state.channels.next id (bytes_at state.channels id) (bytes_at done.state.channels id) (put_by id state request done.gives.reply) (taken_by id state request done.gives.reply)
+    Flow state.channels.next id (bytes_at state.channels id) (bytes_at done.state.channels id) (put_by id state request done.gives.reply)
+    (taken_by id state request done.gives.reply)
 
 same_call : (one other : ChanCall) → ask.Chan one ≡ ask.Chan other → one ≡ other
 same_call one other is = cc is
 
-pub flow_after : (state : State) (id : List ℕ) (t : ℕ) (request : Request) (line : Line) → IsDrawn state.channels → (act state t request line).state.channels.next < 2 ^ 64 → FlowsBy state id t request line
+pub flow_after : (state : State) (id : List ℕ) (t : ℕ) (request : Request) (line : Line) → IsDrawn state.channels →
+    (act state t request line).state.channels.next < 2 ^ 64 → FlowsBy state id t request line
 flow_after state id t (ask.Chan (chan.Put text bytes)) line drawn small = put_after state.channels id text bytes t (target_of state (chan.Put text bytes))
 flow_after state id t (ask.Chan (chan.GetLine text)) line drawn small = get_after state.channels id text t (target_of state (chan.GetLine text))
 flow_after state id t (ask.Chan call) line drawn small =
@@ -74,7 +76,8 @@ step table next id new put taken puts takes drawn up (opened {before = before} {
 }
 step table next id new put taken puts takes drawn up (shut is no_put no_take) so_far = record {
   rest = so_far.rest;
-  front = ap (λ more. put ++ more) no_put ∙ append-nil put ∙ so_far.front ∙ ap (λ all. all ++ so_far.rest) (sym (ap (λ more. taken ++ more) no_take ∙ append-nil taken));
+  front = ap (λ more. put ++ more) no_put ∙ append-nil put ∙ so_far.front
+      ∙ ap (λ all. all ++ so_far.rest) (sym (ap (λ more. taken ++ more) no_take ∙ append-nil taken));
   open_end = subst (λ bytes. IfSome bytes (λ one. one ≡ so_far.rest)) (sym is) tt;
   unused = λ never.
       let before = so_far.unused (λ used. never (used_later id table.next next up used)) in
@@ -110,7 +113,8 @@ along old new (action ∷ actions) id before gone drawn (more can rest) small so
     let now = step old.channels next.channels.next id (bytes_at next.channels id) before gone (put_at id first) (taken_at id first) drawn up.up flow so_far in
     let later = along next new actions id (before ++ put_at id first) (gone ++ taken_at id first) (up.drawn fits drawn) rest small now in
     subst (λ all. SoFarIn new id all (gone ++ taken id old (action ∷ actions))) (append_assoc before (put_at id first) (put id next actions))
-    (subst (λ all. SoFarIn new id ((before ++ put_at id first) ++ put id next actions) all) (append_assoc gone (taken_at id first) (taken id next actions)) later)
+    (subst (λ all. SoFarIn new id ((before ++ put_at id first) ++ put id next actions) all)
+    (append_assoc gone (taken_at id first) (taken id next actions)) later)
 
 pub piped : PipeLaw
 piped main actions state id acts small =

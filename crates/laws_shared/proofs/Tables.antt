@@ -50,7 +50,8 @@ module _ {X : Type 0} where
   set_here id [] x old is = absurd (cc is)
   set_here id (e ∷ es) x old is = go (is_key id e.0) refl is (set_here id es x old)
     where
-      go : (here : Bool) → is_key id e.0 ≡ here → cond here (Some e.1) (at id es) ≡ Some old → (at id es ≡ Some old → at id (set_value (is_key id) es x) ≡ Some x)
+      go : (here : Bool) → is_key id e.0 ≡ here → cond here (Some e.1) (at id es) ≡ Some old →
+          (at id es ≡ Some old → at id (set_value (is_key id) es x) ≡ Some x)
           → at id (cond here ((e.0, x) ∷ es) (e ∷ set_value (is_key id) es x)) ≡ Some x
       go true here is later = rw here refl
       go false here is later = rw here (later is)
@@ -80,7 +81,8 @@ module _ {X : Type 0} where
       go Greater is false other found later = rw other (later found)
 
   -- an entry is taken out
-  pub by_remove : (P : Option X → Type 0) (text id : List ℕ) (entries : Entries X) → text ≢ id → P (at text entries) → P (at text (remove_entry (is_key id) entries))
+  pub by_remove : (P : Option X → Type 0) (text id : List ℕ) (entries : Entries X) → text ≢ id → P (at text entries) →
+      P (at text (remove_entry (is_key id) entries))
   by_remove P text id [] differs is = is
   by_remove P text id (e ∷ es) differs is = go (is_key id e.0) (is_key text e.0) refl refl is (by_remove P text id es differs)
     where

@@ -13,7 +13,8 @@ use Rattle.tt_calls.specs.declared.request.Request.TheVariants as ask
 use Rattle.tt_calls.specs.declared.start.Start.TheVariants.{Script}
 use Rattle.tt_chans.specs.declared.channel.Owner.TheVariants.{Thread, Detached, Moving}
 use Rattle.laws_shared.specs.Actions.{Action}
-use Rattle.laws_shared.specs.Happenings.{Began, Died, Finished, Frees, Got, GetsHold, Nobody, Owner, Posted, Set, Variable, Waiting, happenings}
+use Rattle.laws_shared.specs.Happenings.{Began, Died, Finished, Frees, Got, GetsHold, Nobody, Owner, Posted, Set}
+use Rattle.laws_shared.specs.Happenings.{Variable, Waiting, happenings}
 use Rattle.laws_shared.specs.Pipes.{put, taken}
 use Rattle.tt_shared.specs.State.{State, start_state}
 use Rattle.tt_shared.specs.declared.applied.Line.TheVariants.{NotRead}
@@ -26,8 +27,8 @@ abbrev pub by : ℕ → Request → Action
 by t request = record { thread = t; request = request; line = NotRead }
 
 -- main makes a second thread
-abbrev pub made : Action
-made = by 1 (ask.Create false false [])
+abbrev pub creation : Action
+creation = by 1 (ask.Create false false [])
 
 abbrev pub outcome : Outcome
 outcome = record { code = Fine; value = codes "v"; trace = []; kept = Fine }
@@ -36,7 +37,7 @@ outcome = record { code = Fine; value = codes "v"; trace = []; kept = Fine }
 -- ends before
 abbrev pub sends : List Action
 sends =
-    made
+    creation
     ∷ by 1 (ask.Send (codes "tid2") (codes "x") Later (Some (codes "r")) false)
     ∷ by 1 (ask.Send (codes "tid2") (codes "y") Waits None true)
     ∷ by 2 ask.Take
@@ -49,7 +50,7 @@ sends =
 -- a mutex is taken twice and given up once; then another thread can't give it up
 abbrev pub locks : List Action
 locks =
-    made
+    creation
     ∷ by 1 (ask.Lock (lock.Create Recursive))
     ∷ by 1 (ask.Lock (lock.Lock (codes "rid1")))
     ∷ by 1 (ask.Lock (lock.Lock (codes "rid1")))
@@ -60,7 +61,7 @@ locks =
 -- a pipe, of which the read end is sent to a thread, which detaches it after it has read a line
 abbrev pub pipes : List Action
 pipes =
-    made
+    creation
     ∷ by 1 (ask.Chan chan.Pipe)
     ∷ by 1 (ask.Chan (chan.Put (codes "chan2") (codes "ab\ncd")))
     ∷ by 1 (ask.Chan (chan.Transfer (codes "tid2") (codes "chan1")))

@@ -1,5 +1,6 @@
 -- What is put into pipes and what is taken out of them (puts(n), gets(n), chan(n)).
-use Rattle.std.specs.Prelude.{◌≡◌, ℕ, Bool, false, List, [], ◌∷◌, ◌++◌, bytes_eq, Option, Some, None, IfSome, if◌then◌else◌}
+use Rattle.std.specs.Prelude.{◌≡◌, ℕ, Bool, false, List, [], ◌∷◌, ◌++◌, bytes_eq, Option, Some, None, IfSome}
+use Rattle.std.specs.Prelude.{if◌then◌else◌}
 use Rattle.std.specs.List.{flat_map}
 use Rattle.tt_calls.specs.declared.chan_call.ChanCall.TheVariants as chan
 use Rattle.tt_calls.specs.declared.reply.Reply.{Reply}
@@ -68,7 +69,7 @@ put id state actions = flat_map (put_at id) (moments state actions)
 abbrev pub taken : (id : List ℕ) → State → List Action → List ℕ
 taken id state actions = flat_map (taken_at id) (moments state actions)
 
--- What a read end has, and then what is put in, is what is taken and then what it has. Where it is closed, new or not
+-- What a read end has, and then what is put in, is what is taken and then what it has. If it is closed, new or not
 -- there, nothing is put in or taken, and a new one has no bytes.
 abbrev pub Flows : (before after : Option (List ℕ)) → (put taken : List ℕ) → Type 0
 Flows (Some before) (Some after) put taken = before ++ put ≡ taken ++ after

@@ -1,7 +1,9 @@
 //! Laws about the definitions, each proved as the contract of a function that does nothing.
 ghost use Rattle.laws_shared.specs.Example.{WorkedHappenings};
 ghost use Rattle.laws_shared.specs.Orderly.{OrderlyLaw};
-ghost use Rattle.laws_shared.specs.SharedLaws.{ArraysAloneLaw, ChannelsAreKeptLaw, GoesOnLaw, HeldAloneLaw, HoldStaysLaw, NotOwnedLaw, OneHolderLaw, OthersWaitLaw, PipeLaw, StaysOwnLaw};
+ghost use Rattle.laws_shared.specs.SharedLaws.{ArraysAloneLaw, ChannelsAreKeptLaw, GoesOnLaw, HeldAloneLaw};
+ghost use Rattle.laws_shared.specs.SharedLaws.{HoldStaysLaw, NotOwnedLaw, OneHolderLaw, OthersWaitLaw, PipeLaw};
+ghost use Rattle.laws_shared.specs.SharedLaws.{StaysOwnLaw};
 
 /// A run goes on by an action that can happen.
 pub fn runs_go_on()

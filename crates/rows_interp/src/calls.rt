@@ -1,4 +1,4 @@
-//! A call is told by its name and what it holds.
+//! A call is named, with what it holds.
 
 use crate::telling::Telling;
 use tt_calls::{ChanCall, Family, Kind, LockCall, PoolCall, TsvCall};

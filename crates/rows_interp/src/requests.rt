@@ -1,4 +1,4 @@
-//! A request is told by its name and what it holds: truth as 0 or 1, what is missing as `-`.
+//! A request is named, with what it holds: truth as 0 or 1, what is missing as `-`.
 
 use crate::calls::{tell_chan, tell_lock, tell_pool, tell_tsv};
 use crate::telling::Telling;

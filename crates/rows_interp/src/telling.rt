@@ -13,7 +13,7 @@ pub(crate) const CODES: [(&str, Code); 5] = [
     ("Continued", Code::Continued),
 ];
 
-/// The words that something is told by.
+/// The words that name something.
 #[derive(Drop)]
 pub(crate) struct Telling {
     alloc: Global,

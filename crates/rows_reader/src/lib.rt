@@ -1,5 +1,5 @@
-//! What the programs that read tables of rows have in common: how rows are cut out of a table's text, the words of a line,
-//! and how many rows hold.
+//! What the programs that read tables of rows have in common: how rows are cut out of a table's text, the words of a
+//! line, and how many rows hold.
 #![tactic(auto)]
 
 mod table;

@@ -1,8 +1,8 @@
 //! Tables of runs of whole scripts, with their threads: what a run writes and how it ends (thread(n), Tcl(n)). They
 //! stand in the files of `data/`, and this says how many rows hold, and shows those that don't.
 //!
-//! A row begins with `== ` and its name. The lines after it are the script, and then come what the run begins with, what
-//! it writes, and how it ends:
+//! A row begins with `== ` and its name. The lines after it are the script, and then come what the run begins with,
+//! what it writes, and how it ends:
 //!
 //! - `%% arguments LIST`: the script's arguments; without this line there are none.
 //! - `%% input TEXT`: standard input, where `\n` stands for a newline; without this line it is empty.
@@ -12,7 +12,7 @@
 //!   do so in turn, by number.
 //! - `> LINE`: a line of standard output, and `! LINE` one of standard error; `>- TEXT` and `!- TEXT` are texts that no
 //!   newline follows.
-//! - `= END`: how the run ends, as `run` tells it.
+//! - `= END`: how the run ends, in the words of `run`.
 #![tactic(auto)]
 
 mod row;

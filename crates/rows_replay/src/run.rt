@@ -79,7 +79,7 @@ fn follow(system: &mut Run, schedule: &[Steps]) -> anyhow::Result<End> {
     Ok(over_or(system, End::ScheduleEnded))
 }
 
-// How the run ends in these steps, or nothing where all of them were taken.
+// How the run ends in these steps, or nothing if all of them were taken.
 fn take(system: &mut Run, steps: Steps) -> anyhow::Result<Option<End>> {
     for _ in 0..steps.count {
         if let Some(end) = step(system, steps.thread)? {

@@ -6,7 +6,7 @@
 use std::alloc::Global;
 use tt_generate::workload;
 
-/// The script that the number gives at the size, told as it is wanted.
+/// The script that the number gives at the size, as text as it is wanted.
 pub(crate) fn answer(alloc: Global, row: &str, wanted: &str) -> anyhow::Result<String> {
     let Some((number, size)) = row.trim().split_once(' ') else {
         anyhow::bail!("a row without a size");

@@ -13,7 +13,8 @@ use Rattle.tt_calls.specs.declared.chan_call.ChanCall.TheVariants as chan
 use Rattle.tt_calls.specs.declared.reply.Reply.{Reply}
 use Rattle.tt_calls.specs.declared.reply.Reply.TheVariants as reply
 use Rattle.tt_calls.specs.declared.reply.Shape.{Shape}
-use Rattle.tt_calls.specs.declared.reply.Shape.TheVariants.{Go, Value, Refused, Found, Posted, Waits, Answer, Died, Event, NoEvent, Served, Line, LineEnd, Job, JobStop, Lists}
+use Rattle.tt_calls.specs.declared.reply.Shape.TheVariants.{Go, Value, Refused, Found, Posted, Waits, Answer, Died}
+use Rattle.tt_calls.specs.declared.reply.Shape.TheVariants.{Event, NoEvent, Served, Line, LineEnd, Job, JobStop, Lists}
 
 -- which variant a reply is
 abbrev pub shape_of : Reply → Shape

@@ -29,10 +29,10 @@ pub struct Outcome {
     pub code: Code,
     /// Its result, or the message of its error.
     pub value: Text,
-    /// Where `code` is `Failed`, the error's trace, as `errorInfo` of tclvars(n) has it; else it says
+    /// If `code` is `Failed`, the error's trace, as `errorInfo` of tclvars(n) has it; else it says
     /// nothing.
     pub trace: Text,
-    /// Where `code` is `Returned`, the code that `return -code` of return(n) gave, with which the
+    /// If `code` is `Returned`, the code that `return -code` of return(n) gave, with which the
     /// procedure ends; `Fine` else.
     pub kept: Code,
 }

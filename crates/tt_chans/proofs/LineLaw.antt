@@ -18,7 +18,8 @@ pub line : LineLaw
 line [] has = absurd (cc has)
 line (b ∷ bytes) has = go (is_newline b) refl (line bytes)
   where
-    go : (here : Bool) → is_newline b ≡ here → (has_line bytes ≡ true → first_line bytes ++ 10 ∷ later_lines bytes ≡ bytes) → first_line (b ∷ bytes) ++ 10 ∷ later_lines (b ∷ bytes) ≡ b ∷ bytes
+    go : (here : Bool) → is_newline b ≡ here → (has_line bytes ≡ true → first_line bytes ++ 10 ∷ later_lines bytes ≡ bytes) →
+        first_line (b ∷ bytes) ++ 10 ∷ later_lines (b ∷ bytes) ≡ b ∷ bytes
     go true e later =
         let is : b ≡ 10 = search (rules, e) in
         rw (length-here b bytes e) (ap (λ one. one ∷ bytes) (sym is))

@@ -1,13 +1,15 @@
 -- What calls on channels do, and when they wait: a case each (puts(n), gets(n), eof(n), close(n), chan(n), thread(n),
 -- thread::detach, thread::attach, thread::transfer).
-use Rattle.std.specs.Prelude.{ℕ, Bool, false, ◌&&◌, ◌==◌, not, List, [], ◌∷◌, ◌++◌, codes, Option, Some, None, is_some, if◌then◌else◌}
+use Rattle.std.specs.Prelude.{ℕ, Bool, false, ◌&&◌, ◌==◌, not, List, [], ◌∷◌, ◌++◌, codes, Option, Some, None, is_some}
+use Rattle.std.specs.Prelude.{if◌then◌else◌}
 use Rattle.tt_calls.specs.Replies as replies
 use Rattle.tt_calls.specs.Replies.{Answered, answers, refuses}
 use Rattle.tt_calls.specs.declared.chan_call.ChanCall.{ChanCall}
 use Rattle.tt_calls.specs.declared.chan_call.ChanCall.TheVariants as ask
 use Rattle.tt_calls.specs.declared.reply.Reply.TheVariants.{Go, Value, Died}
 use Rattle.tt_calls.specs.declared.reply.Step.{Step}
-use Rattle.tt_chans.specs.Channels.{ChannelTable, channel_of, is_standard, read_id, with_channel, with_pipe, without_channel, write_id}
+use Rattle.tt_chans.specs.Channels.{ChannelTable, channel_of, is_standard, read_id, with_channel, with_pipe}
+use Rattle.tt_chans.specs.Channels.{without_channel, write_id}
 use Rattle.tt_chans.specs.Ends.{Taken, gets_line, is_owned, moves_from, of_channel, owned, puts_into, with_owner}
 use Rattle.tt_chans.specs.Lines.{has_line}
 use Rattle.tt_chans.specs.declared.channel.Channel.{Channel}

@@ -1,6 +1,8 @@
 ghost use Rattle.std.specs.Prelude.{◌≡◌, ◌++◌, ◌∷◌, IfOk, OnOk};
 ghost use Rattle.tt_calls.specs.declared.reply.Reply.TheVariants.{Value};
-ghost use Rattle.tt_chans.specs.Calls.{act, act_own, attaches_named, closes, detaches, eof, gets_named, if_owned, moved, owned_by, puts_named, puts_other, step_after, table_after, transfers_named};
+ghost use Rattle.tt_chans.specs.Calls.{act, act_own, attaches_named, closes, detaches, eof, gets_named, if_owned};
+ghost use Rattle.tt_chans.specs.Calls.{moved, owned_by, puts_named, puts_other, step_after, table_after};
+ghost use Rattle.tt_chans.specs.Calls.{transfers_named};
 ghost use Rattle.tt_chans.specs.Channels.{channel_of, read_id, with_pipe, write_id};
 
 use crate::refusals::{id_of, is_standard, no_thread, not_found, of_channel, refuse_standard};

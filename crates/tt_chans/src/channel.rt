@@ -81,7 +81,7 @@ pub enum End {
 /// A channel.
 #[derive(Debug, Drop)]
 pub struct Channel {
-    /// The id of the other end. Where no channel has it, that end was closed.
+    /// The id of the other end. If no channel has it, that end was closed.
     pub other: Text,
     pub owner: Owner,
     pub end: End,
@@ -143,7 +143,7 @@ impl Channel {
     }
 }
 
-// What the rest after the last newline is told as.
+// What the rest after the last newline is reported as.
 fn rest_reply(rest: Text) -> Reply
     ensures { result ≡ rest_reply rest }
 {

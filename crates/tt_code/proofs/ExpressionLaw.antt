@@ -1,5 +1,6 @@
 -- The code of an expression needs what the expression needs.
-use Rattle.std.proofs.Common.{◌≡◌, ℕ, ◌+◌, Bool, true, false, Result, Ok, Err, List, [], ◌∷◌, ◌++◌, length, reverse, drop, refl, sym, ap, ◌∙◌, arith, length-append}
+use Rattle.std.proofs.Common.{◌≡◌, ℕ, ◌+◌, Bool, true, false, Result, Ok, Err, List, [], ◌∷◌, ◌++◌, length, reverse}
+use Rattle.std.proofs.Common.{drop, refl, sym, ap, ◌∙◌, arith, length-append}
 use Rattle.std.proofs.lemmas.List.{length-reverse, reverse-append, reverse-reverse}
 use Rattle.tt_exprs.specs.Apply.{truth_of}
 use Rattle.tt_exprs.specs.Trees as trees
@@ -8,7 +9,8 @@ use Rattle.tt_exprs.specs.declared.op.Op.{Op}
 use Rattle.tt_code.specs.Code.{run}
 use Rattle.tt_code.specs.Expressions.{apply, expression, both, either, one_of, values, value_needs, condition_needs}
 use Rattle.tt_code.specs.Kinds.{kind_of}
-use Rattle.tt_code.specs.Making.{Instructions, before, count_of, expression_code, operator_code, both_code, either_code, one_of_code, values_code, value_code, condition_code}
+use Rattle.tt_code.specs.Making.{Instructions, before, count_of, expression_code, operator_code, both_code, either_code}
+use Rattle.tt_code.specs.Making.{one_of_code, values_code, value_code, condition_code}
 use Rattle.tt_code.specs.Needs.{Needs, Use, with_truth, tested, choose, bit}
 use Rattle.tt_code.specs.declared.code.Instruction.TheVariants as code
 use Rattle.tt_code.specs.declared.kind.Kind.{Kind}
@@ -22,7 +24,8 @@ same_truth (Ok true) f g p q = p
 same_truth (Ok false) f g p q = q
 same_truth (Err message) f g p q = refl
 
-applied_law : (op : Op) (n : ℕ) (done : List (List ℕ)) (rest : Instructions) (vs : List (List ℕ)) → n ≡ length done → run (code.Apply op n ∷ rest) 0 (reverse done ++ vs) ≡ apply op done (λ v. run rest 0 (v ∷ vs))
+applied_law : (op : Op) (n : ℕ) (done : List (List ℕ)) (rest : Instructions) (vs : List (List ℕ)) → n ≡ length done →
+    run (code.Apply op n ∷ rest) 0 (reverse done ++ vs) ≡ apply op done (λ v. run rest 0 (v ∷ vs))
 applied_law op n done rest vs e =
     let m : n ≡ length (reverse done) = e ∙ sym (length-reverse done) in
     ap (λ (k : ℕ). run (code.Apply op k ∷ rest) 0 (reverse done ++ vs)) m
@@ -64,12 +67,16 @@ mutual
       ∙ ap (expression a) (same_use
       (λ v. tested v (λ t. choose t (run second 0 vs) (run second n vs)))
       (λ v. tested v (λ t. choose t (expression b (λ w. tested w (λ u. run rest 0 (bit u ∷ vs)))) (run rest 0 (bit false ∷ vs))))
-      (λ v. same_truth (truth_of v) (λ t. choose t (run second 0 vs) (run second n vs)) (λ t. choose t (expression b (λ w. tested w (λ u. run rest 0 (bit u ∷ vs)))) (run rest 0 (bit false ∷ vs)))
+      (λ v. same_truth (truth_of v) (λ t. choose t (run second 0 vs) (run second n vs))
+      (λ t. choose t (expression b (λ w. tested w (λ u. run rest 0 (bit u ∷ vs)))) (run rest 0 (bit false ∷ vs)))
       (expression_law b (code.Truth ∷ code.Skip 1 ∷ end) vs)
-      (skips second end (and_more second (code.Truth ∷ code.Skip 1 ∷ end) end (expression_grows b (code.Truth ∷ code.Skip 1 ∷ end)) (code.Truth ∷ code.Skip 1 ∷ [], refl)) vs)))
+      (skips second end
+      (and_more second (code.Truth ∷ code.Skip 1 ∷ end) end (expression_grows b (code.Truth ∷ code.Skip 1 ∷ end))
+      (code.Truth ∷ code.Skip 1 ∷ [], refl)) vs)))
   both_law operands rest vs = refl
 
-  either_law : (operands : PlainExprs) (rest : Instructions) (vs : List (List ℕ)) → run (either_code operands rest) 0 vs ≡ either operands (λ v. run rest 0 (v ∷ vs))
+  either_law : (operands : PlainExprs) (rest : Instructions) (vs : List (List ℕ)) →
+      run (either_code operands rest) 0 vs ≡ either operands (λ v. run rest 0 (v ∷ vs))
   either_law (trees.more a (trees.more b trees.none)) rest vs =
       let end = code.Push (bit true) ∷ rest in
       let second = expression_code b (code.Truth ∷ code.Skip 1 ∷ end) in
@@ -78,12 +85,15 @@ mutual
       ∙ ap (expression a) (same_use
       (λ v. tested v (λ t. choose t (run second n vs) (run second 0 vs)))
       (λ v. tested v (λ t. choose t (run rest 0 (bit true ∷ vs)) (expression b (λ w. tested w (λ u. run rest 0 (bit u ∷ vs))))))
-      (λ v. same_truth (truth_of v) (λ t. choose t (run second n vs) (run second 0 vs)) (λ t. choose t (run rest 0 (bit true ∷ vs)) (expression b (λ w. tested w (λ u. run rest 0 (bit u ∷ vs)))))
-      (skips second end (and_more second (code.Truth ∷ code.Skip 1 ∷ end) end (expression_grows b (code.Truth ∷ code.Skip 1 ∷ end)) (code.Truth ∷ code.Skip 1 ∷ [], refl)) vs)
+      (λ v. same_truth (truth_of v) (λ t. choose t (run second n vs) (run second 0 vs))
+      (λ t. choose t (run rest 0 (bit true ∷ vs)) (expression b (λ w. tested w (λ u. run rest 0 (bit u ∷ vs)))))
+      (skips second end
+      (and_more second (code.Truth ∷ code.Skip 1 ∷ end) end (expression_grows b (code.Truth ∷ code.Skip 1 ∷ end)) (code.Truth ∷ code.Skip 1 ∷ [], refl)) vs)
       (expression_law b (code.Truth ∷ code.Skip 1 ∷ end) vs)))
   either_law operands rest vs = refl
 
-  one_of_law : (operands : PlainExprs) (rest : Instructions) (vs : List (List ℕ)) → run (one_of_code operands rest) 0 vs ≡ one_of operands (λ v. run rest 0 (v ∷ vs))
+  one_of_law : (operands : PlainExprs) (rest : Instructions) (vs : List (List ℕ)) →
+      run (one_of_code operands rest) 0 vs ≡ one_of operands (λ v. run rest 0 (v ∷ vs))
   one_of_law (trees.more a (trees.more b (trees.more c trees.none))) rest vs =
       let third = expression_code c rest in
       let m = before third rest in
@@ -93,14 +103,16 @@ mutual
       ∙ ap (expression a) (same_use
       (λ v. tested v (λ t. choose t (run second 0 vs) (run second n vs)))
       (λ v. tested v (λ t. choose t (expression b (λ w. run rest 0 (w ∷ vs))) (expression c (λ w. run rest 0 (w ∷ vs)))))
-      (λ v. same_truth (truth_of v) (λ t. choose t (run second 0 vs) (run second n vs)) (λ t. choose t (expression b (λ w. run rest 0 (w ∷ vs))) (expression c (λ w. run rest 0 (w ∷ vs))))
+      (λ v. same_truth (truth_of v) (λ t. choose t (run second 0 vs) (run second n vs))
+      (λ t. choose t (expression b (λ w. run rest 0 (w ∷ vs))) (expression c (λ w. run rest 0 (w ∷ vs))))
       (expression_law b (code.Skip m ∷ third) vs
       ∙ ap (expression b) (same_use (λ w. run third m (w ∷ vs)) (λ w. run rest 0 (w ∷ vs)) (λ w. skips third rest (expression_grows c rest) (w ∷ vs))))
       (skips second third (and_more second (code.Skip m ∷ third) third (expression_grows b (code.Skip m ∷ third)) (one_more (code.Skip m) third)) vs
       ∙ expression_law c rest vs)))
   one_of_law operands rest vs = refl
 
-  values_law : (es : PlainExprs) (op : Op) (n : ℕ) (done : List (List ℕ)) (rest : Instructions) (vs : List (List ℕ)) → n ≡ length done + count_of es → run (values_code es (code.Apply op n ∷ rest)) 0 (reverse done ++ vs) ≡ values done es (λ all. apply op all (λ v. run rest 0 (v ∷ vs)))
+  values_law : (es : PlainExprs) (op : Op) (n : ℕ) (done : List (List ℕ)) (rest : Instructions) (vs : List (List ℕ)) → n ≡ length done + count_of es →
+      run (values_code es (code.Apply op n ∷ rest)) 0 (reverse done ++ vs) ≡ values done es (λ all. apply op all (λ v. run rest 0 (v ∷ vs)))
   values_law trees.none op n done rest vs e = applied_law op n done rest vs (omega (arith, e))
   values_law (trees.more first es) op n done rest vs e =
       let later = values_code es (code.Apply op n ∷ rest) in

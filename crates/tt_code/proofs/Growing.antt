@@ -5,7 +5,8 @@ use Rattle.tt_exprs.specs.Trees as trees
 use Rattle.tt_exprs.specs.Trees.{PlainExpr, leaf, words, node, PlainExprs}
 use Rattle.tt_code.specs.Code.{run}
 use Rattle.tt_code.specs.Kinds.{kind_of}
-use Rattle.tt_code.specs.Making.{Instructions, part_code, later_code, parts_code, before, count_of, expression_code, operator_code, both_code, either_code, one_of_code, values_code}
+use Rattle.tt_code.specs.Making.{Instructions, part_code, later_code, parts_code, before, count_of, expression_code}
+use Rattle.tt_code.specs.Making.{operator_code, both_code, either_code, one_of_code, values_code}
 use Rattle.tt_code.specs.Needs.{bit}
 use Rattle.tt_code.specs.declared.code.Instruction.{Instruction}
 use Rattle.tt_code.specs.declared.code.Instruction.TheVariants as code
@@ -80,7 +81,8 @@ mutual
       let second = expression_code b (code.Truth ∷ code.Skip 1 ∷ end) in
       around (expression_code a (code.SkipIfFalse (before second end) ∷ second)) (code.SkipIfFalse (before second end)) second rest
       (expression_grows a (code.SkipIfFalse (before second end) ∷ second))
-      (and_more second (code.Truth ∷ code.Skip 1 ∷ end) rest (expression_grows b (code.Truth ∷ code.Skip 1 ∷ end)) (code.Truth ∷ code.Skip 1 ∷ code.Push (bit false) ∷ [], refl))
+      (and_more second (code.Truth ∷ code.Skip 1 ∷ end) rest (expression_grows b (code.Truth ∷ code.Skip 1 ∷ end))
+      (code.Truth ∷ code.Skip 1 ∷ code.Push (bit false) ∷ [], refl))
   both_grows operands rest = one_more code.WrongOperands rest
 
   either_grows : (operands : PlainExprs) (rest : Instructions) → Grows (either_code operands rest) rest
@@ -89,7 +91,8 @@ mutual
       let second = expression_code b (code.Truth ∷ code.Skip 1 ∷ end) in
       around (expression_code a (code.SkipIfTrue (before second end) ∷ second)) (code.SkipIfTrue (before second end)) second rest
       (expression_grows a (code.SkipIfTrue (before second end) ∷ second))
-      (and_more second (code.Truth ∷ code.Skip 1 ∷ end) rest (expression_grows b (code.Truth ∷ code.Skip 1 ∷ end)) (code.Truth ∷ code.Skip 1 ∷ code.Push (bit true) ∷ [], refl))
+      (and_more second (code.Truth ∷ code.Skip 1 ∷ end) rest (expression_grows b (code.Truth ∷ code.Skip 1 ∷ end))
+      (code.Truth ∷ code.Skip 1 ∷ code.Push (bit true) ∷ [], refl))
   either_grows operands rest = one_more code.WrongOperands rest
 
   one_of_grows : (operands : PlainExprs) (rest : Instructions) → Grows (one_of_code operands rest) rest

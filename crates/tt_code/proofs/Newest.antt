@@ -1,4 +1,4 @@
--- The newest values, where they lie on others.
+-- The newest values, if they lie on others.
 use Rattle.std.proofs.Common.{◌≡◌, ℕ, ◌-◌, List, [], ◌∷◌, ◌++◌, length, reverse, take, drop, refl, sym, ap, ◌∙◌, length-drop, take-append-drop}
 use Rattle.std.proofs.lemmas.List.{length-reverse, reverse-append, reverse-reverse}
 

@@ -50,10 +50,13 @@ three (x ∷ y ∷ z ∷ []) a b c h p q r =
     sym (ap (λ (e : Expr). e ∷ b ∷ c ∷ []) p ∙ ap (λ (e : Expr). x ∷ e ∷ c ∷ []) q ∙ ap (λ (e : Expr). x ∷ y ∷ e ∷ []) r)
 three (x ∷ y ∷ z ∷ w ∷ exprs) a b c h p q r = absurd (omega (arith, h))
 
-pub eager_made : (op : Op) (exprs : List Expr) (old new : Instructions) → new ≡ values_code (row exprs) (code.Apply op (length exprs) ∷ old) → new ≡ operator_code Eager op (row exprs) old
+pub eager_made : (op : Op) (exprs : List Expr) (old new : Instructions) → new ≡ values_code (row exprs) (code.Apply op (length exprs) ∷ old) →
+    new ≡ operator_code Eager op (row exprs) old
 eager_made op exprs old new e = e ∙ ap (λ (n : ℕ). values_code (row exprs) (code.Apply op n ∷ old)) (sym (counted exprs))
 
-pub both_made : (exprs : List Expr) (a b : Expr) (old end second new : Instructions) (n : ℕ) → exprs ≡ a ∷ b ∷ [] → end ≡ code.Push (bit false) ∷ old → second ≡ truth_code (plain_expr b) end → n ≡ length second - length end → new ≡ expression_code (plain_expr a) (code.SkipIfFalse n ∷ second) → new ≡ both_code (row exprs) old
+pub both_made : (exprs : List Expr) (a b : Expr) (old end second new : Instructions) (n : ℕ) → exprs ≡ a ∷ b ∷ [] → end ≡ code.Push (bit false) ∷ old →
+    second ≡ truth_code (plain_expr b) end → n ≡ length second - length end → new ≡ expression_code (plain_expr a) (code.SkipIfFalse n ∷ second) →
+    new ≡ both_code (row exprs) old
 both_made exprs a b old end second new n e p q r s =
     s
     ∙ ap (λ (k : ℕ). expression_code (plain_expr a) (code.SkipIfFalse k ∷ second)) r
@@ -61,7 +64,9 @@ both_made exprs a b old end second new n e p q r s =
     ∙ ap (λ (w : Instructions). expression_code (plain_expr a) (code.SkipIfFalse (before (truth_code (plain_expr b) w) w) ∷ truth_code (plain_expr b) w)) p
     ∙ ap (λ (xs : List Expr). both_code (row xs) old) (sym e)
 
-pub either_made : (exprs : List Expr) (a b : Expr) (old end second new : Instructions) (n : ℕ) → exprs ≡ a ∷ b ∷ [] → end ≡ code.Push (bit true) ∷ old → second ≡ truth_code (plain_expr b) end → n ≡ length second - length end → new ≡ expression_code (plain_expr a) (code.SkipIfTrue n ∷ second) → new ≡ either_code (row exprs) old
+pub either_made : (exprs : List Expr) (a b : Expr) (old end second new : Instructions) (n : ℕ) → exprs ≡ a ∷ b ∷ [] → end ≡ code.Push (bit true) ∷ old →
+    second ≡ truth_code (plain_expr b) end → n ≡ length second - length end → new ≡ expression_code (plain_expr a) (code.SkipIfTrue n ∷ second) →
+    new ≡ either_code (row exprs) old
 either_made exprs a b old end second new n e p q r s =
     s
     ∙ ap (λ (k : ℕ). expression_code (plain_expr a) (code.SkipIfTrue k ∷ second)) r
@@ -69,10 +74,13 @@ either_made exprs a b old end second new n e p q r s =
     ∙ ap (λ (w : Instructions). expression_code (plain_expr a) (code.SkipIfTrue (before (truth_code (plain_expr b) w) w) ∷ truth_code (plain_expr b) w)) p
     ∙ ap (λ (xs : List Expr). either_code (row xs) old) (sym e)
 
-pub one_of_made : (exprs : List Expr) (a b c : Expr) (old third second new : Instructions) (m n : ℕ) → exprs ≡ a ∷ b ∷ c ∷ [] → third ≡ expression_code (plain_expr c) old → m ≡ length third - length old → second ≡ expression_code (plain_expr b) (code.Skip m ∷ third) → n ≡ length second - length third → new ≡ expression_code (plain_expr a) (code.SkipIfFalse n ∷ second) → new ≡ one_of_code (row exprs) old
+pub one_of_made : (exprs : List Expr) (a b c : Expr) (old third second new : Instructions) (m n : ℕ) → exprs ≡ a ∷ b ∷ c ∷ [] →
+    third ≡ expression_code (plain_expr c) old → m ≡ length third - length old → second ≡ expression_code (plain_expr b) (code.Skip m ∷ third) →
+    n ≡ length second - length third → new ≡ expression_code (plain_expr a) (code.SkipIfFalse n ∷ second) → new ≡ one_of_code (row exprs) old
 one_of_made exprs a b c old third second new m n e p q r s t =
     t
     ∙ ap (λ (k : ℕ). expression_code (plain_expr a) (code.SkipIfFalse k ∷ second)) s
-    ∙ ap (λ (w : Instructions). expression_code (plain_expr a) (code.SkipIfFalse (before w third) ∷ w)) (r ∙ ap (λ (k : ℕ). expression_code (plain_expr b) (code.Skip k ∷ third)) q)
+    ∙ ap (λ (w : Instructions). expression_code (plain_expr a) (code.SkipIfFalse (before w third) ∷ w))
+    (r ∙ ap (λ (k : ℕ). expression_code (plain_expr b) (code.Skip k ∷ third)) q)
     ∙ ap (λ (w : Instructions). let last = expression_code (plain_expr b) (code.Skip (before w old) ∷ w) in expression_code (plain_expr a) (code.SkipIfFalse (before last w) ∷ last)) p
     ∙ ap (λ (xs : List Expr). one_of_code (row xs) old) (sym e)

@@ -13,7 +13,8 @@ same_next : (f g : Next) → ((n : ℕ) (vs : List (List ℕ)) → f n vs ≡ g 
 same_next f g same = λ i n vs. same n vs i
 
 -- at an instruction
-pub at_instruction : (is : Instructions) (place : ℕ) (i : Instruction) (vs : List (List ℕ)) → place < length is → i ≡ get_or is place i → run is place vs ≡ act i (λ n ws. run is (place + 1 + n) ws) vs
+pub at_instruction : (is : Instructions) (place : ℕ) (i : Instruction) (vs : List (List ℕ)) → place < length is → i ≡ get_or is place i →
+    run is place vs ≡ act i (λ n ws. run is (place + 1 + n) ws) vs
 at_instruction [] place i vs h e = absurd (omega (arith, h))
 at_instruction (first ∷ is) zero i vs h e =
     ap (λ (j : Instruction). act j (run is) vs) (sym e)
@@ -29,11 +30,13 @@ at_end (first ∷ is) zero vs h = absurd (omega (arith, h))
 at_end (first ∷ is) (suc place) vs h = at_end is place vs (omega (arith, h))
 
 -- an instruction is done
-pub goes : (is : Instructions) (place count next : ℕ) (i : Instruction) (vs us : List (List ℕ)) → place < length is → i ≡ get_or is place i → next ≡ place + 1 + count → ((next : Next) → act i next vs ≡ stepped (steps.Goes count) next us) → run is place vs ≡ run is next us
+pub goes : (is : Instructions) (place count next : ℕ) (i : Instruction) (vs us : List (List ℕ)) → place < length is → i ≡ get_or is place i →
+    next ≡ place + 1 + count → ((next : Next) → act i next vs ≡ stepped (steps.Goes count) next us) → run is place vs ≡ run is next us
 goes is place count next i vs us h e p law =
     at_instruction is place i vs h e ∙ law (λ n ws. run is (place + 1 + n) ws) ∙ ap (λ (k : ℕ). run is k us) (sym p)
 
-pub halts : (is : Instructions) (place : ℕ) (halt : Halt) (i : Instruction) (vs us : List (List ℕ)) → place < length is → i ≡ get_or is place i → ((next : Next) → act i next vs ≡ stepped (steps.Halts halt) next us) → run is place vs ≡ halted halt (λ v. run is (place + 1) (v ∷ us))
+pub halts : (is : Instructions) (place : ℕ) (halt : Halt) (i : Instruction) (vs us : List (List ℕ)) → place < length is → i ≡ get_or is place i →
+    ((next : Next) → act i next vs ≡ stepped (steps.Halts halt) next us) → run is place vs ≡ halted halt (λ v. run is (place + 1) (v ∷ us))
 halts is place halt i vs us h e law =
     let p : place + 1 + 0 ≡ place + 1 = omega arith in
     at_instruction is place i vs h e ∙ law (λ n ws. run is (place + 1 + n) ws) ∙ ap (λ (k : ℕ). halted halt (λ v. run is k (v ∷ us))) p

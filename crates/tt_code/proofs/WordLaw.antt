@@ -21,11 +21,14 @@ mutual
   part_law (element name index) rest vs = parts_law index (code.Element name ∷ rest) vs
   part_law (script text) rest vs = refl
 
-  pub later_law : (ps : PlainParts) (rest : Instructions) (done : List ℕ) (vs : List (List ℕ)) → run (later_code ps rest) 0 (done ∷ vs) ≡ parts done ps (λ v. run rest 0 (v ∷ vs))
+  pub later_law : (ps : PlainParts) (rest : Instructions) (done : List ℕ) (vs : List (List ℕ)) →
+      run (later_code ps rest) 0 (done ∷ vs) ≡ parts done ps (λ v. run rest 0 (v ∷ vs))
   later_law none rest done vs = refl
   later_law (more p ps) rest done vs =
       part_law p (code.Append ∷ later_code ps rest) (done ∷ vs)
-      ∙ ap (part p) (same_use (λ v. run (later_code ps rest) 0 ((done ++ v) ∷ vs)) (λ v. parts (done ++ v) ps (λ w. run rest 0 (w ∷ vs))) (λ v. later_law ps rest (done ++ v) vs))
+      ∙ ap (part p)
+      (same_use (λ v. run (later_code ps rest) 0 ((done ++ v) ∷ vs)) (λ v. parts (done ++ v) ps (λ w. run rest 0 (w ∷ vs)))
+      (λ v. later_law ps rest (done ++ v) vs))
 
   pub parts_law : (ps : PlainParts) (rest : Instructions) (vs : List (List ℕ)) → run (parts_code ps rest) 0 vs ≡ parts [] ps (λ v. run rest 0 (v ∷ vs))
   parts_law none rest vs = refl
@@ -37,7 +40,9 @@ same_items : (split : Split) (f g : UseAll) → ((items : List (List ℕ)) → f
 same_items (Items items) f g same = same items
 same_items (Bad fault) f g same = refl
 
-word_law : (expand : Bool) (v : List ℕ) (ws : List PlainWord) (vs : List (List ℕ)) → ((us : List (List ℕ)) → run (words_code ws []) 0 us ≡ words (reverse us) ws) → run (expansion expand (words_code ws [])) 0 (v ∷ vs) ≡ word_values expand v (λ items. words (reverse vs ++ items) ws)
+word_law : (expand : Bool) (v : List ℕ) (ws : List PlainWord) (vs : List (List ℕ)) →
+    ((us : List (List ℕ)) → run (words_code ws []) 0 us ≡ words (reverse us) ws) →
+    run (expansion expand (words_code ws [])) 0 (v ∷ vs) ≡ word_values expand v (λ items. words (reverse vs ++ items) ws)
 word_law true v ws vs later =
     same_items (split_of v) (λ items. run (words_code ws []) 0 (reverse items ++ vs)) (λ items. words (reverse vs ++ items) ws)
     (λ items. later (reverse items ++ vs) ∙ ap (λ us. words us ws) (reverse-append (reverse items) vs ∙ ap (λ us. reverse vs ++ us) (reverse-reverse items)))
@@ -47,4 +52,6 @@ pub words_law : (ws : List PlainWord) (vs : List (List ℕ)) → run (words_code
 words_law [] vs = refl
 words_law (word ∷ ws) vs =
     parts_law word.parts (expansion word.expand (words_code ws [])) vs
-    ∙ ap (parts [] word.parts) (same_use (λ v. run (expansion word.expand (words_code ws [])) 0 (v ∷ vs)) (λ v. word_values word.expand v (λ items. words (reverse vs ++ items) ws)) (λ v. word_law word.expand v ws vs (words_law ws)))
+    ∙ ap (parts [] word.parts)
+    (same_use (λ v. run (expansion word.expand (words_code ws [])) 0 (v ∷ vs))
+    (λ v. word_values word.expand v (λ items. words (reverse vs ++ items) ws)) (λ v. word_law word.expand v ws vs (words_law ws)))

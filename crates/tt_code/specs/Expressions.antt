@@ -30,13 +30,13 @@ abbrev mutual
         | OneOf ↦ one_of operands go
       ]
 
-  -- `&&`: the second operand counts where the first is true
+  -- `&&`: the second operand counts if the first is true
   pub both : PlainExprs → Use → Needs
   both (more a (more b none)) go =
       expression a (λ v. tested v (λ t. choose t (expression b (λ w. tested w (λ u. go (bit u)))) (go (bit false))))
   both operands go = Refused wrong_operands
 
-  -- `||`: the second operand counts where the first is false
+  -- `||`: the second operand counts if the first is false
   pub either : PlainExprs → Use → Needs
   either (more a (more b none)) go =
       expression a (λ v. tested v (λ t. choose t (go (bit true)) (expression b (λ w. tested w (λ u. go (bit u))))))

@@ -22,9 +22,9 @@ pub(crate) enum Instruction {
     Truth,
     /// Passes over so many instructions.
     Skip(usize),
-    /// Takes the newest; passes over so many instructions where it is false.
+    /// Takes the newest; passes over so many instructions if it is false.
     SkipIfFalse(usize),
-    /// Takes the newest; passes over so many instructions where it is true.
+    /// Takes the newest; passes over so many instructions if it is true.
     SkipIfTrue(usize),
     /// Replaces the newest, the value of a whole expression, by its result.
     Result,

@@ -62,7 +62,7 @@ fn push_values(alloc: Global, operands: &[Expr], code: &mut Builder) -> Result<(
     Ok(())
 }
 
-/// `&&`: the second operand is passed over where the first is false.
+/// `&&`: the second operand is passed over if the first is false.
 #[cycle(expression)]
 fn push_both(alloc: Global, operands: &[Expr], code: &mut Builder) -> Result<(), NoMemory>
     ensures { OnOk result
@@ -80,7 +80,7 @@ fn push_both(alloc: Global, operands: &[Expr], code: &mut Builder) -> Result<(),
     Ok(())
 }
 
-/// `||`: the second operand is passed over where the first is true.
+/// `||`: the second operand is passed over if the first is true.
 #[cycle(expression)]
 fn push_either(alloc: Global, operands: &[Expr], code: &mut Builder) -> Result<(), NoMemory>
     ensures { OnOk result

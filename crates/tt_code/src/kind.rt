@@ -8,9 +8,9 @@ use tt_exprs::Op;
 pub(crate) enum Kind {
     /// The values of all of them.
     Eager,
-    /// The second where the first is true: `&&`.
+    /// The second if the first is true: `&&`.
     Both,
-    /// The second where the first is false: `||`.
+    /// The second if the first is false: `||`.
     Either,
     /// The second or the third, by the truth of the first: `? :`.
     OneOf,

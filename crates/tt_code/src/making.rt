@@ -17,7 +17,7 @@ use tt_text::NoMemory;
 
 /// The code of a command's words, which comes to their values (Tcl(n), rules 5 to 11).
 ///
-/// `NoMemory` where the memory for it is refused.
+/// `NoMemory` if the memory for it is refused.
 #[tactic(auto, using(crate::proofs::WordLaw::words_law))]
 pub fn words_code(alloc: Global, words: &[Word]) -> Result<Code, NoMemory>
     ensures needs { IfOk result (λ code. needs_of code ≡ words_needs (plain_words words.now)) }
@@ -31,7 +31,7 @@ pub fn words_code(alloc: Global, words: &[Word]) -> Result<Code, NoMemory>
 
 /// The code of a whole expression as a value, which comes to its result (expr(n)).
 ///
-/// `NoMemory` where the memory for it is refused.
+/// `NoMemory` if the memory for it is refused.
 #[tactic(auto, using(crate::proofs::ExpressionLaw::value_law))]
 pub fn value_code(alloc: Global, expression: &Expr) -> Result<Code, NoMemory>
     ensures needs { IfOk result (λ code. needs_of code ≡ value_needs (plain_expr expression.now)) }
@@ -47,7 +47,7 @@ pub fn value_code(alloc: Global, expression: &Expr) -> Result<Code, NoMemory>
 
 /// The code of a whole expression as a condition, which comes to 1 or 0 (if(n), while(n)).
 ///
-/// `NoMemory` where the memory for it is refused.
+/// `NoMemory` if the memory for it is refused.
 #[tactic(auto, using(crate::proofs::ExpressionLaw::condition_law))]
 pub fn condition_code(alloc: Global, expression: &Expr) -> Result<Code, NoMemory>
     ensures needs { IfOk result (λ code. needs_of code ≡ condition_needs (plain_expr expression.now)) }

@@ -45,7 +45,7 @@ impl Running {
 
     /// Goes on to where the code halts next. After an error and after values nothing more is said of it.
     ///
-    /// `NoMemory` where memory is refused; then it is only fit to be restarted.
+    /// `NoMemory` if memory is refused; then it is only fit to be restarted.
     #[tactic(auto, using(crate::proofs::Stepping::at_end))]
     pub fn advance(&mut self) -> Result<Halt, NoMemory>
         ensures halts { IfOk result (λ halt. needs self.old ≡ halted halt (with_value self.new)) }
@@ -70,7 +70,7 @@ impl Running {
 
     /// Gives the value at which it halted.
     ///
-    /// `NoMemory` where memory is refused; then it is only fit to be restarted.
+    /// `NoMemory` if memory is refused; then it is only fit to be restarted.
     pub fn give(&mut self, value: Text) -> Result<(), NoMemory>
         ensures given { OnOk result (needs self.new ≡ with_value self.old value) }
     {

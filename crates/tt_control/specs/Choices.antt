@@ -39,7 +39,7 @@ body_from [] = []
 body_from (pattern ∷ []) = []
 body_from (pattern ∷ body ∷ later) = if falls_through body then body_from later else body
 
--- the body of the first pattern that takes a text, and none where there is none
+-- the body of the first pattern that takes a text, and none if there is none
 abbrev pub first_body : Matching → (text : List ℕ) → (pairs : List (List ℕ)) → List ℕ
 first_body matching text [] = []
 first_body matching text (pattern ∷ []) = []

@@ -4,7 +4,7 @@ use Rattle.tt_calls.specs.Usages as usages
 use Rattle.tt_control.specs.declared.control.Control.{Control}
 use Rattle.tt_control.specs.declared.control.Control.TheVariants.{Bad}
 
--- what words mean, where something else is meant by a wrong number of them
+-- what words mean, if something else is meant by a wrong number of them
 abbrev pub Meaning : Type 0
 Meaning = (wrong : Control) → (words : List (List ℕ)) → Control
 

@@ -1,7 +1,7 @@
 use tt_calls::Code;
 use tt_text::{Text, Texts};
 
-/// What the words of a command come to, where its name is that of a command which controls evaluation.
+/// What the words of a command come to, if its name is that of a command which controls evaluation.
 #[derive(Debug, Drop)]
 pub enum Control {
     /// The name is another one.
@@ -17,7 +17,7 @@ pub enum Control {
         kept: Code,
         value: Text,
     },
-    /// This error, whose trace begins with `info` where that is given (error(n)).
+    /// This error, whose trace begins with `info` if that is given (error(n)).
     Error {
         message: Text,
         info: Option<Text>,
@@ -30,8 +30,8 @@ pub enum Control {
     },
     /// This expression's value is the answer (expr(n)).
     Expr(Text),
-    /// A test, the body that is evaluated where it holds, the next test, its body, and so on; a last body without a
-    /// test is evaluated where none holds (if(n)).
+    /// A test, the body that is evaluated if it holds, the next test, its body, and so on; a last body without a
+    /// test is evaluated if none holds (if(n)).
     If {
         clauses: Texts,
     },
@@ -47,13 +47,13 @@ pub enum Control {
         next: Text,
         body: Text,
     },
-    /// The body is evaluated for each turn (foreach(n), dict(n)). `names` are the variables of all lists; `values` has for
-    /// each turn one value for each of them, turn after turn.
+    /// The body is evaluated for each turn (foreach(n), dict(n)). `names` are the variables of all lists; `values` has
+    /// for each turn one value for each of them, turn after turn.
     Foreach {
         names: Texts,
         values: Texts,
         body: Text,
     },
-    /// This script is evaluated: the body that was chosen, and the empty script where none was (switch(n)).
+    /// This script is evaluated: the body that was chosen, and the empty script if none was (switch(n)).
     Script(Text),
 }

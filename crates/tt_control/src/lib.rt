@@ -1,6 +1,6 @@
-//! What the words of the commands that control evaluation mean (break(n), catch(n), continue(n), dict(n) where it loops,
-//! error(n), expr(n), for(n), foreach(n), if(n), return(n), switch(n), while(n)): a table of names, usages and meanings.
-//! Nothing is evaluated.
+//! What the words of the commands that control evaluation mean (break(n), catch(n), continue(n), dict(n) if it loops,
+//! error(n), expr(n), for(n), foreach(n), if(n), return(n), switch(n), while(n)): a table of names, usages and
+//! meanings. Nothing is evaluated.
 #![tactic(auto)]
 
 mod branches;

@@ -56,7 +56,8 @@ impl Crew {
         setup: &Setup,
     ) -> Result<(), NoMemory>
         requires next { number ≡ length self.old + 1 }
-        ensures begins { OnOk result (BeginsLast setup.now (record { start = start.now; replies = [] }) self.old self.new) }
+        ensures begins { OnOk result
+            (BeginsLast setup.now (record { start = start.now; replies = [] }) self.old self.new) }
     {
         let mut interp = Interp::new(alloc, start, number, setup)?;
         interp.resume(None)?;
@@ -95,7 +96,7 @@ impl Crew {
     ) -> Result<(), NoMemory>
         ensures begin { OnOk result (AllBegin setup.now desk.now.shared.rows self.old self.new) }
     {
-        while self.len() < desk.made() {
+        while self.len() < desk.thread_count() {
             let number = self.len() + 1;
             self.begin(alloc, desk.start_of(number), number, setup)?;
         }

@@ -57,11 +57,13 @@ impl<S: Source, K: Sink, E: Sink> System<S, K, E> {
         errors: E,
     ) -> Result<Self, NewFault<S, K, E>>
         ensures setup { IfOk result (λ system. system.setup ≡ setup) }
-        ensures given { IfOk result (λ system. system.began ≡ record { input = input; output = output; errors = errors }) }
+        ensures given { IfOk result (λ system.
+            system.began ≡ record { input = input; output = output; errors = errors }) }
         ensures untouched { IfOk result (λ system.
             system.desk.devices ≡ record { input = input; ahead = []; output = output; errors = errors }) }
         ensures no_step { IfOk result (λ system. (system.desk.schedule ≡ []) × (system.desk.kept ≡ None)) }
-        ensures handed_back { IfErr result (λ fault. fault ≡ record { input = input; output = output; errors = errors }) }
+        ensures handed_back { IfErr result (λ fault.
+            fault ≡ record { input = input; output = output; errors = errors }) }
     {
         let began = Began::of(&input, &output, &errors);
         match begun(alloc, &setup) {
@@ -98,10 +100,9 @@ impl<S: Source, K: Sink, E: Sink> System<S, K, E> {
     ///
     /// `NotEnabled` exactly if the machine can't step the thread and nothing was met before; then nothing changes.
     /// `ReadFault` only if the thread asks for a line and the source's count of faults rose in this step; then no entry
-    /// was added. `WriteFault` only if the step writes something and a sink's count rose in this step; then the entry was
-    /// added, and a first part of what it writes was put.
-    /// `NoMemory` if memory is refused. After these three the system does nothing more, and each later step answers the
-    /// same.
+    /// was added. `WriteFault` only if the step writes something and a sink's count rose in this step; then the entry
+    /// was added, and a first part of what it writes was put. `NoMemory` if memory is refused. After these three the
+    /// system does nothing more, and each later step answers the same.
     pub fn step(&mut self, thread: u32) -> Result<(), StepFault>
         requires { length self.old.desk.schedule < most_steps }
 
@@ -146,7 +147,7 @@ impl<S: Source, K: Sink, E: Sink> System<S, K, E> {
             (K.fault_count self.new.desk.devices.output ≡ K.fault_count self.old.desk.devices.output)
             × (E.fault_count self.new.desk.devices.errors ≡ E.fault_count self.old.desk.devices.errors) }
     {
-        if let Some(fault) = self.desk.kept() {
+        if let Some(fault) = self.desk.kept_fault() {
             return Err(fault);
         }
         let Some(request) = self.crew.request(thread) else {
@@ -181,8 +182,8 @@ impl<S: Source, K: Sink, E: Sink> System<S, K, E> {
         next_ready(&self.desk, &self.crew, after)
     }
 
-    /// Whether no thread can take a step though the run isn't over, and no fault and no want of memory was met. It takes no
-    /// memory.
+    /// Whether no thread can take a step though the run isn't over, and no fault and no want of memory was met. It
+    /// takes no memory.
     pub fn stuck(&self) -> bool
         ensures stuck { IsTrue result → (self.now.desk.kept ≡ None) × OfMachine S.held self.now IsStuck }
         ensures not_stuck { IsFalse result → self.now.desk.kept ≡ None →
@@ -194,7 +195,8 @@ impl<S: Source, K: Sink, E: Sink> System<S, K, E> {
     /// The code with which the run ended, from 0 to 255, or `None` exactly if it isn't over. It takes no memory.
     pub fn ended(&self) -> Option<u8>
         ensures is { result ≡ self.now.desk.shared.over }
-        ensures ended { self.now.desk.kept ≡ None → OfMachine S.held self.now (λ machine. machine.shared.over ≡ result) }
+        ensures ended { self.now.desk.kept ≡ None →
+            OfMachine S.held self.now (λ machine. machine.shared.over ≡ result) }
     {
         self.desk.over()
     }
@@ -240,7 +242,7 @@ fn are_idle<S: Source, K: Sink, E: Sink>(desk: &Desk<S, K, E>, crew: &Crew) -> b
     ensures idle { IsTrue result → AreIdle desk.now crew.now }
     ensures busy { IsFalse result → desk.now.kept ≡ None → AreBusy desk.now crew.now }
 {
-    if desk.kept().is_some() {
+    if desk.kept_fault().is_some() {
         return false;
     }
     if desk.over().is_some() {

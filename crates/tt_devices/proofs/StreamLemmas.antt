@@ -1,10 +1,11 @@
-use Rattle.std.proofs.Common.{◌≡◌, ◌+◌, ℕ, List, ◌++◌, take, drop, Bool, true, false, Option, None, Some, refl, sym, ap, ◌∙◌, append-nil, add-zero, append_assoc, []}
+use Rattle.std.proofs.Common.{◌≡◌, ◌+◌, ℕ, List, ◌++◌, take, drop, Bool, true, false, Option, None, Some, refl, sym, ap}
+use Rattle.std.proofs.Common.{◌∙◌, append-nil, add-zero, append_assoc, []}
 use Rattle.std.specs.Bool.{if◌then◌else◌}
 use Rattle.std.specs.Io.KnownBytes.{Consumes, Keeps}
 use Rattle.std.proofs.lemmas.List.{take-append-drop, drop-drop}
 use Rattle.tt_devices.specs.Streams.{Grows, GrowsByPart, Stays, LosesPart}
 
--- what a sink got grew by nothing where it stayed
+-- what a sink got grew by nothing if it stayed
 pub Grows-same : (got : Option (List ℕ)) → Grows got got []
 Grows-same None = tt
 Grows-same (Some bytes) = sym (append-nil bytes)
@@ -68,7 +69,8 @@ put-none got piece = record { part = []; cut = refl; grew = Grows-same got }
 pub put-stays : (old mid new : Option (List ℕ)) (piece rest : List ℕ) → IsPutUpTo old mid piece rest → Keeps mid new → IsPutUpTo old new piece rest
 put-stays old mid new piece rest p q = record { part = p.part; cut = p.cut; grew = Grows-before old mid new p.part p.grew q }
 
-pub put-more : (old mid new : Option (List ℕ)) (piece rest : List ℕ) (n : ℕ) → IsPutUpTo old mid piece rest → Grows mid new (take n rest) → IsPutUpTo old new piece (drop n rest)
+pub put-more : (old mid new : Option (List ℕ)) (piece rest : List ℕ) (n : ℕ) → IsPutUpTo old mid piece rest → Grows mid new (take n rest) →
+    IsPutUpTo old new piece (drop n rest)
 put-more old mid new piece rest n p q = record {
   part = p.part ++ take n rest;
   cut = p.cut ∙ (ap (λ (bytes : List ℕ). p.part ++ bytes) (sym (take-append-drop n rest)) ∙ sym (append_assoc p.part (take n rest) (drop n rest)));
@@ -93,6 +95,6 @@ Grows-nothing None new p = tt
 Grows-nothing (Some old) None p = absurd p
 Grows-nothing (Some old) (Some new) p = p ∙ append-nil old
 
--- nothing is left where nothing was left and nothing was taken
+-- nothing is left if nothing was left and nothing was taken
 pub rest-none : (left bytes : List ℕ) (taken n : ℕ) → drop taken bytes ≡ left → n ≡ 0 → left ≡ [] → drop (taken + n) bytes ≡ []
 rest-none left bytes taken n e none empty = rw (none, add-zero, e) empty

@@ -1,4 +1,4 @@
--- The bytes under each name of a set of files, if they are told. Nothing is said of a map that isn't told.
+-- The bytes under each name of a set of files, if they are shown. Nothing is said of a map that isn't shown.
 use Rattle.std.specs.Prelude.{◌≡◌, ◌≢◌, ℕ, List, [], Option, Some, None, IsSome}
 
 -- the bytes under each name, or none
@@ -28,7 +28,7 @@ HoldsNamed None name bytes = Unit {0}
 HoldsNamed (Some map) name None = ⊥
 HoldsNamed (Some map) name (Some bytes) = map name ≡ Some bytes
 
--- a new file of a map that is told has no bytes
+-- a new file of a map that is shown has no bytes
 abbrev pub StartsEmpty : Option Names → (bytes : Option (List ℕ)) → Type 0
 StartsEmpty None bytes = Unit {0}
 StartsEmpty (Some map) bytes = bytes ≡ Some []

@@ -1,5 +1,5 @@
--- What reads take from a source and writes add to a sink, if these tell their bytes. Nothing is said of one that
--- didn't tell them before.
+-- What reads take from a source and writes add to a sink, if these show their bytes. Nothing is said of one that
+-- did not show them before.
 use Rattle.std.specs.Prelude.{ℕ, ◌≡◌, ◌<◌, List, ◌++◌, length, take, Option}
 use Rattle.std.specs.Io.KnownBytes.{Appends, Consumes, IsAtEnd, Keeps}
 

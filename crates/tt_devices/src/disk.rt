@@ -14,12 +14,12 @@ pub trait Disk {
     /// What a new file's bytes are put into.
     type Writer: Sink + Drop;
 
-    /// The bytes under each name, if the disk tells them.
+    /// The bytes under each name, if the disk shows them.
     ghost map: { Self → Option Names };
 
     /// Opens the file of this name, to be read from its first byte.
     ///
-    /// The error is of the kind `NotFound` exactly if the name has no file, if the disk tells its map.
+    /// The error is of the kind `NotFound` exactly if the name has no file, if the disk shows its map.
     fn open(&mut self, name: &str) -> io::Result<Self::Reader>
         ensures opened { IfOk result (λ reader. HoldsNamed (map self.old) name.now (Self.Reader.held reader)) }
         ensures missing { IfErr result (λ error.

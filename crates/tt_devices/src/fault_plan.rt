@@ -39,7 +39,7 @@ impl FaultPlan {
         self.faults
     }
 
-    /// Counts one more call, and tells whether it is to fail.
+    /// Counts one more call, and says whether it is to fail.
     pub fn count_call(&mut self) -> bool
         ensures planned { IsTrue result ↔ FailsNext self.old }
         ensures counted { self.new ≡ record self.old { calls = one_more self.old.calls } }

@@ -18,7 +18,7 @@ pub enum ReadAnswer {
 
 /// Bytes under names.
 pub trait Files {
-    /// The bytes under each name, if they are told.
+    /// The bytes under each name, if they are shown.
     ghost map: { Self → Option Names };
 
     /// How many reads failed. A count at the greatest `u64` stays there.
@@ -37,13 +37,14 @@ pub trait Files {
 
     /// The bytes under the name.
     ///
-    /// `Missing` exactly if the name has none, if the map is told. `Failed` only if the count of failed reads rose.
+    /// `Missing` exactly if the name has none, if the map is shown. `Failed` only if the count of failed reads rose.
     fn read(&mut self, alloc: Global, name: &str) -> Result<Vec<u8>, ReadAnswer>
         ensures found { IfOk result (λ bytes. Tells (map self.old) name.now (Some bytes.items)) }
         ensures missing { IsErrOf result ReadAnswer.Missing → Tells (map self.old) name.now None }
         ensures not_missing { IsErrOf result ReadAnswer.Failed → HasName (map self.old) name.now }
         ensures same { map self.new ≡ map self.old }
-        ensures cause { IsErrOf result ReadAnswer.Failed → Rises (read_fault_count self.old) (read_fault_count self.new) }
+        ensures cause { IsErrOf result ReadAnswer.Failed →
+            Rises (read_fault_count self.old) (read_fault_count self.new) }
         ensures steady { (result ≢ Err ReadAnswer.Failed) → read_fault_count self.new ≡ read_fault_count self.old }
         ensures no_write { write_fault_count self.new ≡ write_fault_count self.old };
 

@@ -1,6 +1,6 @@
 //! The outside, as the rest sees it: sources of bytes, sinks, named files, and the gate that a resumed thread
-//! passes. What an object holds, has got or maps is told if it can tell it: objects in memory tell it, and those of the
-//! system do not.
+//! passes. What an object holds, has got or maps is shown if it can show it: objects in memory show it, and those of
+//! the system do not.
 #![tactic(auto)]
 
 mod disk;

@@ -6,7 +6,7 @@ use std::alloc::Global;
 use std::io;
 use std::io::ErrorKind;
 
-/// A disk in memory, which tells its map. Its calls fail only for want of memory.
+/// A disk in memory, which shows its map. Its calls fail only for want of memory.
 #[derive(Debug, Drop)]
 pub struct MemoryDisk {
     alloc: Global,

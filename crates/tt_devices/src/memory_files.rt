@@ -26,7 +26,7 @@ impl Model for NamedFile {
     ghost view = { λ file. record { name = file.name.items; bytes = file.bytes.items } };
 }
 
-/// Files in memory, which tell their map. Its calls fail if its plans say so.
+/// Files in memory, which show their map. Its calls fail if its plans say so.
 #[derive(Debug, Drop)]
 pub struct MemoryFiles {
     files: Vec<NamedFile>,

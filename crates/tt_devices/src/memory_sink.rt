@@ -8,7 +8,7 @@ use crate::{Failed, Sink};
 use std::alloc::Global;
 use std::marker::Model;
 
-/// A sink in memory, which tells what it got. Its calls fail if its plan says so, and then it gets the first
+/// A sink in memory, which shows what it got. Its calls fail if its plan says so, and then it gets the first
 /// half of the piece.
 #[derive(Debug, Drop)]
 pub struct MemorySink {
@@ -42,7 +42,7 @@ impl MemorySink {
         self.got.as_slice()
     }
 
-    /// Keeps the piece, or counts a fault where memory for it is refused.
+    /// Keeps the piece, or counts a fault if memory for it is refused.
     fn keep(&mut self, piece: &[u8]) -> Result<(), Failed>
         ensures put { OnOk result (self.new.got ≡ self.old.got ++ piece.now) }
         ensures nothing { OnErr result (self.new.got ≡ self.old.got) }

@@ -7,7 +7,7 @@ use crate::fault_plan::FaultPlan;
 use crate::{Failed, Source};
 use std::marker::Model;
 
-/// Bytes in memory, as a source that tells them. Its calls fail if its plan says so.
+/// Bytes in memory, as a source that shows them. Its calls fail if its plan says so.
 #[derive(Debug, Drop)]
 pub struct MemorySource {
     bytes: Vec<u8>,

@@ -17,7 +17,7 @@ const MOST_BYTES: usize = 268_435_456;
 /// How many bytes are asked for at once.
 const CHUNK: usize = 16_384;
 
-/// The files of a disk, such as that of the system. They tell their map if the disk does. Contracts see the disk, and
+/// The files of a disk, such as that of the system. They show their map if the disk does. Contracts see the disk, and
 /// the counts of failed reads and writes.
 #[derive(Drop)]
 pub struct RealFiles<D: Disk + Drop> {

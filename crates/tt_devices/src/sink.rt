@@ -6,7 +6,7 @@ use crate::Failed;
 
 /// Bytes that go out.
 pub trait Sink {
-    /// The bytes that were received, if the sink tells them.
+    /// The bytes that were received, if the sink shows them.
     ghost got: { Self → Option (List ℕ) };
 
     /// How many faults there were. A count at the greatest `u64` stays there.

@@ -6,7 +6,7 @@ use crate::Failed;
 
 /// Bytes that come in.
 pub trait Source {
-    /// The bytes that are not yet taken, if the source tells them.
+    /// The bytes that are not yet taken, if the source shows them.
     ghost held: { Self → Option (List ℕ) };
 
     /// How many faults there were. A count at the greatest `u64` stays there.

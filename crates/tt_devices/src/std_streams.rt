@@ -6,7 +6,7 @@ use std::io;
 use std::io::{ErrorKind, Read, Write};
 use std::marker::Model;
 
-/// A reader, such as standard input, as a source. It tells its bytes if the reader tells what remains, which
+/// A reader, such as standard input, as a source. It shows its bytes if the reader shows what remains, which
 /// standard input doesn't. Contracts see the reader and the count of faults.
 #[derive(Drop)]
 pub struct StdSource<R: Read + Drop> {
@@ -47,7 +47,7 @@ impl<R: Read + Drop> Source for StdSource<R> {
     }
 }
 
-/// A writer, such as standard output, as a sink. It tells what it got if the writer does, which standard output
+/// A writer, such as standard output, as a sink. It shows what it got if the writer does, which standard output
 /// doesn't. Contracts see the writer and the count of faults.
 #[derive(Drop)]
 pub struct StdSink<W: Write + Drop> {

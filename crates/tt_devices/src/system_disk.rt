@@ -4,7 +4,7 @@ use crate::{Disk, Failed, StdSink, StdSource};
 use std::rt::Files as FileSystem;
 use std::{fs, io};
 
-/// The disk of the system, which doesn't tell its map.
+/// The disk of the system, which doesn't show its map.
 #[derive(Drop)]
 pub struct SystemDisk<R: FileSystem + Drop> {
     system: R,

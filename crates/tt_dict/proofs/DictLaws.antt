@@ -3,13 +3,13 @@ use Rattle.std.proofs.Common.{◌≡◌, ℕ, codes, List, [], ◌∷◌, ◌++�
 use Rattle.std.specs.Result.{result_ok}
 use Rattle.tt_lists.specs.Reading.{split_of}
 use Rattle.tt_pairs.proofs.PairLaws.{keys_law}
-use Rattle.tt_pairs.specs.Laws.{KeysDiffer}
+use Rattle.tt_pairs.specs.PairLaws.{KeysDiffer}
 use Rattle.tt_pairs.specs.Pairs.{Pairs, joined, text_of, value_of}
 use Rattle.tt_pairs.specs.Reading.{Reading}
 use Rattle.tt_dict.specs.Changing.{appended, changed, increased, listed, putting, value_or}
-use Rattle.tt_dict.specs.Laws.{ChangedKeysLaw, MergeLaw, SamePairsLaw}
+use Rattle.tt_dict.specs.DictLaws.{ChangedKeysLaw, MergeLaw, SamePairsLaw}
 use Rattle.tt_dict.specs.Paths.{edited, edited_at, edited_on, for_pairs, put_back, way_by}
-use Rattle.tt_dict.specs.Telling.{merged, told}
+use Rattle.tt_dict.specs.Telling.{merged, text_answer}
 use Rattle.tt_dict.specs.declared.changes.Change.TheVariants.{Set, Unset, Incr, Append, Lappend}
 use Rattle.tt_dict.specs.declared.edit.Edit.{Edit}
 use Rattle.tt_dict.specs.declared.edit.Edit.TheVariants.{Put, Remove}
@@ -19,7 +19,7 @@ use Rattle.tt_dict.specs.declared.edit.Edit.TheVariants.{Put, Remove}
 pub same_pairs : SamePairsLaw
 same_pairs = record {
   read = λ answer wrong one other words same. ap (λ reading. answer wrong reading words) same;
-  merged = λ wrong ones others same. ap (λ readings. told text_of (merged [] readings)) same;
+  merged = λ wrong ones others same. ap (λ readings. text_answer text_of (merged [] readings)) same;
   changed = λ change one other same. ap (changed change) same;
 }
 

@@ -1,5 +1,5 @@
 pub mod Changing
-pub mod Laws
+pub mod DictLaws
 pub mod Paths
 pub mod Rows
 pub mod Table

@@ -5,7 +5,7 @@ use Rattle.tt_pairs.specs.Reading.{Reading, reading_of}
 use Rattle.tt_dict.specs.declared.call.DictCall.{DictCall}
 use Rattle.tt_dict.specs.declared.call.DictCall.TheVariants.{Done}
 
--- what words come to, where another thing is the answer to a wrong number of them
+-- what words come to, if another thing is the answer to a wrong number of them
 abbrev pub Meaning : Type 0
 Meaning = (wrong : Outcome) → (words : List (List ℕ)) → DictCall
 

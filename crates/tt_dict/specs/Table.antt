@@ -33,7 +33,8 @@ row_of subcommand.Keys = row (codes "keys") (codes "dict keys d ?pattern?") (ans
 row_of subcommand.Values = row (codes "values") (codes "dict values d ?pattern?") (answers (reads telling.values))
 row_of subcommand.Merge = row (codes "merge") (codes "dict merge ?d ...?") (answers telling.merge)
 row_of subcommand.Remove = row (codes "remove") (codes "dict remove d ?key ...?") (answers (reads telling.remove))
-row_of subcommand.Replace = row (codes "replace") (codes "dict replace d ?key value ...?") (answers (reads telling.replace))
+row_of subcommand.Replace = row (codes "replace") (codes "dict replace d ?key value ...?")
+    (answers (reads telling.replace))
 row_of subcommand.Set = row (codes "set") (codes "dict set varName key ?key ...? value") variables.set
 row_of subcommand.Unset = row (codes "unset") (codes "dict unset varName key ?key ...?") variables.unset
 row_of subcommand.Incr = row (codes "incr") (codes "dict incr varName key ?n?") variables.incr

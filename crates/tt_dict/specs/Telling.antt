@@ -13,9 +13,9 @@ use Rattle.tt_text.specs.GlobFunction.{is_match}
 use Rattle.tt_dict.specs.Paths.{for_pairs, value_at}
 
 -- a text that is made of pairs
-abbrev pub told : (Pairs → List ℕ) → Reading → Outcome
-told make (Ok pairs) = fine (make pairs)
-told make (Err message) = failed message
+abbrev pub text_answer : (Pairs → List ℕ) → Reading → Outcome
+text_answer make (Ok pairs) = fine (make pairs)
+text_answer make (Err message) = failed message
 
 -- a text that is found, or the message
 abbrev pub answered : Result (List ℕ) (List ℕ) → Outcome
@@ -28,17 +28,17 @@ truth is = if is then codes "1" else codes "0"
 
 -- dict get: without keys the whole dictionary
 abbrev pub get : (wrong : Outcome) → Reading → (keys : List (List ℕ)) → Outcome
-get wrong reading [] = told text_of reading
+get wrong reading [] = text_answer text_of reading
 get wrong reading (key ∷ keys) = answered (for_pairs (λ pairs. value_at pairs key keys) reading)
 
 -- dict exists: no value is there either if one on the way is no dictionary
 abbrev pub exists : (wrong : Outcome) → Reading → (keys : List (List ℕ)) → Outcome
 exists wrong reading [] = wrong
-exists wrong reading (key ∷ keys) = told (λ pairs. truth (is_ok (value_at pairs key keys))) reading
+exists wrong reading (key ∷ keys) = text_answer (λ pairs. truth (is_ok (value_at pairs key keys))) reading
 
 -- dict size
 abbrev pub size : (wrong : Outcome) → Reading → (words : List (List ℕ)) → Outcome
-size wrong reading [] = told (λ pairs. decimal (length pairs)) reading
+size wrong reading [] = text_answer (λ pairs. decimal (length pairs)) reading
 size wrong reading (word ∷ words) = wrong
 
 -- a list of those that match the pattern, if there is one (string(n), string match)
@@ -48,14 +48,14 @@ like (Some pattern) texts = list_of (filter (λ text. is_match (characters patte
 
 -- dict keys
 abbrev pub keys : (wrong : Outcome) → Reading → (words : List (List ℕ)) → Outcome
-keys wrong reading [] = told (λ pairs. like None (keys_of pairs)) reading
-keys wrong reading (pattern ∷ []) = told (λ pairs. like (Some pattern) (keys_of pairs)) reading
+keys wrong reading [] = text_answer (λ pairs. like None (keys_of pairs)) reading
+keys wrong reading (pattern ∷ []) = text_answer (λ pairs. like (Some pattern) (keys_of pairs)) reading
 keys wrong reading words = wrong
 
 -- dict values
 abbrev pub values : (wrong : Outcome) → Reading → (words : List (List ℕ)) → Outcome
-values wrong reading [] = told (λ pairs. like None (values_of pairs)) reading
-values wrong reading (pattern ∷ []) = told (λ pairs. like (Some pattern) (values_of pairs)) reading
+values wrong reading [] = text_answer (λ pairs. like None (values_of pairs)) reading
+values wrong reading (pattern ∷ []) = text_answer (λ pairs. like (Some pattern) (values_of pairs)) reading
 values wrong reading words = wrong
 
 -- dict remove: keys that are not there are skipped
@@ -63,11 +63,11 @@ abbrev pub without_keys : Pairs → (keys : List (List ℕ)) → Pairs
 without_keys pairs keys = fold without_key pairs keys
 
 abbrev pub remove : (wrong : Outcome) → Reading → (keys : List (List ℕ)) → Outcome
-remove wrong reading keys = told (λ pairs. text_of (without_keys pairs keys)) reading
+remove wrong reading keys = text_answer (λ pairs. text_of (without_keys pairs keys)) reading
 
 -- dict replace: the words are keys and values in turn
 abbrev pub replace_by : (wrong : Outcome) → Reading → Option Pairs → Outcome
-replace_by wrong reading (Some more) = told (λ pairs. text_of (joined pairs more)) reading
+replace_by wrong reading (Some more) = text_answer (λ pairs. text_of (joined pairs more)) reading
 replace_by wrong reading None = wrong
 
 abbrev pub replace : (wrong : Outcome) → Reading → (words : List (List ℕ)) → Outcome
@@ -87,4 +87,4 @@ merged pairs [] = Ok pairs
 merged pairs (reading ∷ readings) = for_pairs (λ more. merged (joined pairs more) readings) reading
 
 abbrev pub merge : (wrong : Outcome) → (words : List (List ℕ)) → Outcome
-merge wrong words = told text_of (merged [] (map reading_of words))
+merge wrong words = text_answer text_of (merged [] (map reading_of words))

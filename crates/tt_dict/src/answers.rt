@@ -27,7 +27,7 @@ pub(crate) fn whole_of(
     alloc: Global,
     reading: Result<Dictionary, Text>,
 ) -> Result<Outcome, NoMemory>
-    ensures { IfOk result (λ outcome. outcome ≡ telling.told text_of reading) }
+    ensures { IfOk result (λ outcome. outcome ≡ telling.text_answer text_of reading) }
 {
     match reading {
         Ok(pairs) => whole(alloc, &pairs),

@@ -155,7 +155,7 @@ fn lappend(
     putting(pairs, key, text)
 }
 
-// The value of a key, where a missing one counts as this text.
+// The value of a key, if a missing one counts as this text.
 fn value_or<'a>(pairs: &'a Dictionary, key: &Text, missing: &'a [u8]) -> &'a [u8]
     ensures { result.now ≡ changing.value_or missing.now pairs.now key.now }
 {

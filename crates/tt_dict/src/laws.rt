@@ -1,5 +1,5 @@
 //! Laws about the definitions, each proved as the contract of a function that does nothing.
-ghost use Rattle.tt_dict.specs.Laws.{ChangedKeysLaw, MergeLaw, SamePairsLaw};
+ghost use Rattle.tt_dict.specs.DictLaws.{ChangedKeysLaw, MergeLaw, SamePairsLaw};
 
 /// Two texts that are read as the same pairs give the same answers.
 pub fn same_pairs_give_the_same_answers()

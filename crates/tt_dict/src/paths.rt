@@ -1,6 +1,6 @@
-//! Values in dictionaries that are values of dictionaries, by keys inwards. A path may have many thousand keys, so it is
-//! gone by loops; a change takes the text of each dictionary on the way, so time in proportion to the path and to the
-//! whole text.
+//! Values in dictionaries that are values of dictionaries, by keys inwards. A path may have many thousand keys, so it
+//! is gone by loops; a change takes the text of each dictionary on the way, so time in proportion to the path and to
+//! the whole text.
 ghost use Rattle.std.specs.Prelude.{◌≡◌, Ok, IfOk, OnOk};
 ghost use Rattle.tt_dict.specs.Paths as paths;
 ghost use Rattle.tt_dict.specs.inside.Levels.{around};

@@ -67,7 +67,7 @@ fn exists_at(
     keys: &[Text],
 ) -> Result<Outcome, NoMemory>
     ensures { IfOk result (λ outcome.
-        outcome ≡ telling.told (λ pairs. telling.truth (is_ok (paths.value_at pairs key.now keys.now)))
+        outcome ≡ telling.text_answer (λ pairs. telling.truth (is_ok (paths.value_at pairs key.now keys.now)))
         (reading_of dictionary.now)) }
 {
     match read(alloc, dictionary.as_bytes())? {
@@ -88,7 +88,7 @@ pub(crate) fn size(alloc: Global, usage: &[u8], words: &[Text]) -> Result<Outcom
 
 fn size_of(alloc: Global, dictionary: &Text) -> Result<Outcome, NoMemory>
     ensures { IfOk result (λ outcome.
-        outcome ≡ telling.told (λ pairs. decimal (length pairs)) (reading_of dictionary.now)) }
+        outcome ≡ telling.text_answer (λ pairs. decimal (length pairs)) (reading_of dictionary.now)) }
 {
     match read(alloc, dictionary.as_bytes())? {
         Ok(pairs) => Ok(Outcome::fine(alloc, count_text(alloc, pairs.len())?)),
@@ -109,7 +109,7 @@ pub(crate) fn keys(alloc: Global, usage: &[u8], words: &[Text]) -> Result<Outcom
 
 fn keys_like(alloc: Global, dictionary: &Text, pattern: Option<&Text>) -> Result<Outcome, NoMemory>
     ensures { IfOk result (λ outcome.
-        outcome ≡ telling.told (λ pairs. telling.like (option_copied pattern.entry) (keys_of pairs))
+        outcome ≡ telling.text_answer (λ pairs. telling.like (option_copied pattern.entry) (keys_of pairs))
         (reading_of dictionary.now)) }
 {
     match read(alloc, dictionary.as_bytes())? {
@@ -135,7 +135,7 @@ fn values_like(
     pattern: Option<&Text>,
 ) -> Result<Outcome, NoMemory>
     ensures { IfOk result (λ outcome.
-        outcome ≡ telling.told (λ pairs. telling.like (option_copied pattern.entry) (values_of pairs))
+        outcome ≡ telling.text_answer (λ pairs. telling.like (option_copied pattern.entry) (values_of pairs))
         (reading_of dictionary.now)) }
 {
     match read(alloc, dictionary.as_bytes())? {
@@ -156,7 +156,8 @@ pub(crate) fn remove(alloc: Global, usage: &[u8], words: &[Text]) -> Result<Outc
 
 fn remove_from(alloc: Global, dictionary: &Text, keys: &[Text]) -> Result<Outcome, NoMemory>
     ensures { IfOk result (λ outcome.
-        outcome ≡ telling.told (λ pairs. text_of (telling.without_keys pairs keys.now)) (reading_of dictionary.now)) }
+        outcome ≡ telling.text_answer (λ pairs.
+            text_of (telling.without_keys pairs keys.now)) (reading_of dictionary.now)) }
 {
     match read(alloc, dictionary.as_bytes())? {
         Ok(mut pairs) => {
@@ -202,7 +203,7 @@ fn replace_in(
 
 fn join_to(alloc: Global, dictionary: &Text, more: &Dictionary) -> Result<Outcome, NoMemory>
     ensures { IfOk result (λ outcome.
-        outcome ≡ telling.told (λ pairs. text_of (joined pairs more.now)) (reading_of dictionary.now)) }
+        outcome ≡ telling.text_answer (λ pairs. text_of (joined pairs more.now)) (reading_of dictionary.now)) }
 {
     match read(alloc, dictionary.as_bytes())? {
         Ok(mut pairs) => {
@@ -215,7 +216,8 @@ fn join_to(alloc: Global, dictionary: &Text, more: &Dictionary) -> Result<Outcom
 
 /// `dict merge`.
 pub(crate) fn merge(alloc: Global, words: &[Text]) -> Result<Outcome, NoMemory>
-    ensures { IfOk result (λ outcome. outcome ≡ telling.told text_of (telling.merged [] (map reading_of words.now))) }
+    ensures { IfOk result (λ outcome.
+        outcome ≡ telling.text_answer text_of (telling.merged [] (map reading_of words.now))) }
 {
     let all = merged(alloc, words)?;
     whole_of(alloc, all)

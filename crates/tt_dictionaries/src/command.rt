@@ -9,8 +9,8 @@ use tt_script::plain_name;
 use tt_store::{Answer, Store};
 use tt_text::{NoMemory, Text};
 
-/// Runs a whole command, its name first: dict(n), and it has ended; `Other` if it has another name, or is `dict for`, and
-/// then nothing has changed.
+/// Runs a whole command, its name first: dict(n), and it has ended; `Other` if it has another name, or is `dict for`,
+/// and then nothing has changed.
 ///
 /// `NoMemory` if memory is refused.
 pub fn run(alloc: Global, store: &mut Store, words: &[Text]) -> Result<Answer, NoMemory>

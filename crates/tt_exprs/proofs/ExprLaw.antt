@@ -40,11 +40,13 @@ tree_law ts expr = (λ e. found e (spelled_or_not ts), λ h. read_in h.1 h.2)
 pub depth_law : DepthLaw
 depth_law ts = (λ e. found e (spelled_or_not ts), λ h. read_out h.2 h.3)
   where
-    deeper : tree_of ts ≡ nested_too_deeply → (r : Reads 0 ts) → (r.1 ≤ most_nested) ⊎ (most_nested < r.1) → (expr : PlainExpr) × (depth : ℕ) × IsExpr ts expr depth × (most_nested < depth)
+    deeper : tree_of ts ≡ nested_too_deeply → (r : Reads 0 ts) → (r.1 ≤ most_nested) ⊎ (most_nested < r.1) → (expr : PlainExpr) × (depth : ℕ)
+        × IsExpr ts expr depth × (most_nested < depth)
     deeper e r (inl low) = absurd (good_shallow r.0 (sym (read_in r.2 low) ∙ e))
     deeper e r (inr high) = (r.0, r.1, r.2, high)
 
-    found : tree_of ts ≡ nested_too_deeply → (tree_of ts ≡ malformed) ⊎ Reads 0 ts → (expr : PlainExpr) × (depth : ℕ) × IsExpr ts expr depth × (most_nested < depth)
+    found : tree_of ts ≡ nested_too_deeply → (tree_of ts ≡ malformed) ⊎ Reads 0 ts → (expr : PlainExpr) × (depth : ℕ) × IsExpr ts expr depth
+        × (most_nested < depth)
     found e (inl bad) = absurd (deep_formed (sym e ∙ bad))
     found e (inr r) = deeper e r (fits_or_not r.1)
 

@@ -1,16 +1,26 @@
 -- What the grammar spells, the function reads.
-use Rattle.std.proofs.Common.{◌≡◌, ◌≢◌, ℕ, suc, ◌<◌, ◌≤◌, max, true, false, List, [], ◌∷◌, ◌++◌, fold, Some, refl, ap, sym, ◌∙◌, append_assoc, arith, inl, inr, ◌⊎◌}
+use Rattle.std.proofs.Common.{◌≡◌, ◌≢◌, ℕ, suc, ◌<◌, ◌≤◌, max, true, false, List, [], ◌∷◌, ◌++◌, fold, Some, refl, ap}
+use Rattle.std.proofs.Common.{sym, ◌∙◌, append_assoc, arith, inl, inr, ◌⊎◌}
 use Rattle.std.proofs.lemmas.List.Sums.{fold-append}
 use Rattle.tt_exprs.specs.Trees.{PlainExpr, node, PlainExprs, none, more}
 use Rattle.tt_exprs.specs.Operators.{binding, level, left_level, takes_more}
 use Rattle.tt_exprs.specs.Tokens.{PlainToken, operator, function, opening, closing, comma, colon}
-use Rattle.tt_exprs.specs.Parsing.{PlainValue, nested, PlainRow, no_operands, followed_by, in_a_row, applied, PlainPending, unary, binary, test, branch, parenthesis, arguments, PlainWaiting, gathered, binds, reaches, PlainState, wants, has, as_prefix, prefixed, operated, wants_after, with_left, after_comma, after_closing, after_colon, step, outcome_of, finished, tree_of, level_of, left_level_of}
-use Rattle.tt_exprs.specs.ExprGrammar.{IsOperand, token_operand, in_parentheses, function_call, after_prefix, IsArguments, last_argument, next_argument, IsAtLevel, one_operand, from_left, from_right, choice}
+use Rattle.tt_exprs.specs.Parsing.{PlainValue, nested, PlainRow, no_operands, followed_by, in_a_row, applied}
+use Rattle.tt_exprs.specs.Parsing.{PlainPending, unary, binary, test, branch, parenthesis, arguments, PlainWaiting}
+use Rattle.tt_exprs.specs.Parsing.{gathered, binds, reaches, PlainState, wants, has, as_prefix, prefixed, operated}
+use Rattle.tt_exprs.specs.Parsing.{wants_after, with_left, after_comma, after_closing, after_colon, step, outcome_of}
+use Rattle.tt_exprs.specs.Parsing.{finished, tree_of, level_of, left_level_of}
+use Rattle.tt_exprs.specs.ExprGrammar.{IsOperand, token_operand, in_parentheses, function_call, after_prefix}
+use Rattle.tt_exprs.specs.ExprGrammar.{IsArguments, last_argument, next_argument, IsAtLevel, one_operand, from_left}
+use Rattle.tt_exprs.specs.ExprGrammar.{from_right, choice}
 use Rattle.tt_exprs.specs.declared.op.Op.{Op}
 use Rattle.tt_exprs.specs.declared.op.Op.TheVariants.{Choose}
 use Rattle.tt_exprs.specs.declared.operators.Binding.TheVariants.{Leftwards, Rightwards}
 use Rattle.tt_exprs.proofs.StackSteps.{gathered-empty, gathered-takes, gathered-stops}
-use Rattle.tt_exprs.proofs.ExprTables.{Groups, groups_left, groups_right, groups, left_regular, right_regular, left_binary, leftwards_other, reaches-yes, reaches-no, worth, row_worth, parenthesized-worth, applied-worth, followed-worth, unary-worth, binary-worth, branch-worth}
+use Rattle.tt_exprs.proofs.ExprTables.{Groups, groups_left, groups_right, groups, left_regular, right_regular}
+use Rattle.tt_exprs.proofs.ExprTables.{left_binary, leftwards_other, reaches-yes, reaches-no, worth, row_worth}
+use Rattle.tt_exprs.proofs.ExprTables.{parenthesized-worth, applied-worth, followed-worth, unary-worth, binary-worth}
+use Rattle.tt_exprs.proofs.ExprTables.{branch-worth}
 
 -- what waits and an operand
 abbrev pub waiting : List PlainPending → PlainValue → PlainWaiting
@@ -24,7 +34,8 @@ pub record Comes (bound : ℕ) (pending : List PlainPending) (ts : List PlainTok
 
 -- what waits leaves the left operand to every operator of this level or tighter
 abbrev pub Leaves : ℕ → List PlainPending → Type 0
-Leaves bound pending = (op : Op) (n k : ℕ) → level_of op ≡ Some n → left_level_of op ≡ Some k → bound ≤ n → (value : PlainValue) → gathered k pending value ≡ waiting pending value
+Leaves bound pending =
+    (op : Op) (n k : ℕ) → level_of op ≡ Some n → left_level_of op ≡ Some k → bound ≤ n → (value : PlainValue) → gathered k pending value ≡ waiting pending value
 
 leaves_more : (bound n : ℕ) (pending : List PlainPending) → bound ≤ n → Leaves bound pending → Leaves n pending
 leaves_more bound n pending h l op m k e g j value = l op m k e g (omega (arith, h, j)) value
@@ -83,20 +94,25 @@ leaves_branch condition chosen pending other m k f g h v =
     gathered-stops k (branch condition chosen) pending v (reaches-no k 0 above.1)
 
 -- tokens, a token and tokens
-through : (s : PlainState) (ts left right : List PlainToken) (token : PlainToken) → ts ≡ left ++ token ∷ right → fold step s ts ≡ fold step (step (fold step s left) token) right
+through : (s : PlainState) (ts left right : List PlainToken) (token : PlainToken) → ts ≡ left ++ token ∷ right →
+    fold step s ts ≡ fold step (step (fold step s left) token) right
 through s ts left right token e = ap (fold step s) e ∙ fold-append step s left (token ∷ right)
 
 has_same : (a b : PlainWaiting) → a ≡ b → has a ≡ has b
 has_same a b e = ap has e
 
 -- an operator after what comes to its left operand
-operated-on : (op : Op) (k : ℕ) (w : PlainWaiting) (pending : List PlainPending) (value : PlainValue) → op ≢ Choose → left_level_of op ≡ Some k → gathered k w.pending w.value ≡ waiting pending value → step (has w) (operator op) ≡ wants (binary op value ∷ pending)
+operated-on : (op : Op) (k : ℕ) (w : PlainWaiting) (pending : List PlainPending) (value : PlainValue) → op ≢ Choose → left_level_of op ≡ Some k →
+    gathered k w.pending w.value ≡ waiting pending value → step (has w) (operator op) ≡ wants (binary op value ∷ pending)
 operated-on op k w pending value h e g =
     ap (λ l. operated op l w) e
     ∙ ap (λ (x : PlainWaiting). wants_after (with_left op x.value) x.pending) g
     ∙ ap (λ p. wants (p ∷ pending)) (left_binary op value h)
 
-comes_binary : (bound n k right_bound : ℕ) (op : Op) (ts left right : List PlainToken) (pending : List PlainPending) (a b : PlainExpr) (d e : ℕ) → op ≢ Choose → level_of op ≡ Some n → left_level_of op ≡ Some k → bound ≤ n → n ≤ right_bound → ts ≡ left ++ operator op ∷ right → Leaves bound pending → Comes k pending left (worth a d) → Comes right_bound (binary op (worth a d) ∷ pending) right (worth b e) → Comes bound pending ts (worth (node op (more a (more b none))) (suc (max d e)))
+comes_binary : (bound n k right_bound : ℕ) (op : Op) (ts left right : List PlainToken) (pending : List PlainPending) (a b : PlainExpr) (d e : ℕ) →
+    op ≢ Choose → level_of op ≡ Some n → left_level_of op ≡ Some k → bound ≤ n → n ≤ right_bound → ts ≡ left ++ operator op ∷ right →
+    Leaves bound pending → Comes k pending left (worth a d) → Comes right_bound (binary op (worth a d) ∷ pending) right (worth b e) →
+    Comes bound pending ts (worth (node op (more a (more b none))) (suc (max d e)))
 comes_binary bound n k right_bound op ts left right pending a b d e other lev left_lev h j cut l one two =
     let stops : gathered k one.w.pending one.w.value ≡ waiting pending (worth a d) = one.same k (omega arith) ∙ l op n k lev left_lev h (worth a d) in
     record {
@@ -111,10 +127,15 @@ comes_binary bound n k right_bound op ts left right pending a b d e other lev le
           ∙ ap (gathered m pending) (binary-worth op a b d e);
     }
 
-comes_choice : (ts condition branches chosen other : List PlainToken) (pending : List PlainPending) (a b c : PlainExpr) (d e f : ℕ) → ts ≡ condition ++ operator Choose ∷ branches → branches ≡ chosen ++ colon ∷ other → Leaves 0 pending → Comes 1 pending condition (worth a d) → Comes 0 (test (worth a d) ∷ pending) chosen (worth b e) → Comes 0 (branch (worth a d) (worth b e) ∷ pending) other (worth c f) → Comes 0 pending ts (worth (node Choose (more a (more b (more c none)))) (suc (max (max d e) f)))
+comes_choice : (ts condition branches chosen other : List PlainToken) (pending : List PlainPending) (a b c : PlainExpr) (d e f : ℕ) →
+    ts ≡ condition ++ operator Choose ∷ branches → branches ≡ chosen ++ colon ∷ other → Leaves 0 pending → Comes 1 pending condition (worth a d) →
+    Comes 0 (test (worth a d) ∷ pending) chosen (worth b e) → Comes 0 (branch (worth a d) (worth b e) ∷ pending) other (worth c f) →
+    Comes 0 pending ts (worth (node Choose (more a (more b (more c none)))) (suc (max (max d e) f)))
 comes_choice ts condition branches chosen other pending a b c d e f cut cut_again l one two three =
-    let stops : gathered 1 one.w.pending one.w.value ≡ waiting pending (worth a d) = one.same 1 (omega arith) ∙ l Choose 0 1 refl refl (omega arith) (worth a d) in
-    let opened : gathered 0 two.w.pending two.w.value ≡ waiting (test (worth a d) ∷ pending) (worth b e) = two.same 0 (omega arith) ∙ gathered-stops 0 (test (worth a d)) pending (worth b e) refl in
+    let stops : gathered 1 one.w.pending one.w.value ≡ waiting pending (worth a d) =
+    one.same 1 (omega arith) ∙ l Choose 0 1 refl refl (omega arith) (worth a d) in
+    let opened : gathered 0 two.w.pending two.w.value ≡ waiting (test (worth a d) ∷ pending) (worth b e) =
+    two.same 0 (omega arith) ∙ gathered-stops 0 (test (worth a d)) pending (worth b e) refl in
     record {
       w = three.w;
       reached = through (wants pending) ts condition branches (operator Choose) cut
@@ -130,9 +151,11 @@ comes_choice ts condition branches chosen other pending a b c d e f cut cut_agai
           ∙ ap (gathered m pending) (branch-worth a b c d e f);
     }
 
-comes_parentheses : (bound : ℕ) (ts inside : List PlainToken) (pending : List PlainPending) (a : PlainExpr) (d : ℕ) → ts ≡ inside ++ closing ∷ [] → Comes 0 (parenthesis ∷ pending) inside (worth a d) → Comes bound pending (opening ∷ ts) (worth a (suc d))
+comes_parentheses : (bound : ℕ) (ts inside : List PlainToken) (pending : List PlainPending) (a : PlainExpr) (d : ℕ) → ts ≡ inside ++ closing ∷ [] →
+    Comes 0 (parenthesis ∷ pending) inside (worth a d) → Comes bound pending (opening ∷ ts) (worth a (suc d))
 comes_parentheses bound ts inside pending a d cut one =
-    let opened : gathered 0 one.w.pending one.w.value ≡ waiting (parenthesis ∷ pending) (worth a d) = one.same 0 (omega arith) ∙ gathered-stops 0 parenthesis pending (worth a d) refl in
+    let opened : gathered 0 one.w.pending one.w.value ≡ waiting (parenthesis ∷ pending) (worth a d) =
+    one.same 0 (omega arith) ∙ gathered-stops 0 parenthesis pending (worth a d) refl in
     record {
       w = waiting pending (worth a (suc d));
       reached = through (wants (parenthesis ∷ pending)) ts inside [] closing cut
@@ -142,7 +165,8 @@ comes_parentheses bound ts inside pending a d cut one =
       same = λ m i. refl;
     }
 
-comes_prefix : (bound : ℕ) (sign op : Op) (ts : List PlainToken) (pending : List PlainPending) (a : PlainExpr) (d : ℕ) → as_prefix sign ≡ Some op → Comes bound (unary op ∷ pending) ts (worth a d) → Comes bound pending (operator sign ∷ ts) (worth (node op (more a none)) (suc d))
+comes_prefix : (bound : ℕ) (sign op : Op) (ts : List PlainToken) (pending : List PlainPending) (a : PlainExpr) (d : ℕ) → as_prefix sign ≡ Some op →
+    Comes bound (unary op ∷ pending) ts (worth a d) → Comes bound pending (operator sign ∷ ts) (worth (node op (more a none)) (suc d))
 comes_prefix bound sign op ts pending a d e one = record {
   w = one.w;
   reached = ap (λ o. fold step (prefixed pending o) ts) e ∙ one.reached;
@@ -170,13 +194,17 @@ in_front-none exprs = refl
 
 -- the operands of a function up to its `)`, after others
 abbrev pub Called : Op → List PlainPending → List PlainExpr → ℕ → List PlainToken → PlainExprs → ℕ → Type 0
-Called op pending before deepest inside exprs depth = fold step (wants (arguments op (row_worth before deepest) ∷ pending)) (inside ++ closing ∷ []) ≡ has (waiting pending (worth (node op (in_front before exprs)) (suc (max deepest depth))))
+Called op pending before deepest inside exprs depth =
+    fold step (wants (arguments op (row_worth before deepest) ∷ pending)) (inside ++ closing ∷ []) ≡ has
+    (waiting pending (worth (node op (in_front before exprs)) (suc (max deepest depth))))
 
 -- what waits inside a function, after an operand that is whole
-whole_argument : (op : Op) (operands : PlainRow) (pending : List PlainPending) (inside : List PlainToken) (value : PlainValue) → (one : Comes 0 (arguments op operands ∷ pending) inside value) → gathered 0 one.w.pending one.w.value ≡ waiting (arguments op operands ∷ pending) value
+whole_argument : (op : Op) (operands : PlainRow) (pending : List PlainPending) (inside : List PlainToken) (value : PlainValue) →
+    (one : Comes 0 (arguments op operands ∷ pending) inside value) → gathered 0 one.w.pending one.w.value ≡ waiting (arguments op operands ∷ pending) value
 whole_argument op operands pending inside value one = one.same 0 (omega arith) ∙ gathered-stops 0 (arguments op operands) pending value refl
 
-called_last : (op : Op) (pending : List PlainPending) (before : List PlainExpr) (deepest : ℕ) (inside : List PlainToken) (a : PlainExpr) (d : ℕ) → Comes 0 (arguments op (row_worth before deepest) ∷ pending) inside (worth a d) → Called op pending before deepest inside (more a none) d
+called_last : (op : Op) (pending : List PlainPending) (before : List PlainExpr) (deepest : ℕ) (inside : List PlainToken) (a : PlainExpr) (d : ℕ) →
+    Comes 0 (arguments op (row_worth before deepest) ∷ pending) inside (worth a d) → Called op pending before deepest inside (more a none) d
 called_last op pending before deepest inside a d one =
     fold-append step (wants (arguments op (row_worth before deepest) ∷ pending)) inside (closing ∷ [])
     ∙ ap (λ s. step s closing) one.reached
@@ -185,24 +213,30 @@ called_last op pending before deepest inside a d one =
     ∙ ap (λ v. has (waiting pending v)) (applied-worth op (before ++ a ∷ []) (max deepest d))
     ∙ ap (λ x. has (waiting pending (worth (node op x) (suc (max deepest d))))) (in_front-row before a)
 
-comma-more : (op : Op) (operands : PlainRow) (pending : List PlainPending) (value : PlainValue) → takes_more op ≡ true → after_comma value (arguments op operands ∷ pending) ≡ wants (arguments op (followed_by operands value) ∷ pending)
+comma-more : (op : Op) (operands : PlainRow) (pending : List PlainPending) (value : PlainValue) → takes_more op ≡ true →
+    after_comma value (arguments op operands ∷ pending) ≡ wants (arguments op (followed_by operands value) ∷ pending)
 comma-more op operands pending value e = rw (e, after_comma) refl
 
-called_next : (op : Op) (pending : List PlainPending) (before : List PlainExpr) (deepest : ℕ) (inside first others : List PlainToken) (a : PlainExpr) (exprs : PlainExprs) (d e : ℕ) → takes_more op ≡ true → inside ≡ first ++ comma ∷ others → Comes 0 (arguments op (row_worth before deepest) ∷ pending) first (worth a d) → Called op pending (before ++ a ∷ []) (max deepest d) others exprs e → Called op pending before deepest inside (more a exprs) (max d e)
+called_next : (op : Op) (pending : List PlainPending) (before : List PlainExpr) (deepest : ℕ) (inside first others : List PlainToken) (a : PlainExpr)
+    (exprs : PlainExprs) (d e : ℕ) → takes_more op ≡ true → inside ≡ first ++ comma ∷ others →
+    Comes 0 (arguments op (row_worth before deepest) ∷ pending) first (worth a d) → Called op pending (before ++ a ∷ []) (max deepest d) others exprs e →
+    Called op pending before deepest inside (more a exprs) (max d e)
 called_next op pending before deepest inside first others a exprs d e more_of cut one two =
     let state : PlainState = wants (arguments op (row_worth before deepest) ∷ pending) in
     ap (λ x. fold step state (x ++ closing ∷ [])) cut
     ∙ ap (fold step state) (append_assoc first (comma ∷ others) (closing ∷ []))
     ∙ fold-append step state first (comma ∷ (others ++ closing ∷ []))
     ∙ ap (λ s. fold step (step s comma) (others ++ closing ∷ [])) one.reached
-    ∙ ap (λ (x : PlainWaiting). fold step (after_comma x.value x.pending) (others ++ closing ∷ [])) (whole_argument op (row_worth before deepest) pending first (worth a d) one)
+    ∙ ap (λ (x : PlainWaiting). fold step (after_comma x.value x.pending) (others ++ closing ∷ []))
+    (whole_argument op (row_worth before deepest) pending first (worth a d) one)
     ∙ ap (λ s. fold step s (others ++ closing ∷ [])) (comma-more op (row_worth before deepest) pending (worth a d) more_of)
     ∙ ap (λ r. fold step (wants (arguments op r ∷ pending)) (others ++ closing ∷ [])) (followed-worth before a deepest d)
     ∙ two
     ∙ ap (λ x. has (waiting pending (worth (node op x) (suc (max (max deepest d) e))))) (in_front-more before a exprs)
     ∙ ap (λ n. has (waiting pending (worth (node op (in_front before (more a exprs))) (suc n)))) (omega arith)
 
-comes_call : (bound : ℕ) (op : Op) (ts inside : List PlainToken) (pending : List PlainPending) (exprs : PlainExprs) (d : ℕ) → ts ≡ inside ++ closing ∷ [] → Called op pending [] 0 inside exprs d → Comes bound pending (function op ∷ opening ∷ ts) (worth (node op exprs) (suc d))
+comes_call : (bound : ℕ) (op : Op) (ts inside : List PlainToken) (pending : List PlainPending) (exprs : PlainExprs) (d : ℕ) → ts ≡ inside ++ closing ∷ [] →
+    Called op pending [] 0 inside exprs d → Comes bound pending (function op ∷ opening ∷ ts) (worth (node op exprs) (suc d))
 comes_call bound op ts inside pending exprs d cut called = record {
   w = waiting pending (worth (node op exprs) (suc d));
   reached = ap (fold step (wants (arguments op no_operands ∷ pending))) cut
@@ -222,7 +256,8 @@ test-not : (value : PlainValue) (k : ℕ) → binds k (test value) ≡ false
 test-not value k = refl
 
 mutual
-  pub operand_comes : {ts : List PlainToken} {expr : PlainExpr} {depth : ℕ} → IsOperand ts expr depth → (bound : ℕ) (pending : List PlainPending) → Comes bound pending ts (worth expr depth)
+  pub operand_comes : {ts : List PlainToken} {expr : PlainExpr} {depth : ℕ} → IsOperand ts expr depth → (bound : ℕ) (pending : List PlainPending) →
+      Comes bound pending ts (worth expr depth)
   operand_comes (token_operand {expr = expr}) bound pending = record { w = waiting pending (nested expr 0); reached = refl; same = λ m i. refl }
   operand_comes (in_parentheses {depth = depth} {ts = ts} {inside = inside} {expr = expr} cut h) bound pending =
       comes_parentheses bound ts inside pending expr depth cut (level_comes h (parenthesis ∷ pending) (leaves_opened parenthesis pending opened-not))
@@ -231,25 +266,37 @@ mutual
   operand_comes (after_prefix {depth = depth} {sign = sign} {op = op} {ts = ts} {expr = expr} e h) bound pending =
       comes_prefix bound sign op ts pending expr depth e (operand_comes h bound (unary op ∷ pending))
 
-  pub arguments_come : {op : Op} {ts : List PlainToken} {exprs : PlainExprs} {depth : ℕ} → IsArguments op ts exprs depth → (pending : List PlainPending) (before : List PlainExpr) (deepest : ℕ) → Called op pending before deepest ts exprs depth
+  pub arguments_come : {op : Op} {ts : List PlainToken} {exprs : PlainExprs} {depth : ℕ} → IsArguments op ts exprs depth →
+      (pending : List PlainPending) (before : List PlainExpr) (deepest : ℕ) → Called op pending before deepest ts exprs depth
   arguments_come (last_argument {depth = depth} {op = op} {ts = ts} {expr = expr} h) pending before deepest =
-      called_last op pending before deepest ts expr depth (level_comes h (arguments op (row_worth before deepest) ∷ pending) (leaves_opened (arguments op (row_worth before deepest)) pending (called-not op (row_worth before deepest))))
-  arguments_come (next_argument {d = d} {e = e} {op = op} {ts = ts} {first = first} {others = others} {expr = expr} {exprs = exprs} takes cut h rest) pending before deepest =
+      called_last op pending before deepest ts expr depth
+      (level_comes h (arguments op (row_worth before deepest) ∷ pending)
+      (leaves_opened (arguments op (row_worth before deepest)) pending (called-not op (row_worth before deepest))))
+  arguments_come
+      (next_argument {d =
+      d} {e = e} {op = op} {ts = ts} {first = first} {others = others} {expr = expr} {exprs = exprs} takes cut h rest) pending before deepest =
       called_next op pending before deepest ts first others expr exprs d e takes cut
-      (level_comes h (arguments op (row_worth before deepest) ∷ pending) (leaves_opened (arguments op (row_worth before deepest)) pending (called-not op (row_worth before deepest))))
+      (level_comes h (arguments op (row_worth before deepest) ∷ pending)
+      (leaves_opened (arguments op (row_worth before deepest)) pending (called-not op (row_worth before deepest))))
       (arguments_come rest pending (before ++ expr ∷ []) (max deepest d))
 
-  pub level_comes : {bound : ℕ} {ts : List PlainToken} {expr : PlainExpr} {depth : ℕ} → IsAtLevel bound ts expr depth → (pending : List PlainPending) → Leaves bound pending → Comes bound pending ts (worth expr depth)
+  pub level_comes : {bound : ℕ} {ts : List PlainToken} {expr : PlainExpr} {depth : ℕ} → IsAtLevel bound ts expr depth → (pending : List PlainPending) →
+      Leaves bound pending → Comes bound pending ts (worth expr depth)
   level_comes (one_operand {bound = bound} h) pending l = operand_comes h bound pending
-  level_comes (from_left {bound = bound} {n = n} {d = d} {e = e} {op = op} {ts = ts} {left = left} {right = right} {a = a} {b = b} binds h cut one two) pending l =
+  level_comes (from_left {bound =
+      bound} {n = n} {d = d} {e = e} {op = op} {ts = ts} {left = left} {right = right} {a = a} {b = b} binds h cut one two) pending l =
       comes_binary bound n n (suc n) op ts left right pending a b d e (leftwards_other op n binds) (ap level binds) (ap left_level binds) h (omega arith) cut l
       (level_comes one pending (leaves_more bound n pending h l))
       (level_comes two (binary op (worth a d) ∷ pending) (leaves_left op n (worth a d) pending binds))
-  level_comes (from_right {bound = bound} {n = n} {d = d} {e = e} {op = op} {ts = ts} {left = left} {right = right} {a = a} {b = b} other binds h cut one two) pending l =
+  level_comes (from_right {bound =
+      bound} {n = n} {d = d} {e = e} {op = op} {ts = ts} {left = left} {right = right} {a = a} {b = b} other binds h cut one two) pending l =
       comes_binary bound n (suc n) n op ts left right pending a b d e other (ap level binds) (ap left_level binds ∙ ap Some (omega arith)) h (omega arith) cut l
       (level_comes one pending (leaves_more bound (suc n) pending (omega (arith, h)) l))
       (level_comes two (binary op (worth a d) ∷ pending) (leaves_right op n (worth a d) pending binds))
-  level_comes (choice {d = d} {e = e} {f = f} {ts = ts} {condition = condition} {branches = branches} {chosen = chosen} {other = other} {a = a} {b = b} {c = c} cut cut_again one two three) pending l =
+  level_comes (choice {d =
+      d} {e = e} {f =
+      f} {ts = ts} {condition =
+      condition} {branches = branches} {chosen = chosen} {other = other} {a = a} {b = b} {c = c} cut cut_again one two three) pending l =
       comes_choice ts condition branches chosen other pending a b c d e f cut cut_again l
       (level_comes one pending (leaves_more 0 1 pending (omega arith) l))
       (level_comes two (test (worth a d) ∷ pending) (leaves_opened (test (worth a d)) pending (test-not (worth a d))))

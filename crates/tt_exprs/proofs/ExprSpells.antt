@@ -1,15 +1,24 @@
 -- What the function reads, the grammar spells.
-use Rattle.std.proofs.Common.{◌≡◌, ◌≢◌, ℕ, zero, suc, ◌<◌, ◌≤◌, max, Bool, true, false, true≢false, List, [], ◌∷◌, ◌++◌, fold, Option, Some, None, refl, ap, sym, ◌∙◌, subst, append_assoc, append-nil, arith, inl, inr, ◌⊎◌}
+use Rattle.std.proofs.Common.{◌≡◌, ◌≢◌, ℕ, zero, suc, ◌<◌, ◌≤◌, max, Bool, true, false, true≢false, List, [], ◌∷◌, ◌++◌}
+use Rattle.std.proofs.Common.{fold, Option, Some, None, refl, ap, sym, ◌∙◌, subst, append_assoc, append-nil, arith, inl}
+use Rattle.std.proofs.Common.{inr, ◌⊎◌}
 use Rattle.tt_exprs.specs.Trees.{PlainExpr, node, PlainExprs, none, more}
 use Rattle.tt_exprs.specs.Operators.{binding, level, left_level, takes_more}
 use Rattle.tt_exprs.specs.Tokens.{PlainToken, operand, operator, function, opening, closing, comma, colon}
-use Rattle.tt_exprs.specs.Parsing.{PlainValue, nested, too_deep, PlainRow, PlainPending, unary, binary, test, branch, parenthesis, arguments, PlainWaiting, gathered, binds, reaches, closed, PlainState, wants, calls, has, wrong, as_prefix, prefixed, operated, wants_after, with_left, after_comma, after_closing, after_colon, step, malformed, outcome_of, finished, tree_of, level_of, left_level_of}
-use Rattle.tt_exprs.specs.ExprGrammar.{IsOperand, token_operand, in_parentheses, function_call, after_prefix, IsArguments, last_argument, next_argument, IsAtLevel, one_operand, from_left, from_right, choice}
+use Rattle.tt_exprs.specs.Parsing.{PlainValue, nested, too_deep, PlainRow, PlainPending, unary, binary, test, branch}
+use Rattle.tt_exprs.specs.Parsing.{parenthesis, arguments, PlainWaiting, gathered, binds, reaches, closed, PlainState}
+use Rattle.tt_exprs.specs.Parsing.{wants, calls, has, wrong, as_prefix, prefixed, operated, wants_after, with_left}
+use Rattle.tt_exprs.specs.Parsing.{after_comma, after_closing, after_colon, step, malformed, outcome_of, finished}
+use Rattle.tt_exprs.specs.Parsing.{tree_of, level_of, left_level_of}
+use Rattle.tt_exprs.specs.ExprGrammar.{IsOperand, token_operand, in_parentheses, function_call, after_prefix}
+use Rattle.tt_exprs.specs.ExprGrammar.{IsArguments, last_argument, next_argument, IsAtLevel, one_operand, from_left}
+use Rattle.tt_exprs.specs.ExprGrammar.{from_right, choice}
 use Rattle.tt_exprs.specs.declared.op.Op.{Op}
 use Rattle.tt_exprs.specs.declared.op.Op.TheVariants.{Choose}
 use Rattle.tt_exprs.specs.declared.operators.Binding.TheVariants.{Leftwards, Rightwards}
 use Rattle.tt_exprs.proofs.StackSteps.{gathered-empty, gathered-takes, gathered-stops}
-use Rattle.tt_exprs.proofs.ExprTables.{Groups, groups_left, groups_right, groups, choose_or_not, left_regular, right_regular, left_binary, reaches-yes, reaches-true, reaches-false}
+use Rattle.tt_exprs.proofs.ExprTables.{Groups, groups_left, groups_right, groups, choose_or_not, left_regular}
+use Rattle.tt_exprs.proofs.ExprTables.{right_regular, left_binary, reaches-yes, reaches-true, reaches-false}
 use Rattle.tt_exprs.proofs.ExprReads.{waiting}
 
 -- ---- what is spelled ----
@@ -60,11 +69,16 @@ of_operand n ts r = (r.0, r.1, one_operand r.2)
 -- these tokens came to what waits, which takes an expression of this level next
 data Spells : ℕ → List PlainPending → List PlainToken → Type 0 where
   starts : Spells 0 [] []
-  in_parenthesis : {bound : ℕ} {pending : List PlainPending} {before whole : List PlainToken} → Spells bound pending before → whole ≡ before ++ (opening ∷ []) → Spells 0 (parenthesis ∷ pending) whole
-  in_arguments : {bound : ℕ} {op : Op} {operands : PlainRow} {pending : List PlainPending} {before whole : List PlainToken} (own : List PlainToken) → Spells bound pending before → ((rest : List PlainToken) → ReadsArguments op rest → ReadsArguments op (own ++ rest)) → whole ≡ before ++ (function op ∷ opening ∷ own) → Spells 0 (arguments op operands ∷ pending) whole
-  in_test : {bound : ℕ} {condition : PlainValue} {pending : List PlainPending} {before whole : List PlainToken} (left : List PlainToken) → Spells bound pending before → bound ≤ 0 → Reads 1 left → whole ≡ before ++ (left ++ operator Choose ∷ []) → Spells 0 (test condition ∷ pending) whole
+  in_parenthesis : {bound : ℕ} {pending : List PlainPending} {before whole : List PlainToken} → Spells bound pending before →
+      whole ≡ before ++ (opening ∷ []) → Spells 0 (parenthesis ∷ pending) whole
+  in_arguments : {bound : ℕ} {op : Op} {operands : PlainRow} {pending : List PlainPending} {before whole : List PlainToken} (own : List PlainToken) →
+      Spells bound pending before → ((rest : List PlainToken) → ReadsArguments op rest → ReadsArguments op (own ++ rest)) →
+      whole ≡ before ++ (function op ∷ opening ∷ own) → Spells 0 (arguments op operands ∷ pending) whole
+  in_test : {bound : ℕ} {condition : PlainValue} {pending : List PlainPending} {before whole : List PlainToken} (left : List PlainToken) →
+      Spells bound pending before → bound ≤ 0 → Reads 1 left → whole ≡ before ++ (left ++ operator Choose ∷ []) → Spells 0 (test condition ∷ pending) whole
   -- an operator, which binds at level n what it makes
-  waits : {bound wanted : ℕ} {first : PlainPending} {pending : List PlainPending} {before whole : List PlainToken} (n : ℕ) (own : List PlainToken) → Spells bound pending before → bound ≤ n → wanted ≤ tightest → binds 0 first ≡ true
+  waits : {bound wanted : ℕ} {first : PlainPending} {pending : List PlainPending} {before whole : List PlainToken} (n : ℕ) (own : List PlainToken) →
+      Spells bound pending before → bound ≤ n → wanted ≤ tightest → binds 0 first ≡ true
       → ((k : ℕ) → k ≤ tightest → binds k first ≡ true → k ≤ n)
       → ((op : Op) (m k : ℕ) → level_of op ≡ Some m → left_level_of op ≡ Some k → binds k first ≡ false → wanted ≤ m)
       → ((right : List PlainToken) → Reads wanted right → Reads n (own ++ right))
@@ -88,22 +102,30 @@ record Gathered (k : ℕ) (w : PlainWaiting) (ts : List PlainToken) : Type 0 whe
   whole : ts ≡ before ++ inside
   stops : (op : Op) (m : ℕ) → level_of op ≡ Some m → left_level_of op ≡ Some k → bound ≤ m
 
-rests : (k : ℕ) (first : PlainPending) (pending : List PlainPending) (value : PlainValue) (before inside ts : List PlainToken) → binds k first ≡ false → Spells 0 (first ∷ pending) before → Reads k inside → Reads 0 inside → ts ≡ before ++ inside → Gathered k (gathered k (first ∷ pending) value) ts
+rests : (k : ℕ) (first : PlainPending) (pending : List PlainPending) (value : PlainValue) (before inside ts : List PlainToken) → binds k first ≡ false →
+    Spells 0 (first ∷ pending) before → Reads k inside → Reads 0 inside → ts ≡ before ++ inside → Gathered k (gathered k (first ∷ pending) value) ts
 rests k first pending value before inside ts never s low fits e =
     subst (λ w. Gathered k w ts) (sym (gathered-stops k first pending value never))
     (record { bound = 0; before = before; inside = inside; stack = s; low = low; fits = fits; whole = e; stops = λ op m f g. omega arith })
 
-gathers : (k : ℕ) {bound : ℕ} {pending : List PlainPending} {before : List PlainToken} → k ≤ tightest → (s : Spells bound pending before) → (value : PlainValue) (inside ts : List PlainToken) → Reads k inside → Reads bound inside → ts ≡ before ++ inside → Gathered k (gathered k pending value) ts
+gathers : (k : ℕ) {bound : ℕ} {pending : List PlainPending} {before : List PlainToken} → k ≤ tightest → (s : Spells bound pending before) →
+    (value : PlainValue) (inside ts : List PlainToken) → Reads k inside → Reads bound inside → ts ≡ before ++ inside → Gathered k (gathered k pending value) ts
 gathers k h starts value inside ts low fits e =
     subst (λ w. Gathered k w ts) (sym (gathered-empty k value))
     (record { bound = 0; before = []; inside = inside; stack = starts; low = low; fits = fits; whole = e; stops = λ op m f g. omega arith })
-gathers k h (in_parenthesis {pending = pending} {whole = whole} s c) value inside ts low fits e = rests k parenthesis pending value whole inside ts refl (in_parenthesis s c) low fits e
-gathers k h (in_arguments {op = op} {operands = operands} {pending = pending} {whole = whole} own s f c) value inside ts low fits e = rests k (arguments op operands) pending value whole inside ts refl (in_arguments own s f c) low fits e
-gathers k h (in_test {condition = condition} {pending = pending} {whole = whole} left s j r c) value inside ts low fits e = rests k (test condition) pending value whole inside ts refl (in_test left s j r c) low fits e
-gathers k h (waits {bound = bound} {wanted = wanted} {first = first} {pending = pending} {before = before} {whole = whole} n own s j i b f g r c) value inside ts low fits e =
+gathers k h (in_parenthesis {pending = pending} {whole = whole} s c) value inside ts low fits e =
+    rests k parenthesis pending value whole inside ts refl (in_parenthesis s c) low fits e
+gathers k h (in_arguments {op = op} {operands = operands} {pending = pending} {whole = whole} own s f c) value inside ts low fits e =
+    rests k (arguments op operands) pending value whole inside ts refl (in_arguments own s f c) low fits e
+gathers k h (in_test {condition = condition} {pending = pending} {whole = whole} left s j r c) value inside ts low fits e =
+    rests k (test condition) pending value whole inside ts refl (in_test left s j r c) low fits e
+gathers k h (waits {bound =
+    bound} {wanted = wanted} {first = first} {pending = pending} {before = before} {whole = whole} n own s j i b f g r c) value inside ts low fits e =
     go (binds k first) refl (λ v l t d. gathers k h s v (own ++ inside) ts l t d)
   where
-    go : (v : Bool) → binds k first ≡ v → ((v : PlainValue) → Reads k (own ++ inside) → Reads bound (own ++ inside) → ts ≡ before ++ (own ++ inside) → Gathered k (gathered k pending v) ts) → Gathered k (gathered k (first ∷ pending) value) ts
+    go : (v : Bool) → binds k first ≡ v →
+        ((v : PlainValue) → Reads k (own ++ inside) → Reads bound (own ++ inside) → ts ≡ before ++ (own ++ inside) →
+        Gathered k (gathered k pending v) ts) → Gathered k (gathered k (first ∷ pending) value) ts
     go true holds next =
         let made = r inside fits in
         subst (λ w. Gathered k w ts) (sym (gathered-takes k first pending value holds))
@@ -111,7 +133,18 @@ gathers k h (waits {bound = bound} {wanted = wanted} {first = first} {pending = 
         (e ∙ ap (λ x. x ++ inside) c ∙ append_assoc before own inside))
     go false never next =
         subst (λ w. Gathered k w ts) (sym (gathered-stops k first pending value never))
-        (record { bound = wanted; before = whole; inside = inside; stack = waits n own s j i b f g r c; low = low; fits = fits; whole = e; stops = λ op m p q. g op m k p q never })
+        (record {
+          bound =
+              wanted;
+          before =
+              whole;
+          inside = inside;
+          stack = waits n own s j i b f g r c;
+          low = low;
+          fits = fits;
+          whole = e;
+          stops = λ op m p q. g op m k p q never;
+        })
 
 -- ---- from token to token ----
 
@@ -119,7 +152,8 @@ gathers k h (waits {bound = bound} {wanted = wanted} {first = first} {pending = 
 abbrev Spelled : PlainState → List PlainToken → Type 0
 Spelled (wants pending) ts = (bound : ℕ) × Spells bound pending ts
 Spelled (calls op pending) ts = (bound : ℕ) × (before : List PlainToken) × Spells bound pending before × (ts ≡ before ++ (function op ∷ []))
-Spelled (has w) ts = (bound : ℕ) × (before : List PlainToken) × (inside : List PlainToken) × Spells bound w.pending before × ReadsOperand inside × (ts ≡ before ++ inside)
+Spelled (has w) ts =
+    (bound : ℕ) × (before : List PlainToken) × (inside : List PlainToken) × Spells bound w.pending before × ReadsOperand inside × (ts ≡ before ++ inside)
 Spelled wrong ts = Unit {0}
 
 -- tokens after what was read
@@ -127,7 +161,8 @@ joined : (ts before inside front own tail : List PlainToken) → ts ≡ before +
 joined ts before inside front own tail e f =
     ap (λ x. x ++ tail) e ∙ append_assoc before inside tail ∙ ap (λ x. x ++ (inside ++ tail)) f ∙ append_assoc front own (inside ++ tail)
 
-prefix_waits : (sign op : Op) (bound : ℕ) (pending : List PlainPending) (ts : List PlainToken) → as_prefix sign ≡ Some op → Spells bound pending ts → Spells tightest (unary op ∷ pending) (ts ++ operator sign ∷ [])
+prefix_waits : (sign op : Op) (bound : ℕ) (pending : List PlainPending) (ts : List PlainToken) → as_prefix sign ≡ Some op → Spells bound pending ts →
+    Spells tightest (unary op ∷ pending) (ts ++ operator sign ∷ [])
 prefix_waits sign op bound pending ts e s =
     waits tightest (operator sign ∷ []) s (spells_bound s) (omega arith) refl
     (λ k h b. h)
@@ -135,11 +170,13 @@ prefix_waits sign op bound pending ts e s =
     (λ right r. (node op (more r.0 none), suc r.1, one_operand (after_prefix e (level_operand (omega arith) r.2))))
     refl
 
-after_sign : (sign : Op) (bound : ℕ) (pending : List PlainPending) (ts : List PlainToken) → Spells bound pending ts → (o : Option Op) → as_prefix sign ≡ o → Spelled (prefixed pending o) (ts ++ operator sign ∷ [])
+after_sign : (sign : Op) (bound : ℕ) (pending : List PlainPending) (ts : List PlainToken) → Spells bound pending ts → (o : Option Op) →
+    as_prefix sign ≡ o → Spelled (prefixed pending o) (ts ++ operator sign ∷ [])
 after_sign sign bound pending ts s (Some op) e = (tightest, prefix_waits sign op bound pending ts e s)
 after_sign sign bound pending ts s None e = tt
 
-wanting : (pending : List PlainPending) (token : PlainToken) (ts : List PlainToken) → Spelled (wants pending) ts → Spelled (step (wants pending) token) (ts ++ token ∷ [])
+wanting : (pending : List PlainPending) (token : PlainToken) (ts : List PlainToken) → Spelled (wants pending) ts →
+    Spelled (step (wants pending) token) (ts ++ token ∷ [])
 wanting pending (operand expr) ts s = (s.0, ts, operand expr ∷ [], s.1, (expr, zero, token_operand), refl)
 wanting pending (operator op) ts s = after_sign op s.0 pending ts s.1 (as_prefix op) refl
 wanting pending (function op) ts s = (s.0, ts, s.1, refl)
@@ -148,7 +185,8 @@ wanting pending closing ts s = tt
 wanting pending comma ts s = tt
 wanting pending colon ts s = tt
 
-calling : (op : Op) (pending : List PlainPending) (token : PlainToken) (ts : List PlainToken) → Spelled (calls op pending) ts → Spelled (step (calls op pending) token) (ts ++ token ∷ [])
+calling : (op : Op) (pending : List PlainPending) (token : PlainToken) (ts : List PlainToken) → Spelled (calls op pending) ts →
+    Spelled (step (calls op pending) token) (ts ++ token ∷ [])
 calling op pending opening ts s = (0, in_arguments [] s.2 (λ rest r. r) (ap (λ x. x ++ opening ∷ []) s.3 ∙ append_assoc s.1 (function op ∷ []) (opening ∷ [])))
 calling op pending (operand expr) ts s = tt
 calling op pending (operator other) ts s = tt
@@ -158,13 +196,28 @@ calling op pending comma ts s = tt
 calling op pending colon ts s = tt
 
 -- `)`
-closes : {bound : ℕ} {pending : List PlainPending} {before : List PlainToken} → Spells bound pending before → (value : PlainValue) (inside ts : List PlainToken) → Reads 0 inside → ts ≡ before ++ inside → Spelled (after_closing value pending) (ts ++ closing ∷ [])
+closes : {bound : ℕ} {pending : List PlainPending} {before : List PlainToken} → Spells bound pending before →
+    (value : PlainValue) (inside ts : List PlainToken) → Reads 0 inside → ts ≡ before ++ inside → Spelled (after_closing value pending) (ts ++ closing ∷ [])
 closes starts value inside ts r e = tt
-closes (in_parenthesis {bound = bound} {before = front} {whole = whole} s c) value inside ts r e =
-    (bound, front, opening ∷ (inside ++ closing ∷ []), s, (r.0, suc r.1, in_parentheses refl r.2), joined ts whole inside front (opening ∷ []) (closing ∷ []) e c)
+closes (in_parenthesis {bound = bound} {before = front} {whole = whole} s c) value inside ts r e = (
+  bound,
+  front,
+  opening ∷ (inside ++ closing ∷ []),
+  s,
+  (r.0, suc r.1, in_parentheses refl r.2),
+  joined ts whole inside front (opening ∷ [])
+      (closing ∷ []) e c,
+)
 closes (in_arguments {bound = bound} {op = op} {before = front} {whole = whole} own s f c) value inside ts r e =
-    let all = f inside (more r.0 none, r.1, last_argument r.2) in
-    (bound, front, function op ∷ opening ∷ (own ++ (inside ++ closing ∷ [])), s, (node op all.0, suc all.1, function_call (sym (append_assoc own inside (closing ∷ []))) all.2), joined ts whole inside front (function op ∷ opening ∷ own) (closing ∷ []) e c)
+    let all = f inside (more r.0 none, r.1, last_argument r.2) in (
+      bound,
+      front,
+      function op ∷ opening ∷ (own ++ (inside ++ closing ∷ [])),
+      s,
+      (node op all.0, suc all.1, function_call (sym (append_assoc own inside (closing ∷ []))) all.2),
+      joined ts whole inside front
+          (function op ∷ opening ∷ own) (closing ∷ []) e c,
+    )
 closes (in_test left s h t c) value inside ts r e = tt
 closes (waits {first = unary op} n own s j i b f g t c) value inside ts r e = tt
 closes (waits {first = binary op l} n own s j i b f g t c) value inside ts r e = tt
@@ -173,7 +226,10 @@ closes (waits {first = branch l m} n own s j i b f g t c) value inside ts r e = 
 closes (waits {first = parenthesis} n own s j i b f g t c) value inside ts r e = absurd (true≢false (sym b))
 closes (waits {first = arguments op l} n own s j i b f g t c) value inside ts r e = absurd (true≢false (sym b))
 
-comma_opens : {bound : ℕ} {pending : List PlainPending} (op : Op) (operands more_operands : PlainRow) (own front whole inside ts : List PlainToken) → Spells bound pending front → ((rest : List PlainToken) → ReadsArguments op rest → ReadsArguments op (own ++ rest)) → whole ≡ front ++ (function op ∷ opening ∷ own) → Reads 0 inside → ts ≡ whole ++ inside → takes_more op ≡ true → Spells 0 (arguments op more_operands ∷ pending) (ts ++ comma ∷ [])
+comma_opens : {bound : ℕ} {pending : List PlainPending} (op : Op) (operands more_operands : PlainRow) (own front whole inside ts : List PlainToken) →
+    Spells bound pending front → ((rest : List PlainToken) → ReadsArguments op rest → ReadsArguments op (own ++ rest)) →
+    whole ≡ front ++ (function op ∷ opening ∷ own) → Reads 0 inside → ts ≡ whole ++ inside → takes_more op ≡ true →
+    Spells 0 (arguments op more_operands ∷ pending) (ts ++ comma ∷ [])
 comma_opens op operands more_operands own front whole inside ts s f c r e takes =
     in_arguments (own ++ (inside ++ comma ∷ [])) s
     (λ rest a. subst (ReadsArguments op) (sym (append_assoc own (inside ++ comma ∷ []) rest ∙ ap (λ x. own ++ x) (append_assoc inside (comma ∷ []) rest)))
@@ -181,10 +237,12 @@ comma_opens op operands more_operands own front whole inside ts s f c r e takes 
     (joined ts whole inside front (function op ∷ opening ∷ own) (comma ∷ []) e c)
 
 -- `,`
-parts : {bound : ℕ} {pending : List PlainPending} {before : List PlainToken} → Spells bound pending before → (value : PlainValue) (inside ts : List PlainToken) → Reads 0 inside → ts ≡ before ++ inside → Spelled (after_comma value pending) (ts ++ comma ∷ [])
+parts : {bound : ℕ} {pending : List PlainPending} {before : List PlainToken} → Spells bound pending before →
+    (value : PlainValue) (inside ts : List PlainToken) → Reads 0 inside → ts ≡ before ++ inside → Spelled (after_comma value pending) (ts ++ comma ∷ [])
 parts starts value inside ts r e = tt
 parts (in_parenthesis s c) value inside ts r e = tt
-parts (in_arguments {op = op} {operands = operands} {pending = pending} {before = front} {whole = whole} own s f c) value inside ts r e = go (takes_more op) refl
+parts (in_arguments {op = op} {operands = operands} {pending = pending} {before = front} {whole = whole} own s f c) value inside ts r e =
+    go (takes_more op) refl
   where
     go : (v : Bool) → takes_more op ≡ v → Spelled (after_comma value (arguments op operands ∷ pending)) (ts ++ comma ∷ [])
     go true holds = rw (holds, after_comma) (0, comma_opens op operands _ own front whole inside ts s f c r e holds)
@@ -198,14 +256,16 @@ parts (waits {first = parenthesis} n own s j i b f g t c) value inside ts r e = 
 parts (waits {first = arguments op l} n own s j i b f g t c) value inside ts r e = absurd (true≢false (sym b))
 
 -- `condition ? chosen : other`, from the left
-chosen_cut : (left inside right : List PlainToken) → ((left ++ operator Choose ∷ []) ++ (inside ++ colon ∷ [])) ++ right ≡ left ++ operator Choose ∷ (inside ++ colon ∷ right)
+chosen_cut : (left inside right : List PlainToken) →
+    ((left ++ operator Choose ∷ []) ++ (inside ++ colon ∷ [])) ++ right ≡ left ++ operator Choose ∷ (inside ++ colon ∷ right)
 chosen_cut left inside right =
     append_assoc (left ++ operator Choose ∷ []) (inside ++ colon ∷ []) right
     ∙ ap (λ x. (left ++ operator Choose ∷ []) ++ x) (append_assoc inside (colon ∷ []) right)
     ∙ append_assoc left (operator Choose ∷ []) (inside ++ colon ∷ right)
 
 -- `:`
-chooses : {bound : ℕ} {pending : List PlainPending} {before : List PlainToken} → Spells bound pending before → (value : PlainValue) (inside ts : List PlainToken) → Reads 0 inside → ts ≡ before ++ inside → Spelled (after_colon value pending) (ts ++ colon ∷ [])
+chooses : {bound : ℕ} {pending : List PlainPending} {before : List PlainToken} → Spells bound pending before →
+    (value : PlainValue) (inside ts : List PlainToken) → Reads 0 inside → ts ≡ before ++ inside → Spelled (after_colon value pending) (ts ++ colon ∷ [])
 chooses starts value inside ts r e = tt
 chooses (in_parenthesis s c) value inside ts r e = tt
 chooses (in_arguments own s f c) value inside ts r e = tt
@@ -230,14 +290,21 @@ some_same a b e = cc
 appended : (ts before inside tail : List PlainToken) → ts ≡ before ++ inside → ts ++ tail ≡ before ++ (inside ++ tail)
 appended ts before inside tail e = ap (λ x. x ++ tail) e ∙ append_assoc before inside tail
 
-left_waits : (op : Op) (n : ℕ) (w : PlainWaiting) (ts : List PlainToken) → binding op ≡ Leftwards n → Gathered n w ts → Spells (suc n) (binary op w.value ∷ w.pending) (ts ++ operator op ∷ [])
+left_waits : (op : Op) (n : ℕ) (w : PlainWaiting) (ts : List PlainToken) → binding op ≡ Leftwards n → Gathered n w ts →
+    Spells (suc n) (binary op w.value ∷ w.pending) (ts ++ operator op ∷ [])
 left_waits op n w ts e g =
     let lev : level_of op ≡ Some n = ap level e in
     let range = left_regular op n e in
-    waits n (g.inside ++ operator op ∷ []) g.stack (g.stops op n lev (ap left_level e)) (omega (arith, range.1)) (ap (reaches 0) lev ∙ reaches-yes 0 n (omega arith))
+    waits n (g.inside ++ operator op ∷ []) g.stack (g.stops op n lev (ap left_level e)) (omega (arith, range.1))
+    (ap (reaches 0) lev ∙ reaches-yes 0 n (omega arith))
     (λ k h b. reaches-true k n (sym (ap (reaches k) lev) ∙ b))
     (λ other m k p q b. above other m k p (reaches-false k n (sym (ap (reaches k) lev) ∙ b)) (groups other k q))
-    (λ right r. (node op (more g.low.0 (more r.0 none)), suc (max g.low.1 r.1), from_left e (omega arith) (append_assoc g.inside (operator op ∷ []) right) g.low.2 r.2))
+    (λ right r. (
+      node op (more g.low.0 (more r.0 none)),
+      suc (max g.low.1 r.1),
+      from_left e (omega arith)
+          (append_assoc g.inside (operator op ∷ []) right) g.low.2 r.2,
+    ))
     (appended ts g.before g.inside (operator op ∷ []) g.whole)
   where
     above : (other : Op) (m k : ℕ) → level_of other ≡ Some m → n < k → Groups other k → suc n ≤ m
@@ -248,14 +315,20 @@ left_waits op n w ts e g =
         far same range (inl d) = omega (arith, same, range.1, d)
         far same range (inr d) = omega (arith, same, range.0, d, h, i)
 
-right_waits : (op : Op) (n k : ℕ) (w : PlainWaiting) (ts : List PlainToken) → op ≢ Choose → binding op ≡ Rightwards n → k ≡ suc n → Gathered k w ts → Spells n (binary op w.value ∷ w.pending) (ts ++ operator op ∷ [])
+right_waits : (op : Op) (n k : ℕ) (w : PlainWaiting) (ts : List PlainToken) → op ≢ Choose → binding op ≡ Rightwards n → k ≡ suc n → Gathered k w ts →
+    Spells n (binary op w.value ∷ w.pending) (ts ++ operator op ∷ [])
 right_waits op n k w ts other e j g =
     let lev : level_of op ≡ Some n = ap level e in
     let left : left_level_of op ≡ Some k = ap left_level e ∙ ap Some (omega (arith, j)) in
     waits n (g.inside ++ operator op ∷ []) g.stack (g.stops op n lev left) (low (right_regular op n e)) (ap (reaches 0) lev ∙ reaches-yes 0 n (omega arith))
     (λ l h b. reaches-true l n (sym (ap (reaches l) lev) ∙ b))
     (λ o m l p q b. above o m l p (reaches-false l n (sym (ap (reaches l) lev) ∙ b)) (groups o l q))
-    (λ right r. (node op (more g.low.0 (more r.0 none)), suc (max g.low.1 r.1), from_right other e (omega arith) (append_assoc g.inside (operator op ∷ []) right) (level_less (suc n) (omega (arith, j)) g.low.2) r.2))
+    (λ right r. (
+      node op (more g.low.0 (more r.0 none)),
+      suc (max g.low.1 r.1),
+      from_right other e (omega arith)
+          (append_assoc g.inside (operator op ∷ []) right) (level_less (suc n) (omega (arith, j)) g.low.2) r.2,
+    ))
     (appended ts g.before g.inside (operator op ∷ []) g.whole)
   where
     low : (n ≡ 13) ⊎ (n ≡ 0) → n ≤ tightest
@@ -266,15 +339,19 @@ right_waits op n k w ts other e j g =
     above o m l p h (groups_left b) = let same : m ≡ l = some_same m l (sym p ∙ ap level b) in omega (arith, same, h)
     above o m l p h (groups_right i b d) = let same : m ≡ i = some_same m i (sym p ∙ ap level b) in omega (arith, same, h, d)
 
-test_waits : (k : ℕ) (w : PlainWaiting) (ts : List PlainToken) → left_level_of Choose ≡ Some k → Gathered k w ts → Spells 0 (test w.value ∷ w.pending) (ts ++ operator Choose ∷ [])
+test_waits : (k : ℕ) (w : PlainWaiting) (ts : List PlainToken) → left_level_of Choose ≡ Some k → Gathered k w ts →
+    Spells 0 (test w.value ∷ w.pending) (ts ++ operator Choose ∷ [])
 test_waits k w ts e g =
-    in_test g.inside g.stack (g.stops Choose 0 refl e) (reads_less k 1 g.inside (omega (arith, some_same 1 k e)) g.low) (appended ts g.before g.inside (operator Choose ∷ []) g.whole)
+    in_test g.inside g.stack (g.stops Choose 0 refl e) (reads_less k 1 g.inside (omega (arith, some_same 1 k e)) g.low)
+    (appended ts g.before g.inside (operator Choose ∷ []) g.whole)
 
 -- an operator after what takes its left operand
-operates : (op : Op) (k : ℕ) (w : PlainWaiting) (ts : List PlainToken) → left_level_of op ≡ Some k → Gathered k w ts → Spelled (wants_after (with_left op w.value) w.pending) (ts ++ operator op ∷ [])
+operates : (op : Op) (k : ℕ) (w : PlainWaiting) (ts : List PlainToken) → left_level_of op ≡ Some k → Gathered k w ts →
+    Spelled (wants_after (with_left op w.value) w.pending) (ts ++ operator op ∷ [])
 operates op k w ts e g = go (choose_or_not op)
   where
-    plain : op ≢ Choose → (bound : ℕ) → Spells bound (binary op w.value ∷ w.pending) (ts ++ operator op ∷ []) → Spelled (wants_after (with_left op w.value) w.pending) (ts ++ operator op ∷ [])
+    plain : op ≢ Choose → (bound : ℕ) → Spells bound (binary op w.value ∷ w.pending) (ts ++ operator op ∷ []) →
+        Spelled (wants_after (with_left op w.value) w.pending) (ts ++ operator op ∷ [])
     plain other bound s = subst (λ p. Spelled (wants_after p w.pending) (ts ++ operator op ∷ [])) (sym (left_binary op w.value other)) (bound, s)
 
     by_group : op ≢ Choose → Groups op k → Spelled (wants_after (with_left op w.value) w.pending) (ts ++ operator op ∷ [])
@@ -282,7 +359,9 @@ operates op k w ts e g = go (choose_or_not op)
     by_group other (groups_right n b j) = plain other n (right_waits op n k w ts other b j g)
 
     go : (op ≡ Choose) ⊎ (op ≢ Choose) → Spelled (wants_after (with_left op w.value) w.pending) (ts ++ operator op ∷ [])
-    go (inl c) = subst (λ o. Spelled (wants_after (with_left o w.value) w.pending) (ts ++ operator o ∷ [])) (sym c) (0, test_waits k w ts (ap left_level_of (sym c) ∙ e) g)
+    go (inl c) =
+        subst (λ o. Spelled (wants_after (with_left o w.value) w.pending) (ts ++ operator o ∷ [])) (sym c)
+        (0, test_waits k w ts (ap left_level_of (sym c) ∙ e) g)
     go (inr other) = by_group other (groups op k e)
 
 left_within : (op : Op) (k : ℕ) → left_level_of op ≡ Some k → k ≤ tightest
@@ -299,7 +378,8 @@ left_within op k e = go (groups op k e)
 gathers_has : (k : ℕ) (w : PlainWaiting) (ts : List PlainToken) → k ≤ tightest → Spelled (has w) ts → Gathered k (gathered k w.pending w.value) ts
 gathers_has k w ts h s = gathers k h s.3 w.value s.2 ts (of_operand k s.2 s.4) (of_operand s.0 s.2 s.4) s.5
 
-after_operator : (op : Op) (w : PlainWaiting) (ts : List PlainToken) → Spelled (has w) ts → (o : Option ℕ) → left_level_of op ≡ o → Spelled (operated op o w) (ts ++ operator op ∷ [])
+after_operator : (op : Op) (w : PlainWaiting) (ts : List PlainToken) → Spelled (has w) ts → (o : Option ℕ) → left_level_of op ≡ o →
+    Spelled (operated op o w) (ts ++ operator op ∷ [])
 after_operator op w ts s None e = tt
 after_operator op w ts s (Some k) e = operates op k (gathered k w.pending w.value) ts e (gathers_has k w ts (left_within op k e) s)
 
@@ -320,14 +400,16 @@ steps wrong token ts h = tt
 
 folds : (rest : List PlainToken) (s : PlainState) (ts : List PlainToken) → Spelled s ts → Spelled (fold step s rest) (ts ++ rest)
 folds [] s ts h = subst (Spelled s) (sym (append-nil ts)) h
-folds (token ∷ rest) s ts h = subst (Spelled (fold step (step s token) rest)) (append_assoc ts (token ∷ []) rest) (folds rest (step s token) (ts ++ token ∷ []) (steps s token ts h))
+folds (token ∷ rest) s ts h =
+    subst (Spelled (fold step (step s token) rest)) (append_assoc ts (token ∷ []) rest) (folds rest (step s token) (ts ++ token ∷ []) (steps s token ts h))
 
 -- ---- the end ----
 
 whole_read : {bound : ℕ} {before : List PlainToken} → Spells bound [] before → before ≡ []
 whole_read starts = refl
 
-ends_well : (pending : List PlainPending) (value : PlainValue) (ts : List PlainToken) → Gathered 0 (waiting pending value) ts → (outcome_of value pending ≡ malformed) ⊎ Reads 0 ts
+ends_well : (pending : List PlainPending) (value : PlainValue) (ts : List PlainToken) → Gathered 0 (waiting pending value) ts →
+    (outcome_of value pending ≡ malformed) ⊎ Reads 0 ts
 ends_well [] value ts g = inr (subst (Reads 0) (sym (g.whole ∙ ap (λ x. x ++ g.inside) (whole_read g.stack))) g.low)
 ends_well (first ∷ pending) (nested expr depth) ts g = inl refl
 ends_well (first ∷ pending) too_deep ts g = inl refl

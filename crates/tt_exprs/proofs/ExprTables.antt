@@ -1,11 +1,17 @@
 -- What the table of precedence says of every operator, and what nests.
-use Rattle.std.proofs.Common.{◌≡◌, ◌≢◌, ◌⊎◌, inl, inr, ℕ, suc, ◌+◌, ◌<◌, ◌≤◌, max, Bool, true, false, not, nat_lt, List, [], ◌∷◌, ◌++◌, Some, refl, ap, sym, ◌∙◌, subst, arith}
+use Rattle.std.proofs.Common.{◌≡◌, ◌≢◌, ◌⊎◌, inl, inr, ℕ, suc, ◌+◌, ◌<◌, ◌≤◌, max, Bool, true, false, not, nat_lt, List}
+use Rattle.std.proofs.Common.{[], ◌∷◌, ◌++◌, Some, refl, ap, sym, ◌∙◌, subst, arith}
 use Rattle.std.proofs.lemmas.Bool.{ltb-true, ltb-false, lt-ltb, le-ltb}
 use Rattle.tt_exprs.specs.Trees.{PlainExpr, node, none, more}
 use Rattle.tt_exprs.specs.Operators.{binding, left_level}
-use Rattle.tt_exprs.specs.Parsing.{PlainValue, nested, too_deep, most_nested, around, parenthesized, PlainRow, row, too_deep_row, no_operands, followed_by, in_a_row, applied, unary, binary, branch, closed, left_level_of, reaches, with_left}
+use Rattle.tt_exprs.specs.Parsing.{PlainValue, nested, too_deep, most_nested, around, parenthesized, PlainRow, row}
+use Rattle.tt_exprs.specs.Parsing.{too_deep_row, no_operands, followed_by, in_a_row, applied, unary, binary, branch}
+use Rattle.tt_exprs.specs.Parsing.{closed, left_level_of, reaches, with_left}
 use Rattle.tt_exprs.specs.declared.op.Op.{Op}
-use Rattle.tt_exprs.specs.declared.op.Op.TheVariants.{Neg, Plus, BitNot, Not, Pow, Mul, Div, Mod, Add, Sub, Shl, Shr, Less, Greater, LessEqual, GreaterEqual, Equal, NotEqual, TextEqual, TextNotEqual, Member, NotMember, BitAnd, BitXor, BitOr, And, Or, Choose, Abs, Int, Max, Min}
+use Rattle.tt_exprs.specs.declared.op.Op.TheVariants.{Neg, Plus, BitNot, Not, Pow, Mul, Div, Mod, Add, Sub, Shl, Shr}
+use Rattle.tt_exprs.specs.declared.op.Op.TheVariants.{Less, Greater, LessEqual, GreaterEqual, Equal, NotEqual}
+use Rattle.tt_exprs.specs.declared.op.Op.TheVariants.{TextEqual, TextNotEqual, Member, NotMember, BitAnd, BitXor, BitOr}
+use Rattle.tt_exprs.specs.declared.op.Op.TheVariants.{And, Or, Choose, Abs, Int, Max, Min}
 use Rattle.tt_exprs.specs.declared.operators.Binding.{Binding}
 use Rattle.tt_exprs.specs.declared.operators.Binding.TheVariants.{Before, Leftwards, Rightwards, Called}
 
@@ -155,12 +161,18 @@ applied-worth op exprs depth = go (fits_or_not depth)
     go (inl h) = ap (applied op) (row-in exprs depth h) ∙ around-worth (node op (in_a_row exprs)) depth h
     go (inr h) = ap (applied op) (row-out exprs depth h) ∙ sym (worth-out (node op (in_a_row exprs)) (suc depth) (omega (arith, h)))
 
-pub followed-worth : (exprs : List PlainExpr) (expr : PlainExpr) (d e : ℕ) → followed_by (row_worth exprs d) (worth expr e) ≡ row_worth (exprs ++ expr ∷ []) (max d e)
+pub followed-worth : (exprs : List PlainExpr) (expr : PlainExpr) (d e : ℕ) →
+    followed_by (row_worth exprs d) (worth expr e) ≡ row_worth (exprs ++ expr ∷ []) (max d e)
 followed-worth exprs expr d e = go (fits_or_not d) (fits_or_not e)
   where
-    go : (d ≤ most_nested) ⊎ (most_nested < d) → (e ≤ most_nested) ⊎ (most_nested < e) → followed_by (row_worth exprs d) (worth expr e) ≡ row_worth (exprs ++ expr ∷ []) (max d e)
-    go (inl h) (inl g) = ap (λ r. followed_by r (worth expr e)) (row-in exprs d h) ∙ ap (followed_by (row exprs d)) (worth-in expr e g) ∙ sym (row-in (exprs ++ expr ∷ []) (max d e) (omega (arith, h, g)))
-    go (inl h) (inr g) = ap (λ r. followed_by r (worth expr e)) (row-in exprs d h) ∙ ap (followed_by (row exprs d)) (worth-out expr e g) ∙ sym (row-out (exprs ++ expr ∷ []) (max d e) (omega (arith, h, g)))
+    go : (d ≤ most_nested) ⊎ (most_nested < d) → (e ≤ most_nested) ⊎ (most_nested < e) →
+        followed_by (row_worth exprs d) (worth expr e) ≡ row_worth (exprs ++ expr ∷ []) (max d e)
+    go (inl h) (inl g) =
+        ap (λ r. followed_by r (worth expr e)) (row-in exprs d h) ∙ ap (followed_by (row exprs d)) (worth-in expr e g)
+        ∙ sym (row-in (exprs ++ expr ∷ []) (max d e) (omega (arith, h, g)))
+    go (inl h) (inr g) =
+        ap (λ r. followed_by r (worth expr e)) (row-in exprs d h) ∙ ap (followed_by (row exprs d)) (worth-out expr e g)
+        ∙ sym (row-out (exprs ++ expr ∷ []) (max d e) (omega (arith, h, g)))
     go (inr h) g = ap (λ r. followed_by r (worth expr e)) (row-out exprs d h) ∙ sym (row-out (exprs ++ expr ∷ []) (max d e) (omega (arith, h)))
 
 no-operands : no_operands ≡ row_worth [] 0
@@ -178,5 +190,8 @@ second-worth a b d e = ap (λ r. followed_by r (worth b e)) (first-worth a d) �
 pub binary-worth : (op : Op) (a b : PlainExpr) (d e : ℕ) → closed (binary op (worth a d)) (worth b e) ≡ worth (node op (more a (more b none))) (suc (max d e))
 binary-worth op a b d e = ap (applied op) (second-worth a b d e) ∙ applied-worth op (a ∷ b ∷ []) (max d e)
 
-pub branch-worth : (a b c : PlainExpr) (d e f : ℕ) → closed (branch (worth a d) (worth b e)) (worth c f) ≡ worth (node Choose (more a (more b (more c none)))) (suc (max (max d e) f))
-branch-worth a b c d e f = ap (λ r. applied Choose (followed_by r (worth c f))) (second-worth a b d e) ∙ ap (applied Choose) (followed-worth (a ∷ b ∷ []) c (max d e) f) ∙ applied-worth Choose (a ∷ b ∷ c ∷ []) (max (max d e) f)
+pub branch-worth : (a b c : PlainExpr) (d e f : ℕ) →
+    closed (branch (worth a d) (worth b e)) (worth c f) ≡ worth (node Choose (more a (more b (more c none)))) (suc (max (max d e) f))
+branch-worth a b c d e f =
+    ap (λ r. applied Choose (followed_by r (worth c f))) (second-worth a b d e) ∙ ap (applied Choose) (followed-worth (a ∷ b ∷ []) c (max d e) f)
+    ∙ applied-worth Choose (a ∷ b ∷ c ∷ []) (max (max d e) f)

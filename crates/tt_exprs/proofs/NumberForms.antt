@@ -27,7 +27,8 @@ begins_not c text rest first e h = ap (begins c) e ∙ h
 around_nothing : (text : List ℕ) → IsSigned text [] text
 around_nothing text = record { before = []; after = []; spelled = sym (append-nil text); white_before = refl; white_after = refl }
 
-number_of_parts : (text rest : List ℕ) (first : ℕ) → ((number : ℤ) × Spells text number) ⊎ SpellsFloat text → text ≡ first ∷ rest → is_sign_byte first ≡ false → is_plain text ≡ true → IsNumber text
+number_of_parts : (text rest : List ℕ) (first : ℕ) → ((number : ℤ) × Spells text number) ⊎ SpellsFloat text → text ≡ first ∷ rest →
+    is_sign_byte first ≡ false → is_plain text ≡ true → IsNumber text
 number_of_parts text rest first reads e no_sign plain =
     let signs = or_parts _ _ no_sign in
     record { reads = reads; no_white_space = plain; no_plus = begins_not 43 text rest first e signs.0; no_minus = begins_not 45 text rest first e signs.1 }
@@ -35,7 +36,19 @@ number_of_parts text rest first reads e no_sign plain =
 pub numeral_number : {text : List ℕ} → IsNumeral text → IsNumber text
 numeral_number (whole_numeral {text} {digits} {base} u) =
     let r = read_unsigned u in
-    let spells : Spells text (pos (digit_sum base digits)) = record { sign = []; unsigned = text; digits = digits; base = base; signed = pos; form = around_nothing text; has_sign = none; has_digits = u; value = refl } in
+    let spells : Spells text (pos (digit_sum base digits)) =
+    record {
+      sign =
+          [];
+      unsigned = text;
+      digits = digits;
+      base = base;
+      signed = pos;
+      form = around_nothing text;
+      has_sign = none;
+      has_digits = u;
+      value = refl;
+    } in
     number_of_parts text r.rest r.first (inl (pos (digit_sum base digits), spells)) r.begins r.no_sign r.plain
 numeral_number (float_numeral {text} f) =
     let r = read_float f in
@@ -55,7 +68,8 @@ no_bytes (x ∷ xs) h p =
 plain_front : (xs ys : List ℕ) → is_plain (xs ++ ys) ≡ true → (is_plain xs ≡ true) × (is_plain ys ≡ true)
 plain_front xs ys h = and_parts (is_plain xs) (is_plain ys) (sym (list_all-append not_white xs ys) ∙ h)
 
-no_sign_before : {sign : List ℕ} {signed : ℕ → ℤ} (text rest : List ℕ) → IsSign sign signed → text ≡ sign ++ rest → begins 43 text ≡ false → begins 45 text ≡ false → sign ≡ []
+no_sign_before : {sign : List ℕ} {signed : ℕ → ℤ} (text rest : List ℕ) → IsSign sign signed → text ≡ sign ++ rest → begins 43 text ≡ false →
+    begins 45 text ≡ false → sign ≡ []
 no_sign_before text rest none e p m = refl
 no_sign_before text rest plus e p m = absurd (both_ways (begins 43 text) p (ap (begins 43) e))
 no_sign_before text rest minus e p m = absurd (both_ways (begins 45 text) m (ap (begins 45) e))
@@ -65,7 +79,8 @@ unsigned_is {sign} text unsigned h form s =
     let whole = plain_front form.before (sign ++ (unsigned ++ form.after)) (subst (λ t. is_plain t ≡ true) form.spelled h.no_white_space) in
     let inner = plain_front sign (unsigned ++ form.after) whole.1 in
     let last = plain_front unsigned form.after inner.1 in
-    let front : text ≡ sign ++ (unsigned ++ form.after) = form.spelled ∙ ap (λ t. t ++ (sign ++ (unsigned ++ form.after))) (no_bytes form.before form.white_before whole.0) in
+    let front : text ≡ sign ++ (unsigned ++ form.after) =
+    form.spelled ∙ ap (λ t. t ++ (sign ++ (unsigned ++ form.after))) (no_bytes form.before form.white_before whole.0) in
     front
     ∙ ap (λ t. t ++ (unsigned ++ form.after)) (no_sign_before text (unsigned ++ form.after) s front h.no_plus h.no_minus)
     ∙ ap (λ t. unsigned ++ t) (no_bytes form.after form.white_after last.1)

@@ -1,11 +1,14 @@
 -- What the function takes as a number is one.
-use Rattle.std.proofs.Common.{◌≡◌, ◌≢◌, ℕ, zero, suc, ◌+◌, ◌<◌, true, false, ◌||◌, ◌==◌, List, [], ◌∷◌, ◌++◌, length, take, drop, Option, Some, None, refl, sym, ap, subst, ◌∙◌, inl, inr, ◌⊎◌, append_assoc, arith, length-append, ℤ, pos}
+use Rattle.std.proofs.Common.{◌≡◌, ◌≢◌, ℕ, zero, suc, ◌+◌, ◌<◌, true, false, ◌||◌, ◌==◌, List, [], ◌∷◌, ◌++◌, length}
+use Rattle.std.proofs.Common.{take, drop, Option, Some, None, refl, sym, ap, subst, ◌∙◌, inl, inr, ◌⊎◌, append_assoc}
+use Rattle.std.proofs.Common.{arith, length-append, ℤ, pos}
 use Rattle.std.specs.Prelude.{nat_lt}
 use Rattle.std.specs.Char.{is_digit}
 use Rattle.std.proofs.lemmas.Bool.{cases_Bool, and_from, or_cases, lt-ltb, ltb-true, ltb-false, eqb-true, eqb-false}
 use Rattle.std.proofs.lemmas.List.Folds.{length-prefix_len, list_all-append}
 use Rattle.std.proofs.lemmas.List.{drop_at, take-append-drop}
-use Rattle.tt_number.specs.Numerals.{IsUnsigned, IsPointed, IsSign, all_digits, is_numeral, base_of_mark, is_exponent_mark, is_hexadecimal_mark, is_octal_mark, is_binary_mark}
+use Rattle.tt_number.specs.Numerals.{IsUnsigned, IsPointed, IsSign, all_digits, is_numeral, base_of_mark}
+use Rattle.tt_number.specs.Numerals.{is_exponent_mark, is_hexadecimal_mark, is_octal_mark, is_binary_mark}
 use Rattle.tt_number.specs.Numerals.IsUnsigned.{hexadecimal, octal, binary, leading_zero, decimal as decimal_digits}
 use Rattle.tt_number.specs.Numerals.IsFloat.{pointed, scaled as scaled_float}
 use Rattle.tt_number.specs.Numerals.IsSign.{none, plus, minus}
@@ -14,7 +17,7 @@ use Rattle.tt_exprs.proofs.Runs.{run-kind}
 use Rattle.tt_exprs.proofs.NumberForms.{IsNumeral, whole_numeral, float_numeral}
 use Rattle.tt_exprs.proofs.NumberLength.{digit_of, with_digits-some, scaled-on, longer-end, longer-digits, number-marked, number-zero, number-other, appended}
 
--- the digits at the front are a numeral, where there are any
+-- the digits at the front are a numeral, if there are any
 run-numeral : (base : ℕ) (text : List ℕ) → 0 < run base text → is_numeral base (take (run base text) text) ≡ true
 run-numeral base text h =
     and_from (nat_lt 0 (length (take (run base text) text))) (all_digits base (take (run base text) text))
@@ -41,10 +44,12 @@ with_digits-back : (n digits : ℕ) → 0 < with_digits n digits → (0 < digits
 with_digits-back n zero h = absurd (omega (arith, h))
 with_digits-back n (suc digits) h = (omega arith, with_digits-some n (suc digits) (omega arith))
 
-marked_unsigned : (mark base : ℕ) (digits : List ℕ) → base_of_mark mark ≡ Some base → is_numeral base digits ≡ true → IsUnsigned (48 ∷ mark ∷ digits) base digits
+marked_unsigned : (mark base : ℕ) (digits : List ℕ) → base_of_mark mark ≡ Some base → is_numeral base digits ≡ true →
+    IsUnsigned (48 ∷ mark ∷ digits) base digits
 marked_unsigned mark base digits is h = go (cases_Bool (is_hexadecimal_mark mark)) (cases_Bool (is_octal_mark mark)) (cases_Bool (is_binary_mark mark))
   where
-    go : (is_hexadecimal_mark mark ≡ true) ⊎ (is_hexadecimal_mark mark ≡ false) → (is_octal_mark mark ≡ true) ⊎ (is_octal_mark mark ≡ false) → (is_binary_mark mark ≡ true) ⊎ (is_binary_mark mark ≡ false) → IsUnsigned (48 ∷ mark ∷ digits) base digits
+    go : (is_hexadecimal_mark mark ≡ true) ⊎ (is_hexadecimal_mark mark ≡ false) → (is_octal_mark mark ≡ true) ⊎ (is_octal_mark mark ≡ false) →
+        (is_binary_mark mark ≡ true) ⊎ (is_binary_mark mark ≡ false) → IsUnsigned (48 ∷ mark ∷ digits) base digits
     go (inl p) q r = let same : Some 16 ≡ Some base = rw p at is in let value : 16 ≡ base = cc in subst (λ b. IsUnsigned (48 ∷ mark ∷ digits) b digits) value (hexadecimal p (subst (λ b. is_numeral b digits ≡ true) (sym value) h))
     go (inr p) (inl q) r = let same : Some 8 ≡ Some base = rw (p, q) at is in let value : 8 ≡ base = cc in subst (λ b. IsUnsigned (48 ∷ mark ∷ digits) b digits) value (octal q (subst (λ b. is_numeral b digits ≡ true) (sym value) h))
     go (inr p) (inr q) (inl r) = let same : Some 2 ≡ Some base = rw (p, q, r) at is in let value : 2 ≡ base = cc in subst (λ b. IsUnsigned (48 ∷ mark ∷ digits) b digits) value (binary r (subst (λ b. is_numeral b digits ≡ true) (sym value) h))
@@ -109,7 +114,8 @@ pub record ExponentParts (text : List ℕ) : Type 0 where
   pub numeral : is_numeral 10 digits ≡ true
   pub size : exponent text ≡ 1 + (length sign + length digits)
 
-signed-digits : {sign : List ℕ} {signed : ℕ → ℤ} (mark b : ℕ) (text : List ℕ) → is_exponent_mark mark ≡ true → IsSign sign signed → sign ≡ b ∷ [] → exponent (mark ∷ b ∷ text) ≡ with_digits 2 (run 10 text) → 0 < exponent (mark ∷ b ∷ text) → ExponentParts (mark ∷ b ∷ text)
+signed-digits : {sign : List ℕ} {signed : ℕ → ℤ} (mark b : ℕ) (text : List ℕ) → is_exponent_mark mark ≡ true → IsSign sign signed → sign ≡ b ∷ [] →
+    exponent (mark ∷ b ∷ text) ≡ with_digits 2 (run 10 text) → 0 < exponent (mark ∷ b ∷ text) → ExponentParts (mark ∷ b ∷ text)
 signed-digits {sign} {signed} mark b text m s e is h =
     let back = with_digits-back 2 (run 10 text) (omega (arith, h, is)) in
     record {
@@ -125,7 +131,8 @@ signed-digits {sign} {signed} mark b text m s e is h =
       size = omega (arith, is, back.1, run-length 10 text, ap length e);
     }
 
-plain-digits : (mark : ℕ) (text : List ℕ) → is_exponent_mark mark ≡ true → exponent (mark ∷ text) ≡ with_digits 1 (run 10 text) → 0 < exponent (mark ∷ text) → ExponentParts (mark ∷ text)
+plain-digits : (mark : ℕ) (text : List ℕ) → is_exponent_mark mark ≡ true → exponent (mark ∷ text) ≡ with_digits 1 (run 10 text) →
+    0 < exponent (mark ∷ text) → ExponentParts (mark ∷ text)
 plain-digits mark text m is h =
     let back = with_digits-back 1 (run 10 text) (omega (arith, h, is)) in
     record {
@@ -145,7 +152,8 @@ exponent-parts : (text : List ℕ) → 0 < exponent text → ExponentParts text
 exponent-parts [] h = absurd (omega (arith, h))
 exponent-parts (mark ∷ text) h = marks text h (cases_Bool (is_exponent_mark mark))
   where
-    signs : (b : ℕ) (text : List ℕ) → is_exponent_mark mark ≡ true → 0 < exponent (mark ∷ b ∷ text) → ((b == 43 || b == 45) ≡ true) ⊎ ((b == 43 || b == 45) ≡ false) → ExponentParts (mark ∷ b ∷ text)
+    signs : (b : ℕ) (text : List ℕ) → is_exponent_mark mark ≡ true → 0 < exponent (mark ∷ b ∷ text) →
+        ((b == 43 || b == 45) ≡ true) ⊎ ((b == 43 || b == 45) ≡ false) → ExponentParts (mark ∷ b ∷ text)
     signs b text m h (inr e) = plain-digits mark (b ∷ text) m (rw (m, exponent, e, exponent_digits) refl) h
     signs b text m h (inl e) =
         elim (or_cases (b == 43) (b == 45) e) [
@@ -161,7 +169,8 @@ exponent-parts (mark ∷ text) h = marks text h (cases_Bool (is_exponent_mark ma
 -- ---- without a mark of a base
 
 -- digits or a pointed number, and an exponent after it
-taken_scaled : (text front after : List ℕ) (m : ℕ) → text ≡ front ++ after → length front ≡ m → (is_numeral 10 front ≡ true) ⊎ IsPointed front → 0 < exponent (drop m text) → Taken text (m + exponent (drop m text))
+taken_scaled : (text front after : List ℕ) (m : ℕ) → text ≡ front ++ after → length front ≡ m → (is_numeral 10 front ≡ true) ⊎ IsPointed front →
+    0 < exponent (drop m text) → Taken text (m + exponent (drop m text))
 taken_scaled text front after m cut size form some =
     let place : drop m text ≡ after = ap (drop m) cut ∙ drop_at front after m size in
     let e = exponent-parts (drop m text) some in
@@ -169,20 +178,29 @@ taken_scaled text front after m cut size form some =
     record {
       number = number;
       rest = e.after;
-      cut = cut ∙ ap (λ t. front ++ t) (sym place ∙ e.cut) ∙ ap (λ t. front ++ (e.mark ∷ t)) (sym (append_assoc e.sign e.digits e.after)) ∙ sym (appended front (e.sign ++ e.digits) e.after e.mark);
+      cut = cut ∙ ap (λ t. front ++ t) (sym place ∙ e.cut) ∙ ap (λ t. front ++ (e.mark ∷ t)) (sym (append_assoc e.sign e.digits e.after))
+          ∙ sym (appended front (e.sign ++ e.digits) e.after e.mark);
       size = omega (arith, length-append front (e.mark ∷ (e.sign ++ e.digits)), length-append e.sign e.digits, size, e.size);
       numeral = float_numeral (scaled_float front e.sign e.digits e.mark e.signed refl form e.is_mark e.has_sign e.numeral);
     }
 
 -- digits, a point and digits
-taken_pointed : (text : List ℕ) (n : ℕ) → (f : FractionParts n (drop n text)) → run 10 text ≡ n → (IsPointed (take n text ++ (46 ∷ f.back))) × (text ≡ (take n text ++ (46 ∷ f.back)) ++ f.after) × (length (take n text ++ (46 ∷ f.back)) ≡ n + fraction n (drop n text))
+taken_pointed : (text : List ℕ) (n : ℕ) → (f : FractionParts n (drop n text)) → run 10 text ≡ n → (IsPointed (take n text ++ (46 ∷ f.back)))
+    × (text ≡ (take n text ++ (46 ∷ f.back)) ++ f.after) × (length (take n text ++ (46 ∷ f.back)) ≡ n + fraction n (drop n text))
 taken_pointed text n f count =
     let front = take n text in
     let size : length front ≡ n = ap (λ k. length (take k text)) (sym count) ∙ run-length 10 text ∙ count in
     let front_digits : all_digits 10 front ≡ true = ap (λ k. all_digits 10 (take k text)) (sym count) ∙ run-kind (digit_of 10) text in
-    let all : all_digits 10 (front ++ f.back) ≡ true = list_all-append (digit_of 10) front f.back ∙ and_from (all_digits 10 front) (all_digits 10 f.back) front_digits f.digits in
+    let all : all_digits 10 (front ++ f.back) ≡ true =
+    list_all-append (digit_of 10) front f.back ∙ and_from (all_digits 10 front) (all_digits 10 f.back) front_digits f.digits in
     let some : nat_lt 0 (length (front ++ f.back)) ≡ true = lt-ltb 0 (length (front ++ f.back)) (omega (arith, f.some, size, length-append front f.back)) in (
-      record { front = front; back = f.back; spelled = refl; digits = and_from (nat_lt 0 (length (front ++ f.back))) (all_digits 10 (front ++ f.back)) some all },
+      record {
+        front =
+            front;
+        back = f.back;
+        spelled = refl;
+        digits = and_from (nat_lt 0 (length (front ++ f.back))) (all_digits 10 (front ++ f.back)) some all;
+      },
       sym (take-append-drop n text) ∙ ap (λ t. front ++ t) f.cut ∙ sym (appended front f.back f.after 46),
       omega (arith, size, f.size, length-append front (46 ∷ f.back)),
     )
@@ -208,7 +226,9 @@ taken_octal text =
     ]
 
 numeral_first : (digit : ℕ) (digits : List ℕ) → is_digit digit 10 ≡ true → all_digits 10 digits ≡ true → is_numeral 10 (digit ∷ digits) ≡ true
-numeral_first digit digits h all = and_from (nat_lt 0 (length (digit ∷ digits))) (all_digits 10 (digit ∷ digits)) (lt-ltb 0 (length (digit ∷ digits)) (omega arith)) (and_from (is_digit digit 10) (all_digits 10 digits) h all)
+numeral_first digit digits h all =
+    and_from (nat_lt 0 (length (digit ∷ digits))) (all_digits 10 (digit ∷ digits)) (lt-ltb 0 (length (digit ∷ digits)) (omega arith))
+    (and_from (is_digit digit 10) (all_digits 10 digits) h all)
 
 taken_decimal : (digit : ℕ) (text : List ℕ) → digit ≢ 48 → 0 < run 10 (digit ∷ text) → Taken (digit ∷ text) (run 10 (digit ∷ text))
 taken_decimal digit text other some =
@@ -232,9 +252,12 @@ taken_digits (digit ∷ text) n count some =
     ]
 
 taken_end : (text : List ℕ) (n m : ℕ) → run 10 text ≡ n → n + fraction n (drop n text) ≡ m → 0 < m → Taken text (longer n (m + exponent (drop m text)) text)
-taken_end text n m count size some = go (cases_Bool (nat_lt n (m + exponent (drop m text)))) (cases_Bool (nat_lt 0 (fraction n (drop n text)))) (cases_Bool (nat_lt 0 (exponent (drop m text))))
+taken_end text n m count size some =
+    go (cases_Bool (nat_lt n (m + exponent (drop m text)))) (cases_Bool (nat_lt 0 (fraction n (drop n text)))) (cases_Bool (nat_lt 0 (exponent (drop m text))))
   where
-    go : (nat_lt n (m + exponent (drop m text)) ≡ true) ⊎ (nat_lt n (m + exponent (drop m text)) ≡ false) → (nat_lt 0 (fraction n (drop n text)) ≡ true) ⊎ (nat_lt 0 (fraction n (drop n text)) ≡ false) → (nat_lt 0 (exponent (drop m text)) ≡ true) ⊎ (nat_lt 0 (exponent (drop m text)) ≡ false) → Taken text (longer n (m + exponent (drop m text)) text)
+    go : (nat_lt n (m + exponent (drop m text)) ≡ true) ⊎ (nat_lt n (m + exponent (drop m text)) ≡ false) →
+        (nat_lt 0 (fraction n (drop n text)) ≡ true) ⊎ (nat_lt 0 (fraction n (drop n text)) ≡ false) →
+        (nat_lt 0 (exponent (drop m text)) ≡ true) ⊎ (nat_lt 0 (exponent (drop m text)) ≡ false) → Taken text (longer n (m + exponent (drop m text)) text)
     go (inr far) f x =
         let low = ltb-false n (m + exponent (drop m text)) far in
         subst (Taken text) (sym (longer-digits n (m + exponent (drop m text)) text low)) (taken_digits text n count (omega (arith, some, low)))
@@ -257,7 +280,8 @@ taken_end text n m count size some = go (cases_Bool (nat_lt n (m + exponent (dro
         let beyond = ltb-true n (m + exponent (drop m text)) far in
         let nothing : fraction n (drop n text) ≡ 0 = omega (arith, ltb-false 0 (fraction n (drop n text)) f) in
         let same : n ≡ m = omega (arith, size, nothing) in
-        let front : is_numeral 10 (take m text) ≡ true = subst (λ k. is_numeral 10 (take k text) ≡ true) (count ∙ same) (run-numeral 10 text (omega (arith, count, same, some))) in
+        let front : is_numeral 10 (take m text) ≡ true =
+        subst (λ k. is_numeral 10 (take k text) ≡ true) (count ∙ same) (run-numeral 10 text (omega (arith, count, same, some))) in
         let width : length (take m text) ≡ m = subst (λ k. length (take k text) ≡ k) (count ∙ same) (run-length 10 text) in
         subst (Taken text) (sym (longer-end n (m + exponent (drop m text)) text beyond))
         (taken_scaled text (take m text) (drop m text) m (sym (take-append-drop m text)) width (inl front) (omega (arith, beyond, same)))
@@ -277,15 +301,18 @@ pub taken : (text : List ℕ) → 0 < number_length text → Taken text (number_
 taken [] h = absurd (omega (arith, h))
 taken (b ∷ text) h = go (cases_Bool (b == 48)) (cases_Bool (nat_lt 0 (marked text)))
   where
-    go : ((b == 48) ≡ true) ⊎ ((b == 48) ≡ false) → (nat_lt 0 (marked text) ≡ true) ⊎ (nat_lt 0 (marked text) ≡ false) → Taken (b ∷ text) (number_length (b ∷ text))
+    go : ((b == 48) ≡ true) ⊎ ((b == 48) ≡ false) → (nat_lt 0 (marked text) ≡ true) ⊎ (nat_lt 0 (marked text) ≡ false) →
+        Taken (b ∷ text) (number_length (b ∷ text))
     go (inr e) m =
         let is = number-other b text (eqb-false b 48 e) in
         subst (Taken (b ∷ text)) (sym is) (taken_unmarked (b ∷ text) (omega (arith, h, is)))
     go (inl e) (inl m) =
         let some = ltb-true 0 (marked text) m in
-        subst (λ c. Taken (c ∷ text) (number_length (c ∷ text))) (sym (eqb-true b 48 e)) (subst (Taken (48 ∷ text)) (sym (number-marked text some)) (taken_marked text some))
+        subst (λ c. Taken (c ∷ text) (number_length (c ∷ text))) (sym (eqb-true b 48 e))
+        (subst (Taken (48 ∷ text)) (sym (number-marked text some)) (taken_marked text some))
     go (inl e) (inr m) =
         let nothing : marked text ≡ 0 = omega (arith, ltb-false 0 (marked text) m) in
         let is = number-zero text nothing in
         let some : 0 < number_length (48 ∷ text) = subst (λ c. 0 < number_length (c ∷ text)) (eqb-true b 48 e) h in
-        subst (λ c. Taken (c ∷ text) (number_length (c ∷ text))) (sym (eqb-true b 48 e)) (subst (Taken (48 ∷ text)) (sym is) (taken_unmarked (48 ∷ text) (omega (arith, some, is))))
+        subst (λ c. Taken (c ∷ text) (number_length (c ∷ text))) (sym (eqb-true b 48 e))
+        (subst (Taken (48 ∷ text)) (sym is) (taken_unmarked (48 ∷ text) (omega (arith, some, is))))

@@ -1,11 +1,14 @@
 -- The length that the function finds is that of the longest number.
-use Rattle.std.proofs.Common.{◌≡◌, ◌≢◌, ℕ, suc, ◌+◌, ◌<◌, ◌≤◌, Bool, true, false, ◌==◌, List, [], ◌∷◌, ◌++◌, length, drop, Some, None, refl, sym, ap, subst, ◌∙◌, inl, inr, append_assoc, arith, length-append, ℤ}
+use Rattle.std.proofs.Common.{◌≡◌, ◌≢◌, ℕ, suc, ◌+◌, ◌<◌, ◌≤◌, Bool, true, false, ◌==◌, List, [], ◌∷◌, ◌++◌, length}
+use Rattle.std.proofs.Common.{drop, Some, None, refl, sym, ap, subst, ◌∙◌, inl, inr, append_assoc, arith, length-append}
+use Rattle.std.proofs.Common.{ℤ}
 use Rattle.std.specs.Prelude.{nat_lt}
 use Rattle.std.specs.Char.{is_digit}
 use Rattle.std.proofs.lemmas.Bool.{cases_Bool, and_parts, or_cases, lt-ltb, le-ltb, ltb-true, ltb-false, eqb-true, eqb-false, ne_eqb}
 use Rattle.std.proofs.lemmas.Bool.Decides.{nat_tests}
 use Rattle.std.proofs.lemmas.List.{drop_at}
-use Rattle.tt_number.specs.Numerals.{IsFloat, IsSign, all_digits, is_numeral, base_of_mark, is_exponent_mark, is_hexadecimal_mark, is_octal_mark, is_binary_mark}
+use Rattle.tt_number.specs.Numerals.{IsFloat, IsSign, all_digits, is_numeral, base_of_mark, is_exponent_mark}
+use Rattle.tt_number.specs.Numerals.{is_hexadecimal_mark, is_octal_mark, is_binary_mark}
 use Rattle.tt_number.specs.Numerals.IsUnsigned.{hexadecimal, octal, binary, leading_zero, decimal as decimal_digits}
 use Rattle.tt_number.specs.Numerals.IsFloat.{pointed, scaled as scaled_float}
 use Rattle.tt_number.specs.Numerals.IsSign.{none, plus, minus}
@@ -93,7 +96,8 @@ unmarked_longest [] ys m h = absurd m
 unmarked_longest (b ∷ mark ∷ xs) ys m h =
     let zero_marked : marked (mark ∷ (xs ++ ys)) ≡ 0 = rw (m, marked) refl in
     elim (cases_Bool (b == 48)) [
-      | inl e ↦ rw (eqb-true b 48 e) (rw (number-zero (mark ∷ (xs ++ ys)) zero_marked) (subst (λ c. length (c ∷ mark ∷ xs) ≤ unmarked (c ∷ mark ∷ (xs ++ ys))) (eqb-true b 48 e) h))
+      | inl e ↦ rw (eqb-true b 48 e)
+          (rw (number-zero (mark ∷ (xs ++ ys)) zero_marked) (subst (λ c. length (c ∷ mark ∷ xs) ≤ unmarked (c ∷ mark ∷ (xs ++ ys))) (eqb-true b 48 e) h))
       | inr e ↦ rw (number-other b (mark ∷ (xs ++ ys)) (eqb-false b 48 e)) h
     ]
 unmarked_longest (b ∷ []) ys m h =
@@ -109,7 +113,8 @@ unmarked_longest (b ∷ []) ys m h =
     ]
 
 -- digits alone
-pub digits_longest : (xs ys : List ℕ) → all_digits 10 xs ≡ true → 0 < length xs → length xs ≤ decimal (run 10 (xs ++ ys)) (xs ++ ys) → length xs ≤ unmarked (xs ++ ys)
+pub digits_longest : (xs ys : List ℕ) → all_digits 10 xs ≡ true → 0 < length xs → length xs ≤ decimal (run 10 (xs ++ ys)) (xs ++ ys) →
+    length xs ≤ unmarked (xs ++ ys)
 digits_longest xs ys all some h =
     let text = xs ++ ys in
     let n = run 10 text in
@@ -122,7 +127,8 @@ digits_longest xs ys all some h =
     ])
 
 -- digits with a point among them
-fraction-point : (front back ys : List ℕ) → is_numeral 10 (front ++ back) ≡ true → (run 10 (front ++ (46 ∷ (back ++ ys))) ≡ length front) × (fraction (length front) (drop (length front) (front ++ (46 ∷ (back ++ ys)))) ≡ 1 + (length back + run 10 ys))
+fraction-point : (front back ys : List ℕ) → is_numeral 10 (front ++ back) ≡ true → (run 10 (front ++ (46 ∷ (back ++ ys))) ≡ length front)
+    × (fraction (length front) (drop (length front) (front ++ (46 ∷ (back ++ ys)))) ≡ 1 + (length back + run 10 ys))
 fraction-point front back ys h =
     let all = numeral_digits 10 (front ++ back) h in
     let some : 0 < length front + length back = omega (arith, numeral_some 10 (front ++ back) h, length-append front back) in
@@ -134,10 +140,13 @@ fraction-point front back ys h =
     )
 
 -- the mark of an exponent, a sign or none, and digits
-exponent-read : {sign : List ℕ} {signed : ℕ → ℤ} (mark : ℕ) (digits ys : List ℕ) → is_exponent_mark mark ≡ true → IsSign sign signed → is_numeral 10 digits ≡ true → exponent (mark ∷ (sign ++ (digits ++ ys))) ≡ 1 + (length sign + (length digits + run 10 ys))
+exponent-read : {sign : List ℕ} {signed : ℕ → ℤ} (mark : ℕ) (digits ys : List ℕ) → is_exponent_mark mark ≡ true → IsSign sign signed →
+    is_numeral 10 digits ≡ true → exponent (mark ∷ (sign ++ (digits ++ ys))) ≡ 1 + (length sign + (length digits + run 10 ys))
 exponent-read mark digits ys m s h = rw (m, exponent) (go s digits h (run-digits 10 digits ys (numeral_digits 10 digits h)) (numeral_some 10 digits h))
   where
-    go : {sign : List ℕ} {signed : ℕ → ℤ} → IsSign sign signed → (digits : List ℕ) → is_numeral 10 digits ≡ true → run 10 (digits ++ ys) ≡ length digits + run 10 ys → 0 < length digits → exponent_digits (sign ++ (digits ++ ys)) ≡ 1 + (length sign + (length digits + run 10 ys))
+    go : {sign : List ℕ} {signed : ℕ → ℤ} → IsSign sign signed → (digits : List ℕ) → is_numeral 10 digits ≡ true →
+        run 10 (digits ++ ys) ≡ length digits + run 10 ys → 0 < length digits →
+        exponent_digits (sign ++ (digits ++ ys)) ≡ 1 + (length sign + (length digits + run 10 ys))
     go none [] h count some = absurd (omega (arith, some))
     go none (d ∷ ds) h count some =
         let no_sign = digit_no_sign d 10 (omega arith) (all_parts (digit_of 10) d ds (numeral_digits 10 (d ∷ ds) h)).0 in
@@ -145,8 +154,9 @@ exponent-read mark digits ys m s h = rw (m, exponent) (go s digits h (run-digits
     go plus digits h count some = with_digits-some 2 (run 10 (digits ++ ys)) (omega (arith, count, some)) ∙ omega (arith, count)
     go minus digits h count some = with_digits-some 2 (run 10 (digits ++ ys)) (omega (arith, count, some)) ∙ omega (arith, count)
 
--- where the digits and the fraction take m bytes, the number goes on to the end of its exponent
-past_digits : (text : List ℕ) (n m : ℕ) → run 10 text ≡ n → n + fraction n (drop n text) ≡ m → 0 < m → n < m + exponent (drop m text) → unmarked text ≡ m + exponent (drop m text)
+-- if the digits and the fraction take m bytes, the number goes on to the end of its exponent
+past_digits : (text : List ℕ) (n m : ℕ) → run 10 text ≡ n → n + fraction n (drop n text) ≡ m → 0 < m → n < m + exponent (drop m text) →
+    unmarked text ≡ m + exponent (drop m text)
 past_digits text n m count size some far =
     ap (λ k. scaled k (k + fraction k (drop k text)) text) count
     ∙ ap (λ k. scaled n k text) size
@@ -161,7 +171,10 @@ pointed_longest front back ys h =
     let m = length front + (1 + (length back + run 10 ys)) in
     omega (arith, length-append front (46 ∷ back), past_digits text n m f.0 (ap (λ k. n + k) f.1) (omega arith) (omega arith))
 
-scaled_longest : {sign : List ℕ} {signed : ℕ → ℤ} (front : List ℕ) (mark : ℕ) (digits ys : List ℕ) → is_exponent_mark mark ≡ true → IsSign sign signed → is_numeral 10 digits ≡ true → (n : ℕ) → run 10 (front ++ (mark ∷ (sign ++ (digits ++ ys)))) ≡ n → n + fraction n (drop n (front ++ (mark ∷ (sign ++ (digits ++ ys))))) ≡ length front → n ≤ length front → 0 < length front → length (front ++ (mark ∷ (sign ++ digits))) ≤ unmarked (front ++ (mark ∷ (sign ++ (digits ++ ys))))
+scaled_longest : {sign : List ℕ} {signed : ℕ → ℤ} (front : List ℕ) (mark : ℕ) (digits ys : List ℕ) → is_exponent_mark mark ≡ true → IsSign sign signed →
+    is_numeral 10 digits ≡ true → (n : ℕ) → run 10 (front ++ (mark ∷ (sign ++ (digits ++ ys)))) ≡ n →
+    n + fraction n (drop n (front ++ (mark ∷ (sign ++ (digits ++ ys))))) ≡ length front → n ≤ length front → 0 < length front →
+    length (front ++ (mark ∷ (sign ++ digits))) ≤ unmarked (front ++ (mark ∷ (sign ++ (digits ++ ys))))
 scaled_longest {sign} front mark digits ys m s h n count size low some =
     let text = front ++ (mark ∷ (sign ++ (digits ++ ys))) in
     let rest : drop (length front) text ≡ mark ∷ (sign ++ (digits ++ ys)) = drop_at front (mark ∷ (sign ++ (digits ++ ys))) (length front) refl in
@@ -183,18 +196,21 @@ no_mark_point : (front back : List ℕ) → all_digits 10 (front ++ back) ≡ tr
 no_mark_point [] [] all = tt
 no_mark_point [] (y ∷ ys) all = digit_no_mark y 10 (omega arith) (all_parts (digit_of 10) y ys all).0
 no_mark_point (x ∷ []) back all = refl
-no_mark_point (x ∷ y ∷ xs) back all = digit_no_mark y 10 (omega arith) (all_parts (digit_of 10) y (xs ++ back) (all_parts (digit_of 10) x (y ∷ (xs ++ back)) all).1).0
+no_mark_point (x ∷ y ∷ xs) back all =
+    digit_no_mark y 10 (omega arith) (all_parts (digit_of 10) y (xs ++ back) (all_parts (digit_of 10) x (y ∷ (xs ++ back)) all).1).0
 
 no_mark_more : (xs ys : List ℕ) (c : ℕ) → NoMark xs → base_of_mark c ≡ None → NoMark (xs ++ (c ∷ ys))
 no_mark_more [] ys c m h = absurd m
 no_mark_more (x ∷ []) ys c m h = h
 no_mark_more (x ∷ y ∷ xs) ys c m h = m
 
-marked_longest : (mark base : ℕ) (digits ys : List ℕ) → base_of_mark mark ≡ Some base → is_numeral base digits ≡ true → suc (suc (length digits)) ≤ number_length (48 ∷ mark ∷ (digits ++ ys))
+marked_longest : (mark base : ℕ) (digits ys : List ℕ) → base_of_mark mark ≡ Some base → is_numeral base digits ≡ true →
+    suc (suc (length digits)) ≤ number_length (48 ∷ mark ∷ (digits ++ ys))
 marked_longest mark base digits ys is h =
     let count : run base (digits ++ ys) ≡ length digits + run base ys = run-digits base digits ys (numeral_digits base digits h) in
     let some = numeral_some base digits h in
-    let size : marked (mark ∷ (digits ++ ys)) ≡ 1 + run base (digits ++ ys) = rw (is, marked) (with_digits-some 1 (run base (digits ++ ys)) (omega (arith, count, some))) in
+    let size : marked (mark ∷ (digits ++ ys)) ≡ 1 + run base (digits ++ ys) =
+    rw (is, marked) (with_digits-some 1 (run base (digits ++ ys)) (omega (arith, count, some))) in
     omega (arith, number-marked (mark ∷ (digits ++ ys)) (omega (arith, size)), size, count)
 
 pub hexadecimal_base : (mark : ℕ) → is_hexadecimal_mark mark ≡ true → base_of_mark mark ≡ Some 16
@@ -215,7 +231,8 @@ zero_longest (d ∷ ds) ys h =
     let all = octal_digits (48 ∷ d ∷ ds) octal_all in
     unmarked_longest (48 ∷ d ∷ ds) ys no_mark (digits_longest (48 ∷ d ∷ ds) ys all (omega arith) (omega (arith, count)))
 
-decimal_longest : (digit : ℕ) (digits ys : List ℕ) → is_numeral 10 (digit ∷ digits) ≡ true → (digit ≡ 48 → digits ≡ []) → suc (length digits) ≤ number_length (digit ∷ (digits ++ ys))
+decimal_longest : (digit : ℕ) (digits ys : List ℕ) → is_numeral 10 (digit ∷ digits) ≡ true → (digit ≡ 48 → digits ≡ []) →
+    suc (length digits) ≤ number_length (digit ∷ (digits ++ ys))
 decimal_longest digit digits ys h first =
     let all = numeral_digits 10 (digit ∷ digits) h in
     let count : run 10 (digit ∷ (digits ++ ys)) ≡ suc (length digits) + run 10 ys = run-digits 10 (digit ∷ digits) ys all in
@@ -239,32 +256,43 @@ module _ (mark : ℕ) (sign digits ys : List ℕ) (signed : ℕ → ℤ) (m : is
   behind : (front : List ℕ) → (front ++ (mark ∷ (sign ++ digits))) ++ ys ≡ front ++ (mark ∷ (sign ++ (digits ++ ys)))
   behind front = appended front (sign ++ digits) ys mark ∙ ap (λ t. front ++ (mark ∷ t)) (append_assoc sign digits ys)
 
-  scaled_number : (front : List ℕ) (n : ℕ) → NoMark front → run 10 (front ++ (mark ∷ (sign ++ (digits ++ ys)))) ≡ n → n + fraction n (drop n (front ++ (mark ∷ (sign ++ (digits ++ ys))))) ≡ length front → n ≤ length front → 0 < length front → length (front ++ (mark ∷ (sign ++ digits))) ≤ number_length ((front ++ (mark ∷ (sign ++ digits))) ++ ys)
+  scaled_number : (front : List ℕ) (n : ℕ) → NoMark front → run 10 (front ++ (mark ∷ (sign ++ (digits ++ ys)))) ≡ n →
+      n + fraction n (drop n (front ++ (mark ∷ (sign ++ (digits ++ ys))))) ≡ length front → n ≤ length front → 0 < length front →
+      length (front ++ (mark ∷ (sign ++ digits))) ≤ number_length ((front ++ (mark ∷ (sign ++ digits))) ++ ys)
   scaled_number front n no_mark count size low some =
       unmarked_longest (front ++ (mark ∷ (sign ++ digits))) ys (no_mark_more front (sign ++ digits) mark no_mark (mark_no_base mark m))
-      (subst (λ t. length (front ++ (mark ∷ (sign ++ digits))) ≤ unmarked t) (sym (behind front)) (scaled_longest front mark digits ys m s h n count size low some))
+      (subst (λ t. length (front ++ (mark ∷ (sign ++ digits))) ≤ unmarked t) (sym (behind front))
+      (scaled_longest front mark digits ys m s h n count size low some))
 
-  scaled_digits : (front : List ℕ) → is_numeral 10 front ≡ true → length (front ++ (mark ∷ (sign ++ digits))) ≤ number_length ((front ++ (mark ∷ (sign ++ digits))) ++ ys)
+  scaled_digits : (front : List ℕ) → is_numeral 10 front ≡ true →
+      length (front ++ (mark ∷ (sign ++ digits))) ≤ number_length ((front ++ (mark ∷ (sign ++ digits))) ++ ys)
   scaled_digits front f =
       let all = numeral_digits 10 front f in
       let rest = mark ∷ (sign ++ (digits ++ ys)) in
       let none_more = run-mark mark (sign ++ (digits ++ ys)) m in
-      let none_here : fraction (length front) (drop (length front) (front ++ rest)) ≡ 0 = ap (fraction (length front)) (drop_at front rest (length front) refl) ∙ fraction-mark (length front) mark (sign ++ (digits ++ ys)) m in
-      scaled_number front (length front) (no_mark_digits front all (numeral_some 10 front f)) (run-digits 10 front rest all ∙ omega (arith, none_more)) (omega (arith, none_here)) (omega arith) (numeral_some 10 front f)
+      let none_here : fraction (length front) (drop (length front) (front ++ rest)) ≡ 0 =
+      ap (fraction (length front)) (drop_at front rest (length front) refl) ∙ fraction-mark (length front) mark (sign ++ (digits ++ ys)) m in
+      scaled_number front (length front) (no_mark_digits front all (numeral_some 10 front f)) (run-digits 10 front rest all ∙ omega (arith, none_more))
+      (omega (arith, none_here)) (omega arith) (numeral_some 10 front f)
 
-  scaled_pointed : (front back : List ℕ) → is_numeral 10 (front ++ back) ≡ true → length ((front ++ (46 ∷ back)) ++ (mark ∷ (sign ++ digits))) ≤ number_length (((front ++ (46 ∷ back)) ++ (mark ∷ (sign ++ digits))) ++ ys)
+  scaled_pointed : (front back : List ℕ) → is_numeral 10 (front ++ back) ≡ true →
+      length ((front ++ (46 ∷ back)) ++ (mark ∷ (sign ++ digits))) ≤ number_length (((front ++ (46 ∷ back)) ++ (mark ∷ (sign ++ digits))) ++ ys)
   scaled_pointed front back f =
       let rest = mark ∷ (sign ++ (digits ++ ys)) in
       let cut : (front ++ (46 ∷ back)) ++ rest ≡ front ++ (46 ∷ (back ++ rest)) = appended front back rest 46 in
       let p = fraction-point front back rest f in
       let none_more = run-mark mark (sign ++ (digits ++ ys)) m in
       let size = length-append front (46 ∷ back) in
-      let place : fraction (length front) (drop (length front) ((front ++ (46 ∷ back)) ++ rest)) ≡ 1 + (length back + run 10 rest) = ap (λ t. fraction (length front) (drop (length front) t)) cut ∙ p.1 in
-      scaled_number (front ++ (46 ∷ back)) (length front) (no_mark_point front back (numeral_digits 10 (front ++ back) f)) (ap (run 10) cut ∙ p.0) (omega (arith, place, none_more, size)) (omega (arith, size)) (omega (arith, size))
+      let place : fraction (length front) (drop (length front) ((front ++ (46 ∷ back)) ++ rest)) ≡ 1 + (length back + run 10 rest) =
+      ap (λ t. fraction (length front) (drop (length front) t)) cut ∙ p.1 in
+      scaled_number (front ++ (46 ∷ back)) (length front) (no_mark_point front back (numeral_digits 10 (front ++ back) f)) (ap (run 10) cut ∙ p.0)
+      (omega (arith, place, none_more, size)) (omega (arith, size)) (omega (arith, size))
 
 float_longest : (xs ys : List ℕ) → IsFloat xs → length xs ≤ number_length (xs ++ ys)
 float_longest xs ys (pointed p) =
-    rw p.spelled (unmarked_longest (p.front ++ (46 ∷ p.back)) ys (no_mark_point p.front p.back (numeral_digits 10 (p.front ++ p.back) p.digits)) (subst (λ t. length (p.front ++ (46 ∷ p.back)) ≤ unmarked t) (sym (appended p.front p.back ys 46)) (pointed_longest p.front p.back ys p.digits)))
+    rw p.spelled
+    (unmarked_longest (p.front ++ (46 ∷ p.back)) ys (no_mark_point p.front p.back (numeral_digits 10 (p.front ++ p.back) p.digits))
+    (subst (λ t. length (p.front ++ (46 ∷ p.back)) ≤ unmarked t) (sym (appended p.front p.back ys 46)) (pointed_longest p.front p.back ys p.digits)))
 float_longest xs ys (scaled_float front sign digits mark signed e f is s h) =
     elim f [
       | inl n ↦ rw e (scaled_digits mark sign digits ys signed is s h front n)

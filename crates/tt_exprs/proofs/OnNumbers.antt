@@ -15,9 +15,14 @@ use Rattle.tt_number.specs.declared.operators.OneOp.{OneOp}
 use Rattle.tt_number.specs.declared.operators.OneOp.TheVariants as one
 use Rattle.tt_number.proofs.Reading.Decimal.{decimal_law}
 use Rattle.tt_exprs.specs.Operators.{takes}
-use Rattle.tt_exprs.specs.Apply.{needed, whole_operand, arithmetic, with_one, with_two, on_one_of, on_two_of, with_whole, wholes, extreme_of, truth_number, compared, comparand, order_with, order_of, test_order, boolean_by, boolean_of, negated, negation_of, answer_of, takes_numbers, numbers_answer, AllFit, NumbersLaw}
+use Rattle.tt_exprs.specs.Apply.{needed, whole_operand, arithmetic, with_one, with_two, on_one_of, on_two_of}
+use Rattle.tt_exprs.specs.Apply.{with_whole, wholes, extreme_of, truth_number, compared, comparand, order_with}
+use Rattle.tt_exprs.specs.Apply.{order_of, test_order, boolean_by, boolean_of, negated, negation_of, answer_of}
+use Rattle.tt_exprs.specs.Apply.{takes_numbers, numbers_answer, AllFit, NumbersLaw}
 use Rattle.tt_exprs.specs.declared.op.Op.{Op}
-use Rattle.tt_exprs.specs.declared.op.Op.TheVariants.{Neg, Plus, BitNot, Not, Pow, Mul, Div, Mod, Add, Sub, Shl, Shr, Less, Greater, LessEqual, GreaterEqual, Equal, NotEqual, BitAnd, BitXor, BitOr, And, Or, Choose, Abs, Int, Max, Min}
+use Rattle.tt_exprs.specs.declared.op.Op.TheVariants.{Neg, Plus, BitNot, Not, Pow, Mul, Div, Mod, Add, Sub, Shl, Shr}
+use Rattle.tt_exprs.specs.declared.op.Op.TheVariants.{Less, Greater, LessEqual, GreaterEqual, Equal, NotEqual, BitAnd}
+use Rattle.tt_exprs.specs.declared.op.Op.TheVariants.{BitXor, BitOr, And, Or, Choose, Abs, Int, Max, Min}
 
 -- a number's text is read as it
 operand : (op : Op) (n : ℤ) → FitsSigned w64 n → whole_operand op (signed_decimal n) ≡ Ok n
@@ -58,7 +63,8 @@ all_whole op (n ∷ numbers) f =
     ap (λ x. with_whole x (wholes op (map signed_decimal numbers))) (operand op n f.0)
     ∙ ap (with_whole (Ok n)) (all_whole op numbers f.1)
 
-one_number : (op : Op) (a : ℤ) → FitsSigned w64 a → takes_numbers op ≡ true → takes op 1 ≡ true → answer_of op (signed_decimal a ∷ []) ≡ arithmetic (numbers_answer op (a ∷ []))
+one_number : (op : Op) (a : ℤ) → FitsSigned w64 a → takes_numbers op ≡ true → takes op 1 ≡ true →
+    answer_of op (signed_decimal a ∷ []) ≡ arithmetic (numbers_answer op (a ∷ []))
 one_number Neg a f t c = on_one Neg one.Neg a f
 one_number Plus a f t c = on_one Plus one.Plus a f
 one_number BitNot a f t c = on_one BitNot one.BitNot a f
@@ -69,7 +75,8 @@ one_number Max a f t c = ap (extreme_of Max) (all_whole Max (a ∷ []) (f, tt))
 one_number Min a f t c = ap (extreme_of Min) (all_whole Min (a ∷ []) (f, tt))
 one_number op a f t c = let wrong : ⊥ = cc in absurd wrong
 
-two_numbers : (op : Op) (a b : ℤ) → FitsSigned w64 a → FitsSigned w64 b → takes_numbers op ≡ true → takes op 2 ≡ true → answer_of op (signed_decimal a ∷ signed_decimal b ∷ []) ≡ arithmetic (numbers_answer op (a ∷ b ∷ []))
+two_numbers : (op : Op) (a b : ℤ) → FitsSigned w64 a → FitsSigned w64 b → takes_numbers op ≡ true → takes op 2 ≡ true →
+    answer_of op (signed_decimal a ∷ signed_decimal b ∷ []) ≡ arithmetic (numbers_answer op (a ∷ b ∷ []))
 two_numbers Pow a b f g t c = on_two a b f g Pow two.Pow
 two_numbers Mul a b f g t c = on_two a b f g Mul two.Mul
 two_numbers Div a b f g t c = on_two a b f g Div two.Div
@@ -91,7 +98,9 @@ two_numbers Max a b f g t c = ap (extreme_of Max) (all_whole Max (a ∷ b ∷ []
 two_numbers Min a b f g t c = ap (extreme_of Min) (all_whole Min (a ∷ b ∷ []) (f, (g, tt)))
 two_numbers op a b f g t c = let wrong : ⊥ = cc in absurd wrong
 
-more_numbers : (op : Op) (a b d : ℤ) (numbers : List ℤ) → AllFit (a ∷ b ∷ d ∷ numbers) → takes_numbers op ≡ true → takes op (suc (suc (suc (length numbers)))) ≡ true → answer_of op (map signed_decimal (a ∷ b ∷ d ∷ numbers)) ≡ arithmetic (numbers_answer op (a ∷ b ∷ d ∷ numbers))
+more_numbers : (op : Op) (a b d : ℤ) (numbers : List ℤ) → AllFit (a ∷ b ∷ d ∷ numbers) → takes_numbers op ≡ true →
+    takes op (suc (suc (suc (length numbers)))) ≡ true →
+    answer_of op (map signed_decimal (a ∷ b ∷ d ∷ numbers)) ≡ arithmetic (numbers_answer op (a ∷ b ∷ d ∷ numbers))
 more_numbers Max a b d numbers f t c = ap (extreme_of Max) (all_whole Max (a ∷ b ∷ d ∷ numbers) f)
 more_numbers Min a b d numbers f t c = ap (extreme_of Min) (all_whole Min (a ∷ b ∷ d ∷ numbers) f)
 more_numbers And a b d numbers f t c = let wrong : ⊥ = cc in absurd wrong

@@ -65,9 +65,16 @@ braces_is text = go (matching_brace text) refl
         let closed = (matching_brace_law text n).0 e in
         let inside : take n text ≡ closed.inner = ap (take n) closed.cut ∙ take_at closed.inner (125 ∷ closed.rest) n closed.place in
         let rest : drop n text ≡ 125 ∷ closed.rest = ap (drop n) closed.cut ∙ drop_at closed.inner (125 ∷ closed.rest) n closed.place in
-        rw (e, in_braces, inside) (closed.rest, omega arith, drop_past_two n 123 text ∙ sym (drop-drop 1 n text) ∙ ap (drop 1) rest, braced_token closed.inner refl refl closed.cut closed.balanced)
+        rw (e, in_braces, inside) (
+          closed.rest,
+          omega arith,
+          drop_past_two n 123 text ∙ sym (drop-drop 1 n text)
+              ∙ ap (drop 1) rest,
+          braced_token closed.inner refl refl closed.cut closed.balanced,
+        )
 
-pub braces_read : (text inside rest : List ℕ) (c : ℕ) → c ≡ 125 → text ≡ inside ++ (c ∷ rest) → IsBalanced inside → CutsOff (in_braces text) (123 ∷ text) (operand (leaf (joined_lines 0 inside))) rest
+pub braces_read : (text inside rest : List ℕ) (c : ℕ) → c ≡ 125 → text ≡ inside ++ (c ∷ rest) → IsBalanced inside →
+    CutsOff (in_braces text) (123 ∷ text) (operand (leaf (joined_lines 0 inside))) rest
 braces_read text inside rest c e cut balanced =
     let cut_at : text ≡ inside ++ (125 ∷ rest) = cut ∙ ap (λ d. inside ++ (d ∷ rest)) e in
     let closed : IsClosedAt text (length inside) = record { inner = inside; rest = rest; cut = cut_at; place = refl; balanced = balanced } in
@@ -102,7 +109,8 @@ one_part (variable name) n h = refl
 one_part (element name index) n h = refl
 one_part (script inside) n h = refl
 
-pub substituted_read : (b : ℕ) (text rest : List ℕ) (p : PlainPart) → is_substituted p ≡ true → IsOuterPart (b ∷ text) p rest → CutsOff (substituted b text) (b ∷ text) (operand (words (more p none))) rest
+pub substituted_read : (b : ℕ) (text rest : List ℕ) (p : PlainPart) → is_substituted p ≡ true → IsOuterPart (b ∷ text) p rest →
+    CutsOff (substituted b text) (b ∷ text) (operand (words (more p none))) rest
 substituted_read b text rest p sub h =
     let r = part_read h in
     record {

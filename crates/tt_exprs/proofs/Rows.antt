@@ -6,7 +6,8 @@ use Rattle.tt_exprs.specs.Tokens.{token, tokens, word, sign}
 use Rattle.tt_exprs.specs.Parsing.{parse, gathered}
 use Rattle.tt_exprs.specs.declared.op.Op.TheVariants.{Pow, Add}
 
-power_groups_right : parse (codes "2 ** 3 ** 2") ≡ tree (node Pow (more (leaf (codes "2")) (more (node Pow (more (leaf (codes "3")) (more (leaf (codes "2")) none))) none)))
+power_groups_right : parse (codes "2 ** 3 ** 2") ≡ tree
+    (node Pow (more (leaf (codes "2")) (more (node Pow (more (leaf (codes "3")) (more (leaf (codes "2")) none))) none)))
 unfolding parse tokens token word sign gathered
 power_groups_right = refl
 

@@ -1,5 +1,6 @@
 -- The sign that the function cuts off is the longest one.
-use Rattle.std.proofs.Common.{rules, ◌≡◌, ℕ, zero, suc, ◌<◌, ◌≤◌, Bool, true, false, ◌==◌, List, [], ◌∷◌, ◌++◌, length, take, drop, Option, Some, None, refl, ap, sym, ◌∙◌, subst, arith, inl, inr, ◌⊎◌}
+use Rattle.std.proofs.Common.{rules, ◌≡◌, ℕ, zero, suc, ◌<◌, ◌≤◌, Bool, true, false, ◌==◌, List, [], ◌∷◌, ◌++◌, length}
+use Rattle.std.proofs.Common.{take, drop, Option, Some, None, refl, ap, sym, ◌∙◌, subst, arith, inl, inr, ◌⊎◌}
 use Rattle.std.specs.Prelude.{nat_eq, find, Contains, slice_index_or}
 use Rattle.std.specs.List.{starts_with}
 use Rattle.std.proofs.lemmas.Bool.{cases_Bool, both_ways, eqb-true}
@@ -50,7 +51,7 @@ found_in test (first ∷ ops) op e = go (cases_Bool (test first)) (λ h. found_i
     go (inl h) later = let found : Some first ≡ Some op = rw h at e in let same : first ≡ op = cc in inl same
     go (inr h) later = let found : find test ops ≡ Some op = rw h at e in inr (later found)
 
--- where none is found, none passes
+-- if none is found, none passes
 pub found_none : (test : Op → Bool) (ops : List Op) (op : Op) → find test ops ≡ None → IsIn ops op → test op ≡ false
 found_none test [] op e h = absurd h
 found_none test (first ∷ ops) op e h = go (cases_Bool (test first)) h (λ f g. found_none test ops op f g)
@@ -67,14 +68,18 @@ abbrev pub Descending : List Op → Type 0
 Descending [] = Unit {0}
 Descending (op ∷ ops) = Every (λ other. length (spelling other) ≤ length (spelling op)) ops × Descending ops
 
-first_longest : (text : List ℕ) (ops : List Op) (op other : Op) → Descending ops → first_spelled ops text ≡ Some op → IsIn ops other → starts_with nat_eq text (spelling other) ≡ true → length (spelling other) ≤ length (spelling op)
+first_longest : (text : List ℕ) (ops : List Op) (op other : Op) → Descending ops → first_spelled ops text ≡ Some op → IsIn ops other →
+    starts_with nat_eq text (spelling other) ≡ true → length (spelling other) ≤ length (spelling op)
 first_longest text [] op other d e h s = absurd h
-first_longest text (first ∷ ops) op other d e h s = go (cases_Bool (starts_with nat_eq text (spelling first))) h (λ f g. first_longest text ops op other d.1 f g s)
+first_longest text (first ∷ ops) op other d e h s =
+    go (cases_Bool (starts_with nat_eq text (spelling first))) h (λ f g. first_longest text ops op other d.1 f g s)
   where
-    go : (starts_with nat_eq text (spelling first) ≡ true) ⊎ (starts_with nat_eq text (spelling first) ≡ false) → IsIn (first ∷ ops) other → (first_spelled ops text ≡ Some op → IsIn ops other → length (spelling other) ≤ length (spelling op)) → length (spelling other) ≤ length (spelling op)
+    go : (starts_with nat_eq text (spelling first) ≡ true) ⊎ (starts_with nat_eq text (spelling first) ≡ false) → IsIn (first ∷ ops) other →
+        (first_spelled ops text ≡ Some op → IsIn ops other → length (spelling other) ≤ length (spelling op)) → length (spelling other) ≤ length (spelling op)
     go (inl p) (inl same) later = let found : Some first ≡ Some op = rw p at e in let is : first ≡ op = cc in let both = ap (λ o. length (spelling o)) (sym same ∙ is) in omega (arith, both)
     go (inl p) (inr i) later = let found : Some first ≡ Some op = rw p at e in let is : first ≡ op = cc in subst (λ o. length (spelling other) ≤ length (spelling o)) is (every_one (λ o. length (spelling o) ≤ length (spelling first)) ops other d.0 i)
-    go (inr p) (inl same) later = absurd (both_ways (starts_with nat_eq text (spelling other)) (ap (λ o. starts_with nat_eq text (spelling o)) (sym same) ∙ p) s)
+    go (inr p) (inl same) later =
+        absurd (both_ways (starts_with nat_eq text (spelling other)) (ap (λ o. starts_with nat_eq text (spelling o)) (sym same) ∙ p) s)
     go (inr p) (inr i) later = let rest : first_spelled ops text ≡ Some op = rw p at e in later rest i
 
 descending : Descending sign_operators
@@ -107,8 +112,9 @@ sign_none text e = rw (e, sign) refl
 
 -- ---- from the relation to the function
 
--- the first spelled is there where an operator's spelling is
-some_spelled : (text : List ℕ) (op : Op) → IsIn sign_operators op → starts_with nat_eq text (spelling op) ≡ true → (found : Op) × (first_spelled sign_operators text ≡ Some found)
+-- the first spelled is there if an operator's spelling is
+some_spelled : (text : List ℕ) (op : Op) → IsIn sign_operators op → starts_with nat_eq text (spelling op) ≡ true → (found : Op)
+    × (first_spelled sign_operators text ≡ Some found)
 some_spelled text op h s = go (first_spelled sign_operators text) refl
   where
     go : (o : Option Op) → first_spelled sign_operators text ≡ o → (found : Op) × (first_spelled sign_operators text ≡ Some found)
@@ -119,7 +125,9 @@ some_spelled text op h s = go (first_spelled sign_operators text) refl
 same_spelled : (text a b xs ys : List ℕ) → text ≡ a ++ xs → text ≡ b ++ ys → length a ≡ length b → a ≡ b
 same_spelled text a b xs ys e f same = sym (take_at a xs (length b) same) ∙ ap (take (length b)) (sym e ∙ f) ∙ take_at b ys (length b) refl
 
-operator_read : (text rest : List ℕ) (op : Op) → IsIn sign_operators op → text ≡ spelling op ++ rest → ((other after : List ℕ) (said : PlainToken) → text ≡ other ++ after → SpellsSign other said → length other ≤ length (spelling op)) → sign text ≡ one (operator op) (length (spelling op))
+operator_read : (text rest : List ℕ) (op : Op) → IsIn sign_operators op → text ≡ spelling op ++ rest →
+    ((other after : List ℕ) (said : PlainToken) → text ≡ other ++ after → SpellsSign other said → length other ≤ length (spelling op)) →
+    sign text ≡ one (operator op) (length (spelling op))
 operator_read text rest op h cut longest =
     let here = cut-spelled text (spelling op) rest cut in
     let found = some_spelled text op h here in
@@ -127,31 +135,42 @@ operator_read text rest op h cut longest =
     let inside = found_in (λ o. starts_with nat_eq text (spelling o)) sign_operators other found.1 in
     let place = first_spelled-cut sign_operators text other found.1 in
     let up = first_longest text sign_operators other op descending found.1 h here in
-    let down = longest (spelling other) (drop (length (spelling other)) text) (operator other) place (operator_sign (contains sign_operators other inside) refl) in
+    let down = longest (spelling other) (drop (length (spelling other)) text) (operator other) place
+    (operator_sign (contains sign_operators other inside) refl) in
     let one_spelling = same_spelled text (spelling other) (spelling op) (drop (length (spelling other)) text) rest place cut (omega (arith, up, down)) in
-    let one_operator : Some other ≡ Some op = sym (every_one (λ o. first_spelled sign_operators (spelling o) ≡ Some o) sign_operators other alone inside) ∙ ap (first_spelled sign_operators) one_spelling ∙ every_one (λ o. first_spelled sign_operators (spelling o) ≡ Some o) sign_operators op alone h in
+    let one_operator : Some other ≡ Some op =
+    sym (every_one (λ o. first_spelled sign_operators (spelling o) ≡ Some o) sign_operators other alone inside)
+    ∙ ap (first_spelled sign_operators) one_spelling ∙ every_one (λ o. first_spelled sign_operators (spelling o) ≡ Some o) sign_operators op alone h in
     sign_some text op (found.1 ∙ one_operator)
 
 opening_text : (rest : List ℕ) → IsSignText (40 ∷ rest) × IsSignText (41 ∷ rest) × IsSignText (44 ∷ rest) × IsSignText (58 ∷ rest)
 unfolding token
 opening_text rest = search rules
 
-mark_read : (rest : List ℕ) → (sign (40 ∷ rest) ≡ one opening 1) × (sign (41 ∷ rest) ≡ one closing 1) × (sign (44 ∷ rest) ≡ one comma 1) × (sign (58 ∷ rest) ≡ one colon 1)
+mark_read : (rest : List ℕ) → (sign (40 ∷ rest) ≡ one opening 1) × (sign (41 ∷ rest) ≡ one closing 1) × (sign (44 ∷ rest) ≡ one comma 1)
+    × (sign (58 ∷ rest) ≡ one colon 1)
 unfolding sign
 mark_read rest = search rules
 
-sign_here : (text spelled rest : List ℕ) (token : PlainToken) → text ≡ spelled ++ rest → (sign (spelled ++ rest) ≡ one token (length spelled)) → IsSignText (spelled ++ rest) → (sign text ≡ one token (length spelled)) × IsSignText text
+sign_here : (text spelled rest : List ℕ) (token : PlainToken) → text ≡ spelled ++ rest → (sign (spelled ++ rest) ≡ one token (length spelled)) →
+    IsSignText (spelled ++ rest) → (sign text ≡ one token (length spelled)) × IsSignText text
 sign_here text spelled rest token cut read is = subst (λ t. (sign t ≡ one token (length spelled)) × IsSignText t) (sym cut) (read, is)
 
-pub sign_read : (text spelled rest : List ℕ) (token : PlainToken) → IsLongestSign text spelled rest token → (sign text ≡ one token (length spelled)) × IsSignText text
+pub sign_read : (text spelled rest : List ℕ) (token : PlainToken) → IsLongestSign text spelled rest token → (sign text ≡ one token (length spelled))
+    × IsSignText text
 sign_read text spelled rest token h = go h.says h.cut h.longest
   where
-    go : {s : List ℕ} {t : PlainToken} → SpellsSign s t → text ≡ s ++ rest → ((other after : List ℕ) (said : PlainToken) → text ≡ other ++ after → SpellsSign other said → length other ≤ length s) → (sign text ≡ one t (length s)) × IsSignText text
+    go : {s : List ℕ} {t : PlainToken} → SpellsSign s t → text ≡ s ++ rest →
+        ((other after : List ℕ) (said : PlainToken) → text ≡ other ++ after → SpellsSign other said → length other ≤ length s) →
+        (sign text ≡ one t (length s)) × IsSignText text
     go (operator_sign {sign = s} {op} i e) cut longest =
         let inside = contained sign_operators op i in
         let here : text ≡ spelling op ++ rest = cut ∙ ap (λ x. x ++ rest) e in
-        let read = operator_read text rest op inside here (λ other after said c w. subst (λ x. length other ≤ length x) e (longest other after said c w)) in
-        (read ∙ ap (λ x. one (operator op) (length x)) (sym e), subst IsSignText (sym here) (every_one (λ o. (after : List ℕ) → IsSignText (spelling o ++ after)) sign_operators op signed inside rest))
+        let read = operator_read text rest op inside here (λ other after said c w. subst (λ x. length other ≤ length x) e (longest other after said c w)) in (
+          read ∙ ap (λ x. one (operator op) (length x)) (sym e),
+          subst IsSignText (sym here)
+              (every_one (λ o. (after : List ℕ) → IsSignText (spelling o ++ after)) sign_operators op signed inside rest),
+        )
     go opening_sign cut longest = sign_here text (40 ∷ []) rest opening cut (mark_read rest).0 (opening_text rest).0
     go closing_sign cut longest = sign_here text (41 ∷ []) rest closing cut (mark_read rest).1 (opening_text rest).1
     go comma_sign cut longest = sign_here text (44 ∷ []) rest comma cut (mark_read rest).2 (opening_text rest).2
@@ -165,13 +184,16 @@ SignIs text (one token n) = (spelled : List ℕ) × (rest : List ℕ) × IsLonge
 SignIs text (refused word) = ⊥
 SignIs text none_here = Unit {0}
 
--- a sign of one byte is longest where no operator is there
-mark_longest : (text rest : List ℕ) (b : ℕ) (token : PlainToken) → first_spelled sign_operators text ≡ None → text ≡ b ∷ rest → SpellsSign (b ∷ []) token → SignIs text (one token 1)
-mark_longest text rest b said none cut says = (b ∷ [], rest, record { cut = cut; says = says; longest = λ other after said c w. shortest after w c }, omega arith, omega arith)
+-- a sign of one byte is longest if no operator is there
+mark_longest : (text rest : List ℕ) (b : ℕ) (token : PlainToken) → first_spelled sign_operators text ≡ None → text ≡ b ∷ rest → SpellsSign (b ∷ []) token →
+    SignIs text (one token 1)
+mark_longest text rest b said none cut says =
+    (b ∷ [], rest, record { cut = cut; says = says; longest = λ other after said c w. shortest after w c }, omega arith, omega arith)
   where
     shortest : {other : List ℕ} {said : PlainToken} (after : List ℕ) → SpellsSign other said → text ≡ other ++ after → length other ≤ 1
     shortest after (operator_sign {op} i e) c =
-        absurd (both_ways _ (found_none (λ o. starts_with nat_eq text (spelling o)) sign_operators op none (contained sign_operators op i)) (cut-spelled text (spelling op) after (c ∙ ap (λ x. x ++ after) e)))
+        absurd (both_ways _ (found_none (λ o. starts_with nat_eq text (spelling o)) sign_operators op none (contained sign_operators op i))
+        (cut-spelled text (spelling op) after (c ∙ ap (λ x. x ++ after) e)))
     shortest after opening_sign c = omega arith
     shortest after closing_sign c = omega arith
     shortest after comma_sign c = omega arith
@@ -184,7 +206,8 @@ mark_is (b ∷ text) none = go (cases_Bool (b == 40)) (cases_Bool (b == 41)) (ca
     first : (c : ℕ) → (b == c) ≡ true → b ∷ text ≡ c ∷ text
     first c e = ap (λ x. x ∷ text) (eqb-true b c e)
 
-    go : ((b == 40) ≡ true) ⊎ ((b == 40) ≡ false) → ((b == 41) ≡ true) ⊎ ((b == 41) ≡ false) → ((b == 44) ≡ true) ⊎ ((b == 44) ≡ false) → ((b == 58) ≡ true) ⊎ ((b == 58) ≡ false) → SignIs (b ∷ text) (mark (b ∷ text))
+    go : ((b == 40) ≡ true) ⊎ ((b == 40) ≡ false) → ((b == 41) ≡ true) ⊎ ((b == 41) ≡ false) → ((b == 44) ≡ true) ⊎ ((b == 44) ≡ false) →
+        ((b == 58) ≡ true) ⊎ ((b == 58) ≡ false) → SignIs (b ∷ text) (mark (b ∷ text))
     go (inl e) f g h = rw e (mark_longest (b ∷ text) text 40 opening none (first 40 e) opening_sign)
     go (inr e) (inl f) g h = rw (e, f) (mark_longest (b ∷ text) text 41 closing none (first 41 f) closing_sign)
     go (inr e) (inr f) (inl g) h = rw (e, f, g) (mark_longest (b ∷ text) text 44 comma none (first 44 g) comma_sign)

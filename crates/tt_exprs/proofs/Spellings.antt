@@ -1,5 +1,6 @@
 -- The operators that a text begins with the spelling of.
-use Rattle.std.proofs.Common.{◌≡◌, ℕ, ◌<◌, ◌≤◌, Bool, true, false, cond, get_or, List, [], ◌∷◌, ◌++◌, length, drop, Some, None, refl, ap, sym, ◌∙◌, subst, arith, length-append}
+use Rattle.std.proofs.Common.{◌≡◌, ℕ, ◌<◌, ◌≤◌, Bool, true, false, cond, get_or, List, [], ◌∷◌, ◌++◌, length, drop}
+use Rattle.std.proofs.Common.{Some, None, refl, ap, sym, ◌∙◌, subst, arith, length-append}
 use Rattle.std.specs.Prelude.{nat_eq, find}
 use Rattle.std.specs.List.{starts_with}
 use Rattle.std.proofs.lemmas.Slice.Eq.{starts_is}
@@ -10,7 +11,7 @@ use Rattle.tt_exprs.specs.declared.op.Op.{Op}
 use Rattle.tt_exprs.specs.declared.op.Op.TheVariants.{Neg}
 use Rattle.tt_exprs.proofs.TokenSteps.{begun}
 
--- a text begins with a spelling where it is that and what follows
+-- a text begins with a spelling if it is that and what follows
 pub spelled-cut : (text spelled : List ℕ) → starts_with nat_eq text spelled ≡ true → text ≡ spelled ++ drop (length spelled) text
 spelled-cut text spelled e = (starts_is Decides-eqb text spelled (starts_with nat_eq text spelled) refl).0 e
 

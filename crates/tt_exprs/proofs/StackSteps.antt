@@ -16,17 +16,20 @@ stack-pushed items more first e =
     ∙ ap reverse (map-append plain_pending items (first ∷ []))
     ∙ reverse-append (map plain_pending items) (plain_pending first ∷ [])
 
-pub stack-popped : (old new : List Pending) (popped : Option Pending) (first : Pending) → old ≡ new ++ option_to_list popped → popped ≡ Some first → plain_stack old ≡ plain_pending first ∷ plain_stack new
+pub stack-popped : (old new : List Pending) (popped : Option Pending) (first : Pending) → old ≡ new ++ option_to_list popped → popped ≡ Some first →
+    plain_stack old ≡ plain_pending first ∷ plain_stack new
 stack-popped old new popped first e is = stack-pushed new old first (e ∙ ap (λ p. new ++ option_to_list p) is)
 
 pub gathered-empty : (bound : ℕ) (value : PlainValue) → gathered bound [] value ≡ record { pending = []; value = value }
 unfolding gathered
 gathered-empty bound value = refl
 
-pub gathered-takes : (bound : ℕ) (first : PlainPending) (pending : List PlainPending) (value : PlainValue) → binds bound first ≡ true → gathered bound (first ∷ pending) value ≡ gathered bound pending (closed first value)
+pub gathered-takes : (bound : ℕ) (first : PlainPending) (pending : List PlainPending) (value : PlainValue) → binds bound first ≡ true →
+    gathered bound (first ∷ pending) value ≡ gathered bound pending (closed first value)
 unfolding gathered
 gathered-takes bound first pending value e = rw (e, gathered)
 
-pub gathered-stops : (bound : ℕ) (first : PlainPending) (pending : List PlainPending) (value : PlainValue) → binds bound first ≡ false → gathered bound (first ∷ pending) value ≡ record { pending = first ∷ pending; value = value }
+pub gathered-stops : (bound : ℕ) (first : PlainPending) (pending : List PlainPending) (value : PlainValue) → binds bound first ≡ false →
+    gathered bound (first ∷ pending) value ≡ record { pending = first ∷ pending; value = value }
 unfolding gathered
 gathered-stops bound first pending value e = rw (e, gathered)

@@ -2,7 +2,8 @@
 use Rattle.std.proofs.Common.{◌≡◌, ℕ, ◌≤◌, List, ap, sym, ◌∙◌, refl}
 use Rattle.tt_exprs.specs.Trees.{PlainExpr, tree, bad}
 use Rattle.tt_exprs.specs.Tokens.{Tokens, read, refused_word, stopped, tokens}
-use Rattle.tt_exprs.specs.Parsing.{PlainOutcome, good, malformed, nested_too_deeply, tree_of, most_nested, answered, bareword_error, syntax_error, depth_error, parse}
+use Rattle.tt_exprs.specs.Parsing.{PlainOutcome, good, malformed, nested_too_deeply, tree_of, most_nested, answered}
+use Rattle.tt_exprs.specs.Parsing.{bareword_error, syntax_error, depth_error, parse}
 use Rattle.tt_exprs.specs.TokenGrammar.{HasTokens}
 use Rattle.tt_exprs.specs.TextLaw.{SpellsTree, TextTreeLaw, TextErrorLaw}
 use Rattle.tt_exprs.proofs.ParseSteps.{parse-read, parse-refused, parse-stopped}

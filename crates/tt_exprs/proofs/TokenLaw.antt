@@ -1,5 +1,7 @@
 -- The function cuts a text into the tokens that the grammar has, and no others.
-use Rattle.std.proofs.Common.{◌≡◌, ℕ, zero, suc, ◌<◌, ◌≤◌, Bool, true, false, not, ◌||◌, ◌==◌, nat_lt, List, [], ◌∷◌, ◌++◌, length, take, drop, refl, ap, sym, ◌∙◌, subst, arith, inl, inr, ◌⊎◌, length-append, length-drop}
+use Rattle.std.proofs.Common.{◌≡◌, ℕ, zero, suc, ◌<◌, ◌≤◌, Bool, true, false, not, ◌||◌, ◌==◌, nat_lt, List, [], ◌∷◌}
+use Rattle.std.proofs.Common.{◌++◌, length, take, drop, refl, ap, sym, ◌∙◌, subst, arith, inl, inr, ◌⊎◌, length-append}
+use Rattle.std.proofs.Common.{length-drop}
 use Rattle.std.specs.List.{prefix_len}
 use Rattle.std.proofs.lemmas.Bool.{cases_Bool, and_parts, or_cases, eqb-true, lt-ltb, ltb-true}
 use Rattle.std.proofs.lemmas.List.{take_at, drop_at}
@@ -11,8 +13,13 @@ use Rattle.tt_number.proofs.Reading.Trimming.{nonempty}
 use Rattle.tt_number.proofs.Reading.Numbers.{read_unsigned}
 use Rattle.tt_number.proofs.Reading.Floats.{read_float}
 use Rattle.tt_exprs.specs.Trees.{leaf, words}
-use Rattle.tt_exprs.specs.Tokens.{PlainToken, operand, Cut, one, refused, none_here, begins_word, is_word_byte, number_length, number, other, quoted, in_braces, substituted, sign, bare_word, token, Tokens, read, refused_word, stopped, with_token, tokens}
-use Rattle.tt_exprs.specs.TokenGrammar.{first_is, IsNumber, IsLongestNumber, IsBareWord, SpellsWord, IsLongestSign, IsToken, number_token, word_token, sign_token, quoted_token, braced_token, substituted_token, BeginsNothing, HasTokens, at_end, after_white_space, after_token, at_refused, at_nothing}
+use Rattle.tt_exprs.specs.Tokens.{PlainToken, operand, Cut, one, refused, none_here, begins_word, is_word_byte}
+use Rattle.tt_exprs.specs.Tokens.{number_length, number, other, quoted, in_braces, substituted, sign, bare_word, token}
+use Rattle.tt_exprs.specs.Tokens.{Tokens, read, refused_word, stopped, with_token, tokens}
+use Rattle.tt_exprs.specs.TokenGrammar.{first_is, IsNumber, IsLongestNumber, IsBareWord, SpellsWord, IsLongestSign}
+use Rattle.tt_exprs.specs.TokenGrammar.{IsToken, number_token, word_token, sign_token, quoted_token, braced_token}
+use Rattle.tt_exprs.specs.TokenGrammar.{substituted_token, BeginsNothing, HasTokens, at_end, after_white_space}
+use Rattle.tt_exprs.specs.TokenGrammar.{after_token, at_refused, at_nothing}
 use Rattle.tt_exprs.specs.TextLaw.{TokenLaw}
 use Rattle.tt_exprs.proofs.NumberForms.{IsNumeral, whole_numeral, float_numeral, number_numeral, numeral_number}
 use Rattle.tt_exprs.proofs.NumberLength.{longest_of}
@@ -29,7 +36,8 @@ pub record Reads (text : List ℕ) (first : PlainToken) (rest : List ℕ) : Type
   pub off : CutsOff (token_of text) text first rest
   pub black : first_is is_white_space text ≡ false
 
-reads_by : (cut : Cut) (text : List ℕ) (first : PlainToken) (rest : List ℕ) → token_of text ≡ cut → CutsOff cut text first rest → first_is is_white_space text ≡ false → Reads text first rest
+reads_by : (cut : Cut) (text : List ℕ) (first : PlainToken) (rest : List ℕ) → token_of text ≡ cut → CutsOff cut text first rest →
+    first_is is_white_space text ≡ false → Reads text first rest
 reads_by cut text first rest same off black = record { off = record { n = off.n; is = same ∙ off.is; some = off.some; place = off.place }; black = black }
 
 number_some : {spelled : List ℕ} → IsNumber spelled → 0 < length spelled
@@ -43,7 +51,7 @@ not_true : (b : Bool) → not b ≡ true → b ≡ false
 not_true true h = cc
 not_true false h = refl
 
--- where no word begins, a number may
+-- if no word begins, a number may
 no_word_before : (b : ℕ) (text : List ℕ) → 0 < number_length (b ∷ text) → begins_word b ≡ false
 no_word_before b text h =
     elim (cases_Bool (begins_word b)) [
@@ -51,7 +59,8 @@ no_word_before b text h =
       | inr e ↦ e
     ]
 
-number_here : (spelled rest : List ℕ) → IsNumber spelled → number_length (spelled ++ rest) ≡ length spelled → Reads (spelled ++ rest) (operand (leaf spelled)) rest
+number_here : (spelled rest : List ℕ) → IsNumber spelled → number_length (spelled ++ rest) ≡ length spelled →
+    Reads (spelled ++ rest) (operand (leaf spelled)) rest
 number_here [] rest h count = absurd (omega (arith, number_some h))
 number_here (b ∷ spelled) rest h count =
     let text = spelled ++ rest in
@@ -75,7 +84,8 @@ reads_number text spelled rest h =
     let high = h.longest found.number found.rest (h.cut ∙ found.cut) (numeral_number found.numeral) in
     subst (λ t. Reads t (operand (leaf spelled)) rest) (sym h.cut) (number_here spelled rest h.is_number (omega (arith, low, high, found.size)))
 
-word_here : (spelled rest : List ℕ) (first : PlainToken) → IsBareWord (spelled ++ rest) spelled rest → SpellsWord spelled first → Reads (spelled ++ rest) first rest
+word_here : (spelled rest : List ℕ) (first : PlainToken) → IsBareWord (spelled ++ rest) spelled rest → SpellsWord spelled first →
+    Reads (spelled ++ rest) first rest
 word_here [] rest first h says = let wrong : false ≡ true = h.first in let no : ⊥ = cc in absurd no
 word_here (b ∷ spelled) rest first h says = record {
   off = record {
@@ -125,13 +135,24 @@ pub token_reads : {text rest : List ℕ} {first : PlainToken} → IsToken text f
 token_reads (number_token {text} {number = spelled} {rest} h) = reads_number text spelled rest h
 token_reads (word_token {text} {word = spelled} {rest} {token = first} h says) = reads_word text spelled rest first h says
 token_reads (sign_token {text} {sign = spelled} {rest} {token = first} h) = reads_sign text spelled rest first h
-token_reads (quoted_token {b} {text} {rest} {parts} e h) = subst (λ c. Reads (c ∷ text) (operand (words parts)) rest) (sym e) (reads_by (quoted text) (34 ∷ text) (operand (words parts)) rest (quoted_here text).0 (quoted_read text rest parts h) (quoted_here text).1)
-token_reads (braced_token {b} {c} {text} {rest} inside e f cut balanced) = subst (λ d. Reads (d ∷ text) (operand (leaf (joined_lines 0 inside))) rest) (sym e) (reads_by (in_braces text) (123 ∷ text) (operand (leaf (joined_lines 0 inside))) rest (braces_here text).0 (braces_read text inside rest c f cut balanced) (braces_here text).1)
+token_reads (quoted_token {b} {text} {rest} {parts} e h) =
+    subst (λ c. Reads (c ∷ text) (operand (words parts)) rest) (sym e)
+    (reads_by (quoted text) (34 ∷ text) (operand (words parts)) rest (quoted_here text).0 (quoted_read text rest parts h) (quoted_here text).1)
+token_reads (braced_token {b} {c} {text} {rest} inside e f cut balanced) =
+    subst (λ d. Reads (d ∷ text) (operand (leaf (joined_lines 0 inside))) rest) (sym e)
+    (reads_by (in_braces text) (123 ∷ text) (operand (leaf (joined_lines 0 inside))) rest (braces_here text).0
+    (braces_read text inside rest c f cut balanced) (braces_here text).1)
 token_reads (substituted_token {b} {text} {rest} {part} first sub h) = go first
   where
     go : (b ≡ 36) ⊎ (b ≡ 91) → Reads (b ∷ text) (operand (words (more part none))) rest
-    go (inl e) = subst (λ c. Reads (c ∷ text) (operand (words (more part none))) rest) (sym e) (reads_by (substituted 36 text) (36 ∷ text) (operand (words (more part none))) rest (dollar_here text).0 (substituted_read 36 text rest part sub (subst (λ c. IsOuterPart (c ∷ text) part rest) e h)) (dollar_here text).1)
-    go (inr e) = subst (λ c. Reads (c ∷ text) (operand (words (more part none))) rest) (sym e) (reads_by (substituted 91 text) (91 ∷ text) (operand (words (more part none))) rest (bracket_here text).0 (substituted_read 91 text rest part sub (subst (λ c. IsOuterPart (c ∷ text) part rest) e h)) (bracket_here text).1)
+    go (inl e) =
+        subst (λ c. Reads (c ∷ text) (operand (words (more part none))) rest) (sym e)
+        (reads_by (substituted 36 text) (36 ∷ text) (operand (words (more part none))) rest (dollar_here text).0
+        (substituted_read 36 text rest part sub (subst (λ c. IsOuterPart (c ∷ text) part rest) e h)) (dollar_here text).1)
+    go (inr e) =
+        subst (λ c. Reads (c ∷ text) (operand (words (more part none))) rest) (sym e)
+        (reads_by (substituted 91 text) (91 ∷ text) (operand (words (more part none))) rest (bracket_here text).0
+        (substituted_read 91 text rest part sub (subst (λ c. IsOuterPart (c ∷ text) part rest) e h)) (bracket_here text).1)
 
 -- ---- from the function to the relation
 
@@ -151,28 +172,42 @@ front_sign text (one first n) h = (h.1, h.4, ap (drop n) h.2.cut ∙ drop_at h.0
 front_sign text (refused spelled) h = absurd h
 front_sign text none_here h = tt
 
-front_word : (text spelled rest : List ℕ) → IsBareWord text spelled rest → 0 < length spelled → (cut : Cut) → WordSays spelled (length spelled) cut → FrontIs text cut
-front_word text spelled rest h some (one first n) says = (rest, omega (arith, some, says.1), ap (drop n) h.cut ∙ drop_at spelled rest n (sym says.1), word_token h says.0)
-front_word text spelled rest h some (refused other) says = (rest, subst (λ s. IsBareWord text s rest) (sym says.0) h, λ first w. says.1 first (subst (λ s. SpellsWord s first) says.0 w))
+front_word : (text spelled rest : List ℕ) → IsBareWord text spelled rest → 0 < length spelled → (cut : Cut) → WordSays spelled (length spelled) cut →
+    FrontIs text cut
+front_word text spelled rest h some (one first n) says =
+    (rest, omega (arith, some, says.1), ap (drop n) h.cut ∙ drop_at spelled rest n (sym says.1), word_token h says.0)
+front_word text spelled rest h some (refused other) says =
+    (rest, subst (λ s. IsBareWord text s rest) (sym says.0) h, λ first w. says.1 first (subst (λ s. SpellsWord s first) says.0 w))
 front_word text spelled rest h some none_here says = tt
 
 front_number : (text : List ℕ) → 0 < number_length text → FrontIs text (number text (number_length text))
 front_number text some =
     let found = taken text some in
-    let front : take (number_length text) text ≡ found.number = ap (take (number_length text)) found.cut ∙ take_at found.number found.rest (number_length text) found.size in
+    let front : take (number_length text) text ≡ found.number =
+    ap (take (number_length text)) found.cut ∙ take_at found.number found.rest (number_length text) found.size in
     let longest : IsLongestNumber text found.number found.rest = record {
       cut = found.cut;
       is_number = numeral_number found.numeral;
       longest = λ other after c h. omega (arith, longest_of (number_numeral h) after, ap number_length c, found.size);
-    } in
-    (found.rest, some, ap (drop (number_length text)) found.cut ∙ drop_at found.number found.rest (number_length text) found.size, subst (λ s. IsToken text (operand (leaf s)) found.rest) (sym front) (number_token longest))
+    } in (
+      found.rest,
+      some,
+      ap (drop (number_length text)) found.cut
+          ∙ drop_at found.number found.rest (number_length text) found.size,
+      subst (λ s. IsToken text (operand (leaf s)) found.rest) (sym front)
+          (number_token longest),
+    )
 
 other_is : (b : ℕ) (text : List ℕ) → FrontIs (b ∷ text) (other (b ∷ text))
 other_is b text = go (cases_Bool (b == 34)) (cases_Bool (b == 123)) (cases_Bool (b == 36 || b == 91))
   where
-    go : ((b == 34) ≡ true) ⊎ ((b == 34) ≡ false) → ((b == 123) ≡ true) ⊎ ((b == 123) ≡ false) → ((b == 36 || b == 91) ≡ true) ⊎ ((b == 36 || b == 91) ≡ false) → FrontIs (b ∷ text) (other (b ∷ text))
-    go (inl e) f g = rw (e, other) (front_operand (b ∷ text) (quoted text) (subst (λ c. TokenIs (c ∷ text) (quoted text)) (sym (eqb-true b 34 e)) (quoted_is text)))
-    go (inr e) (inl f) g = rw (e, other, f) (front_operand (b ∷ text) (in_braces text) (subst (λ c. TokenIs (c ∷ text) (in_braces text)) (sym (eqb-true b 123 f)) (braces_is text)))
+    go : ((b == 34) ≡ true) ⊎ ((b == 34) ≡ false) → ((b == 123) ≡ true) ⊎ ((b == 123) ≡ false) →
+        ((b == 36 || b == 91) ≡ true) ⊎ ((b == 36 || b == 91) ≡ false) → FrontIs (b ∷ text) (other (b ∷ text))
+    go (inl e) f g =
+        rw (e, other) (front_operand (b ∷ text) (quoted text) (subst (λ c. TokenIs (c ∷ text) (quoted text)) (sym (eqb-true b 34 e)) (quoted_is text)))
+    go (inr e) (inl f) g =
+        rw (e, other, f)
+        (front_operand (b ∷ text) (in_braces text) (subst (λ c. TokenIs (c ∷ text) (in_braces text)) (sym (eqb-true b 123 f)) (braces_is text)))
     go (inr e) (inr f) (inl g) = rw (e, other, f, g) (front_operand (b ∷ text) (substituted b text) (substituted_is b text (either g)))
       where
         either : (b == 36 || b == 91) ≡ true → (b ≡ 36) ⊎ (b ≡ 91)
@@ -189,11 +224,13 @@ word_long {spelled = spelled} h = go spelled h.first
 pub token_is : (b : ℕ) (text : List ℕ) → FrontIs (b ∷ text) (token b text)
 token_is b text = go (cases_Bool (begins_word b)) (cases_Bool (nat_lt 0 (number_length (b ∷ text))))
   where
-    go : (begins_word b ≡ true) ⊎ (begins_word b ≡ false) → (nat_lt 0 (number_length (b ∷ text)) ≡ true) ⊎ (nat_lt 0 (number_length (b ∷ text)) ≡ false) → FrontIs (b ∷ text) (token b text)
+    go : (begins_word b ≡ true) ⊎ (begins_word b ≡ false) → (nat_lt 0 (number_length (b ∷ text)) ≡ true) ⊎ (nat_lt 0 (number_length (b ∷ text)) ≡ false) →
+        FrontIs (b ∷ text) (token b text)
     go (inl e) f =
         let here = word_is b text e in
         let spelled = take (prefix_len is_word_byte (b ∷ text)) (b ∷ text) in
-        subst (FrontIs (b ∷ text)) (sym (token-word b text e ∙ word_cut (b ∷ text) spelled _ here)) (front_word (b ∷ text) spelled _ here (word_long here) (bare_word spelled (length spelled)) (word_says spelled (length spelled)))
+        subst (FrontIs (b ∷ text)) (sym (token-word b text e ∙ word_cut (b ∷ text) spelled _ here))
+        (front_word (b ∷ text) spelled _ here (word_long here) (bare_word spelled (length spelled)) (word_says spelled (length spelled)))
     go (inr e) (inl f) = subst (FrontIs (b ∷ text)) (sym (token-number b text e f)) (front_number (b ∷ text) (ltb-true 0 (number_length (b ∷ text)) f))
     go (inr e) (inr f) = subst (FrontIs (b ∷ text)) (sym (token-other b text e f)) (other_is b text)
 
@@ -232,7 +269,8 @@ unsaid spelled n nothing = go (bare_word spelled n) refl (word_says spelled n)
     go (refused other) e says = let s : WordSays spelled n (refused other) = subst (WordSays spelled n) e says in e ∙ ap refused s.0
     go none_here e says = absurd (subst (WordSays spelled n) e says)
 
-refused_here : (text spelled rest : List ℕ) → IsBareWord text spelled rest → ((first : PlainToken) → SpellsWord spelled first → ⊥) → tokens 0 text ≡ refused_word spelled
+refused_here : (text spelled rest : List ℕ) → IsBareWord text spelled rest → ((first : PlainToken) → SpellsWord spelled first → ⊥) →
+    tokens 0 text ≡ refused_word spelled
 refused_here [] spelled rest h nothing = absurd (omega (arith, word_long h, ap length h.cut, length-append spelled rest))
 refused_here (b ∷ text) spelled rest h nothing =
     let here = word_at b text spelled rest h in
@@ -272,9 +310,13 @@ nothing_at b text e f = record {
 tokens_has : (size : ℕ) (text : List ℕ) → length text ≤ size → HasTokens text (tokens 0 text)
 tokens_has size [] low = subst (HasTokens []) (sym tokens_end) at_end
 tokens_has zero (b ∷ text) low = absurd (omega (arith, low))
-tokens_has (suc size) (b ∷ text) low = go (cases_Bool (is_white_space b)) (token b text) refl (token_is b text) (tokens_has size text (omega (arith, low))) (λ n some. tokens_has size (drop n (b ∷ text)) (omega (arith, low, some, length-drop n (b ∷ text))))
+tokens_has (suc size) (b ∷ text) low =
+    go (cases_Bool (is_white_space b)) (token b text) refl (token_is b text) (tokens_has size text (omega (arith, low)))
+    (λ n some. tokens_has size (drop n (b ∷ text)) (omega (arith, low, some, length-drop n (b ∷ text))))
   where
-    go : (is_white_space b ≡ true) ⊎ (is_white_space b ≡ false) → (cut : Cut) → token b text ≡ cut → FrontIs (b ∷ text) (token b text) → HasTokens text (tokens 0 text) → ((n : ℕ) → 0 < n → HasTokens (drop n (b ∷ text)) (tokens 0 (drop n (b ∷ text)))) → HasTokens (b ∷ text) (tokens 0 (b ∷ text))
+    go : (is_white_space b ≡ true) ⊎ (is_white_space b ≡ false) → (cut : Cut) → token b text ≡ cut → FrontIs (b ∷ text) (token b text) →
+        HasTokens text (tokens 0 text) → ((n : ℕ) → 0 < n → HasTokens (drop n (b ∷ text)) (tokens 0 (drop n (b ∷ text)))) →
+        HasTokens (b ∷ text) (tokens 0 (b ∷ text))
     go (inl e) cut f h next later = subst (HasTokens (b ∷ text)) (sym (tokens-white b text e)) (after_white_space e next)
     go (inr e) (one first n) f h next later =
         let front : FrontIs (b ∷ text) (one first n) = subst (FrontIs (b ∷ text)) f h in

@@ -63,7 +63,7 @@ needed op (Err number.NotWhole) = Err (NotNumeric op)
 needed op (Err number.TooLarge) = Err TooLarge
 needed op (Err number.Float) = Err Float
 
--- what an operand is read as, where it has to be a whole number (expr(n), Operands)
+-- what an operand is read as, if it has to be a whole number (expr(n), Operands)
 unfoldable pub whole_operand : Op → List ℕ → Result ℤ Refusal
 whole_operand op text = needed op (whole_of text)
 
@@ -144,7 +144,7 @@ compared (Err number.Float) = Err Float
 unfoldable pub comparand : List ℕ → Result (Option ℤ) Refusal
 comparand text = compared (whole_of text)
 
--- as numbers where both are whole, else as texts
+-- as numbers if both are whole, else as texts
 abbrev pub order_by : Option ℤ → Option ℤ → Ordering → Ordering
 order_by (Some a) (Some b) texts = int_cmp a b
 order_by (Some a) None texts = texts

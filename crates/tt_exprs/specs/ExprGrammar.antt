@@ -34,7 +34,7 @@ mutual
         IsOperand ts expr depth →
         IsOperand (operator sign ∷ ts) (node op (more expr none)) (suc depth)
 
-  -- what stands in the parentheses of a function: one expression, or some between commas where it takes more
+  -- what stands in the parentheses of a function: one expression, or some between commas if it takes more
   pub data IsArguments : Op → List PlainToken → PlainExprs → ℕ → Type 0 where
     -- the last one
     last_argument :
@@ -92,19 +92,19 @@ IsExpr ts expr depth = IsAtLevel 0 ts expr depth
 
 -- ---- what the grammar and the function that makes the tree have to do with one another ----
 
--- a tree is made exactly where the grammar has it and it is nested no deeper than it may be
+-- a tree is made exactly if the grammar has it and it is nested no deeper than it may be
 abbrev pub TreeLaw : Type 0
 TreeLaw =
     (ts : List PlainToken) (expr : PlainExpr) →
     (tree_of ts ≡ good expr) ↔ ((depth : ℕ) × IsExpr ts expr depth × (depth ≤ most_nested))
 
--- the nesting is at fault exactly where the grammar has a tree that is nested deeper
+-- the nesting is at fault exactly if the grammar has a tree that is nested deeper
 abbrev pub DepthLaw : Type 0
 DepthLaw =
     (ts : List PlainToken) →
     (tree_of ts ≡ nested_too_deeply) ↔ ((expr : PlainExpr) × (depth : ℕ) × IsExpr ts expr depth × (most_nested < depth))
 
--- the form is at fault exactly where the grammar has no tree
+-- the form is at fault exactly if the grammar has no tree
 abbrev pub FormLaw : Type 0
 FormLaw =
     (ts : List PlainToken) →

@@ -29,7 +29,7 @@ abbrev pub parenthesized : PlainValue → PlainValue
 parenthesized (nested expr depth) = around expr depth
 parenthesized too_deep = too_deep
 
--- operands in a row, with how deeply the deepest is nested, or a row where one is nested too deeply
+-- operands in a row, with how deeply the deepest is nested, or a row if one is nested too deeply
 pub data PlainRow : Type 0 where
   row : List PlainExpr → ℕ → PlainRow
   too_deep_row : PlainRow
@@ -132,7 +132,7 @@ abbrev pub prefixed : List PlainPending → Option Op → PlainState
 prefixed pending (Some op) = wants_after (unary op) pending
 prefixed pending None = wrong
 
--- a token where an operand is wanted
+-- a token if an operand is wanted
 abbrev pub at_operand : List PlainPending → PlainToken → PlainState
 at_operand pending (operand expr) = has (record { pending = pending; value = nested expr 0 })
 at_operand pending (operator op) = prefixed pending (as_prefix op)
@@ -155,7 +155,7 @@ with_left op value = binary op value
 abbrev pub wants_right : Op → PlainWaiting → PlainState
 wants_right op left = wants_after (with_left op left.value) left.pending
 
--- an operator after an operand, where its left operand binds at this level at least
+-- an operator after an operand, if its left operand binds at this level at least
 abbrev pub operated : Op → Option ℕ → PlainWaiting → PlainState
 operated op None waiting = wrong
 operated op (Some bound) waiting = wants_right op (gathered bound waiting.pending waiting.value)

@@ -14,7 +14,7 @@ TokenLaw = (text : List ℕ) (found : Tokens) → (tokens 0 text ≡ found) ↔ 
 abbrev pub SpellsTree : List ℕ → PlainExpr → ℕ → Type 0
 SpellsTree text expr depth = (ts : List PlainToken) × HasTokens text (read ts) × IsExpr ts expr depth
 
--- a text has a tree exactly where its tokens spell one that is nested no deeper than may be, and that one
+-- a text has a tree exactly if its tokens spell one that is nested no deeper than may be, and that one
 abbrev pub TextTreeLaw : Type 0
 TextTreeLaw =
     (text : List ℕ) (expr : PlainExpr) →
@@ -24,7 +24,7 @@ TextTreeLaw =
 pub record TextErrorLaw : Type 0 where
   -- the first bare word that says nothing
   pub bareword : (text word : List ℕ) → HasTokens text (refused_word word) → parse text ≡ bad (bareword_error word)
-  -- where no token begins
+  -- if no token begins
   pub stop : (text : List ℕ) → HasTokens text stopped → parse text ≡ bad (syntax_error text)
   -- tokens that spell no tree
   pub form :

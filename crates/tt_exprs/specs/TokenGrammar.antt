@@ -123,7 +123,7 @@ pub data IsToken : List ℕ → PlainToken → List ℕ → Type 0 where
       IsOuterPart (b ∷ text) part rest →
       IsToken (b ∷ text) (operand (words (more part none))) rest
 
--- no token and no bare word begins here, where no white space stands
+-- no token and no bare word begins here, if no white space stands
 pub record BeginsNothing (text : List ℕ) : Type 0 where
   pub some : text ≢ []
   pub no_white_space : first_is is_white_space text ≡ false

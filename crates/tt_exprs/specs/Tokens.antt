@@ -77,7 +77,7 @@ bare_word word n =
 abbrev pub run : ℕ → List ℕ → ℕ
 run base text = prefix_len (λ b. is_digit b base) text
 
--- how many bytes these digits take with what is before them, or 0 where there are none
+-- how many bytes these digits take with what is before them, or 0 if there are none
 abbrev pub with_digits : ℕ → ℕ → ℕ
 with_digits n digits = elim (nat_lt 0 digits) [ true ↦ n + digits | false ↦ 0 ]
 
@@ -113,7 +113,7 @@ decimal n text = elim (begins 48 text) [ true ↦ run 8 text | false ↦ n ]
 abbrev pub longer : ℕ → ℕ → List ℕ → ℕ
 longer n end text = elim (nat_lt n end) [ true ↦ end | false ↦ decimal n text ]
 
--- the same, where its digits and its fraction take m bytes
+-- the same, if its digits and its fraction take m bytes
 abbrev pub scaled : ℕ → ℕ → List ℕ → ℕ
 scaled n m text =
     elim (m == 0) [

@@ -27,7 +27,7 @@ use tt_text::{NoMemory, Text};
 /// There are as many operands as it has, for `Max` and `Min` one or more; `And`, `Or` and `Choose`, which
 /// evaluate only what they need, are none of its operators. Operands are tested from the left. The
 /// outcome is `Fine` with a whole number in decimal, 1 or 0 from a test; or it is `Failed` with its
-/// message, which is also its trace, where
+/// message, which is also its trace, if
 ///
 /// - arithmetic has an operand that is no number, is a floating-point number or lies past 64 bits, or has
 ///   a result past 64 bits, a divisor of 0, a negative shift or 0 to a negative power;
@@ -35,7 +35,7 @@ use tt_text::{NoMemory, Text};
 /// - `!` has an operand that is neither a whole number nor a boolean word;
 /// - `in` or `ni` has a right operand that is no list.
 ///
-/// `NoMemory` where the memory for the outcome or for the items of a list is refused.
+/// `NoMemory` if the memory for the outcome or for the items of a list is refused.
 pub fn apply(alloc: Global, op: Op, operands: &[Text]) -> Result<Outcome, NoMemory>
     requires eager { IsFalse (is_lazy op) }
     requires count { IsTrue (takes op (length operands.now)) }

@@ -87,7 +87,7 @@ fn has(state: &mut State, value: Value) -> Result<(), NoMemory>
     Ok(())
 }
 
-/// A token where an operand is wanted.
+/// A token if an operand is wanted.
 #[inline(always)]
 fn at_operand(state: &mut State, token: Token) -> Result<(), NoMemory>
     ensures { OnOk result

@@ -22,7 +22,7 @@ fn run(base: u32, text: &[u8]) -> usize
     n
 }
 
-/// How many bytes these digits take with what is before them, or 0 where there are none.
+/// How many bytes these digits take with what is before them, or 0 if there are none.
 fn with_digits(before: usize, digits: usize) -> usize
     requires { before + digits ≤ usize.MAX }
     ensures { result ≡ tokens.with_digits before digits }
@@ -125,7 +125,7 @@ fn marked(text: &[u8]) -> usize
     }
 }
 
-/// How many bytes the longest number at the front takes, or 0 where there is none.
+/// How many bytes the longest number at the front takes, or 0 if there is none.
 pub(crate) fn number_length(text: &[u8]) -> usize
     ensures count { result ≡ tokens.number_length text.now }
     ensures within { result ≤ length text.now }

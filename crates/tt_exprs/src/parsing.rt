@@ -68,11 +68,11 @@ fn reading_answer(alloc: Global, text: &[u8], reading: Reading) -> Result<Parsed
 /// Reads a text as an expression, as expr(n) says: its operands are the leaves of a tree, and its
 /// operators and functions the nodes, which bind by the table of precedence.
 ///
-/// `Bad` with the message `invalid bareword "WORD"` where a bare word is no boolean word, operator or
-/// function; else `syntax error in expression "TEXT"` where the text has no tree; else `expression
-/// nested too deeply` where operators, functions and parentheses are nested more than 1,000 deep.
+/// `Bad` with the message `invalid bareword "WORD"` if a bare word is no boolean word, operator or
+/// function; else `syntax error in expression "TEXT"` if the text has no tree; else `expression
+/// nested too deeply` if operators, functions and parentheses are nested more than 1,000 deep.
 ///
-/// `NoMemory` where the memory for the answer is refused.
+/// `NoMemory` if the memory for the answer is refused.
 pub fn parse(alloc: Global, text: &[u8]) -> Result<Parsed, NoMemory>
     ensures exact { IfOk result (λ parsed. plain_parsed parsed ≡ parsing.parse text.now) }
 {

@@ -8,7 +8,8 @@ use Rattle.std.proofs.lemmas.List.Sums.{take_while-cons}
 use Rattle.tt_number.specs.Numerals.{all_digits}
 use Rattle.tt_format.specs.Specifiers.{decimal_digits}
 
-all_cases : (p : ℕ → Bool) (x : ℕ) (xs : List ℕ) (v : Bool) → p x ≡ v → list_all p (take_while p xs) ≡ true → list_all p (cond v (x ∷ take_while p xs) []) ≡ true
+all_cases : (p : ℕ → Bool) (x : ℕ) (xs : List ℕ) (v : Bool) → p x ≡ v → list_all p (take_while p xs) ≡ true →
+    list_all p (cond v (x ∷ take_while p xs) []) ≡ true
 all_cases p x xs true e h = rw (e, h) refl
 all_cases p x xs false e h = refl
 

@@ -1,5 +1,6 @@
 -- Fields at a width that is cut at 64 bits.
-use Rattle.std.proofs.Common.{◌≡◌, ℕ, ◌+◌, ◌<◌, ◌≤◌, true, false, List, [], ◌++◌, length, take, replicate, sym, ap, subst, ◌∙◌, arith, length-append, append-nil}
+use Rattle.std.proofs.Common.{◌≡◌, ℕ, ◌+◌, ◌<◌, ◌≤◌, true, false, List, [], ◌++◌, length, take, replicate, sym, ap}
+use Rattle.std.proofs.Common.{subst, ◌∙◌, arith, length-append, append-nil}
 use Rattle.std.proofs.lemmas.List.{length-replicate}
 use Rattle.tt_strings.proofs.Ranges.{no_more_characters}
 use Rattle.tt_format.specs.Fields.{is_letter, letters}
@@ -14,11 +15,29 @@ use Rattle.tt_format.proofs.DigitRuns.{taken}
 -- how long a field is
 pub layout_length : (fill : Fill) (width : ℕ) (sign body : List ℕ) → length (layout fill width sign body) ≡ length sign + length body + missing width sign body
 layout_length SpacesAfter width sign body =
-    omega (arith, length-append (sign ++ body) (replicate (missing width sign body) 32), length-append sign body, length-replicate {A = ℕ} (missing width sign body) 32)
+    omega (
+      arith,
+      length-append (sign ++ body) (replicate (missing width sign body) 32),
+      length-append sign body,
+      length-replicate {A = ℕ}
+          (missing width sign body) 32,
+    )
 layout_length Zeros width sign body =
-    omega (arith, length-append (sign ++ replicate (missing width sign body) 48) body, length-append sign (replicate (missing width sign body) 48), length-replicate {A = ℕ} (missing width sign body) 48)
+    omega (
+      arith,
+      length-append (sign ++ replicate (missing width sign body) 48) body,
+      length-append sign
+          (replicate (missing width sign body) 48),
+      length-replicate {A = ℕ} (missing width sign body) 48,
+    )
 layout_length SpacesBefore width sign body =
-    omega (arith, length-append (replicate (missing width sign body) 32 ++ sign) body, length-append (replicate (missing width sign body) 32) sign, length-replicate {A = ℕ} (missing width sign body) 32)
+    omega (
+      arith,
+      length-append (replicate (missing width sign body) 32 ++ sign) body,
+      length-append
+          (replicate (missing width sign body) 32) sign,
+      length-replicate {A = ℕ} (missing width sign body) 32,
+    )
 
 -- a width that fits was not cut
 width_kept : (fill : Fill) (width : ℕ) (before sign body : List ℕ) → length (before ++ layout fill (capped width) sign body) ≤ longest → capped width ≡ width
@@ -26,7 +45,8 @@ width_kept fill width before sign body short =
     omega (arith, short, length-append before (layout fill (capped width) sign body), layout_length fill (capped width) sign body, no_more_characters body)
 
 -- a field that was printed is the field
-pub field_printed : (field : Field) (bytes before after : List ℕ) → IsField field bytes → IsPrinted true before after (layout field.fill field.width field.sign.now field.body)
+pub field_printed : (field : Field) (bytes before after : List ℕ) → IsField field bytes →
+    IsPrinted true before after (layout field.fill field.width field.sign.now field.body)
     → (after ≡ before ++ bytes) × (length (before ++ bytes) ≤ longest)
 field_printed field bytes before after f h =
     let cut : layout field.fill field.width field.sign.now field.body ≡ layout field.fill (capped f.width) field.sign.now field.body =
@@ -38,7 +58,8 @@ field_printed field bytes before after f h =
     (h.0 ∙ ap (λ l. before ++ l) same, subst P (h.0 ∙ ap (λ l. before ++ l) same) h.1)
 
 -- a field that is too long was too long at its own width
-pub field_too_long : (field : Field) (bytes before after : List ℕ) → IsField field bytes → IsPrinted false before after (layout field.fill field.width field.sign.now field.body)
+pub field_too_long : (field : Field) (bytes before after : List ℕ) → IsField field bytes →
+    IsPrinted false before after (layout field.fill field.width field.sign.now field.body)
     → longest < length (before ++ bytes)
 field_too_long field bytes before after f h =
     let long : length bytes ≡ length field.sign.now + length field.body + missing f.width field.sign.now field.body =
@@ -54,7 +75,8 @@ field_too_long field bytes before after f h =
     )
 
 -- letters are a field without a width
-pub letters_field : (template front body : List ℕ) (n : ℕ) → n ≡ length (letters template) → front ≡ take n template → body ≡ front → letters template ≡ layout SpacesAfter 0 [] body
+pub letters_field : (template front body : List ℕ) (n : ℕ) → n ≡ length (letters template) → front ≡ take n template → body ≡ front →
+    letters template ≡ layout SpacesAfter 0 [] body
 letters_field template front body n e f g =
     let none : missing 0 [] body ≡ 0 = omega arith in
     let same : body ≡ letters template = g ∙ f ∙ ap (λ k. take k template) e ∙ taken is_letter template in

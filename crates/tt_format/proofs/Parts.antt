@@ -11,7 +11,8 @@ pub record IsPrinting (field : Field) (rest : List ℕ) (later : List (List ℕ)
   pub piece_is : p ≡ Printed bytes rest later
   pub field_is : IsField field bytes
 
-pub printing : (field : Field) (rest : Bor (List ℕ)) (later : Bor (List (List ℕ))) (p : Piece) → IsPart (Prints field rest later) p → IsPrinting field rest.now later.now p
+pub printing : (field : Field) (rest : Bor (List ℕ)) (later : Bor (List (List ℕ))) (p : Piece) → IsPart (Prints field rest later) p →
+    IsPrinting field rest.now later.now p
 printing field rest later (Printed bytes template values) h =
     record { bytes = bytes; piece_is = ap₂ (λ t v. Printed bytes t v) (sym h.1) (sym h.2); field_is = h.0 }
 printing field rest later (Refused told) h = absurd h

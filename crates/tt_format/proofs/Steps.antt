@@ -17,7 +17,8 @@ use Rattle.tt_format.proofs.Parts.{printing, refusing}
 abbrev pub HasPrinted : Bool → Field → List ℕ → List ℕ → Type 0
 HasPrinted fits field before after = IsPrinted fits before after (layout field.fill field.width field.sign.now field.body)
 
-pub printed_on : (before left after : List ℕ) (later : List (List ℕ)) (field : Field) (rest : Bor (List ℕ)) (values : Bor (List (List ℕ))) (fits : Bool) → 0 < length left
+pub printed_on : (before left after : List ℕ) (later : List (List ℕ)) (field : Field) (rest : Bor (List ℕ)) (values : Bor (List (List ℕ)))
+    (fits : Bool) → 0 < length left
     → IsPart (Prints field rest values) (piece left later) → fits ≡ true → HasPrinted fits field before after → (answer : Formatted)
     → IsFormatted after rest.now values.now answer → IsFormatted before left later answer
 printed_on before left after later field rest values fits some part e h answer more =
@@ -30,7 +31,8 @@ printed_on before left after later field rest values fits some part e h answer m
 pub printed_short : (before after : List ℕ) (field : Field) (fits : Bool) → fits ≡ true → HasPrinted fits field before after → length after ≤ longest
 printed_short before after field fits e h = let P : Bool → Type 0 = λ b. HasPrinted b field before after in (subst P e h).1
 
-pub too_long_on : (before left after message : List ℕ) (later : List (List ℕ)) (field : Field) (rest : Bor (List ℕ)) (values : Bor (List (List ℕ))) (fits : Bool) → 0 < length left
+pub too_long_on : (before left after message : List ℕ) (later : List (List ℕ)) (field : Field) (rest : Bor (List ℕ)) (values : Bor (List (List ℕ)))
+    (fits : Bool) → 0 < length left
     → IsPart (Prints field rest values) (piece left later) → fits ≡ false → HasPrinted fits field before after → message ≡ codes "result too long"
     → IsFormatted before left later (Bad message)
 too_long_on before left after message later field rest values fits some part e h told =
@@ -39,7 +41,8 @@ too_long_on before left after message later field rest values fits some part e h
     let Q : List ℕ → Type 0 = λ m. IsFormatted before left later (Bad m) in
     subst Q (sym told) (too_long some p.piece_is (field_too_long field p.bytes before after p.field_is (subst P e h)))
 
-pub refused_on : (before left message : List ℕ) (later : List (List ℕ)) → 0 < length left → IsPart (Refuses message) (piece left later) → IsFormatted before left later (Bad message)
+pub refused_on : (before left message : List ℕ) (later : List (List ℕ)) → 0 < length left → IsPart (Refuses message) (piece left later) →
+    IsFormatted before left later (Bad message)
 refused_on before left message later some part = refused some (refusing message (piece left later) part)
 
 pub ended_on : (before left text : List ℕ) (later : List (List ℕ)) → length left < 1 → text ≡ before → IsFormatted before left later (Made text)

@@ -70,7 +70,7 @@ of_kind Percent s left width rest values = percent_piece left width rest values
 abbrev pub is_out_of_place : Option ℕ → ℕ → Bool
 is_out_of_place most letter = is_some most && not (letter == 115)
 
--- a letter is looked up, and is refused where no field has it
+-- a letter is looked up, and is refused if no field has it
 abbrev pub looked_up : Option Kind → List ℕ → Specifier → (left : Bool) (width : ℕ) → List ℕ → List (List ℕ) → Piece
 looked_up (Some kind) text s left width rest values = of_kind kind s left width rest values
 looked_up None text s left width rest values = Refused (bad_specifier (slice_index_or (characters text) 0 []))
@@ -86,7 +86,7 @@ abbrev pub is_negative : ℤ → Bool
 is_negative (pos n) = false
 is_negative (negsuc n) = true
 
--- a field by its specifier; a width that a value tells is first, and a negative one stands for the flag `-`
+-- a field by its specifier; a width that a value gives is first, and a negative one stands for the flag `-`
 abbrev pub by_width : Option ℕ → Specifier → List (List ℕ) → Piece
 by_width (Some width) s values = by_letter s.rest s (has_flag 45 s.flags) width values
 by_width None s values =

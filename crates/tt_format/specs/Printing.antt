@@ -55,7 +55,7 @@ sign Capitals flags n = []
 sign Octal flags n = []
 sign Binary flags n = []
 
--- the code point of a number; U+FFFD where it is none
+-- the code point of a number; U+FFFD if it is none
 abbrev pub code_point : ℤ → ℕ
 code_point (pos n) = if nat_le n 0x10FFFF then n else 0xFFFD
 code_point (negsuc n) = 0xFFFD

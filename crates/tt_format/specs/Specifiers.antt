@@ -21,7 +21,7 @@ decimal_digits text = take_while (λ b. is_digit b 10) text
 abbrev pub after_digits : List ℕ → List ℕ
 after_digits text = drop (length (decimal_digits text)) text
 
--- the least width of a field: digits tell it, or none where it is a value's, for which `*` stands
+-- the least width of a field: digits give it, or none if it is a value's, for which `*` stands
 abbrev pub width : List ℕ → Option ℕ
 width [] = Some 0
 width (b ∷ text) = if b == 42 then None else Some (digit_sum 10 (decimal_digits (b ∷ text)))
@@ -30,7 +30,7 @@ abbrev pub after_width : List ℕ → List ℕ
 after_width [] = []
 after_width (b ∷ text) = if b == 42 then text else after_digits (b ∷ text)
 
--- how many characters of a value are printed at most, if `.` and digits tell it
+-- how many characters of a value are printed at most, if `.` and digits give it
 abbrev pub most : List ℕ → Option ℕ
 most [] = None
 most (b ∷ text) = if b == 46 then Some (digit_sum 10 (decimal_digits text)) else None

@@ -36,11 +36,11 @@ struct Asked<'a> {
     most: Option<u64>,
 }
 
-/// The number that the next value tells, and the values after it.
+/// The number that the next value gives, and the values after it.
 #[derive(Debug, Drop)]
 pub(crate) enum Given<'a> {
     Number(i64, &'a [Text]),
-    /// The message of why it tells none.
+    /// The message of why it gives none.
     Fails(Text),
 }
 
@@ -259,7 +259,7 @@ fn is_out_of_place(most: Option<u64>, letter: u8) -> bool
     most.is_some() && letter != b's'
 }
 
-// A field of the width that its digits tell.
+// A field of the width that its digits give.
 fn by_width<'a>(
     alloc: Global,
     read: Specifier<'a>,
@@ -281,7 +281,7 @@ fn by_width<'a>(
     Ok(part)
 }
 
-// A field of the width that a value tells.
+// A field of the width that a value gives.
 fn by_given_width<'a>(
     alloc: Global,
     read: Specifier<'a>,

@@ -12,7 +12,7 @@ use tt_number::digits_of;
 #[derive(Clone, Copy, Debug)]
 pub(crate) struct Specifier<'a> {
     pub flags: &'a [u8],
-    /// The least width; `None` if a value tells it.
+    /// The least width; `None` if a value gives it.
     pub width: Option<u64>,
     /// How many characters are printed at most.
     pub most: Option<u64>,

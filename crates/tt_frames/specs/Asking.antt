@@ -23,7 +23,7 @@ use Rattle.tt_text.specs.Characters.{characters}
 use Rattle.tt_outcomes.specs.declared.got.Got.{Got}
 use Rattle.tt_outcomes.specs.declared.got.Got.TheVariants as got
 use Rattle.tt_outcomes.specs.declared.want.Want.TheVariants.{Ask, Watch}
-use Rattle.tt_frames.specs.Vocabulary.{OnEnding, Then, passed, stored}
+use Rattle.tt_frames.specs.Vocabulary.{OnEnding, Then, passed, variable_result}
 use Rattle.tt_frames.specs.declared.job.Awaits.{Awaits}
 use Rattle.tt_frames.specs.declared.job.Awaits.TheVariants as awaits
 use Rattle.tt_frames.specs.declared.job.Hold.TheVariants as hold
@@ -50,16 +50,16 @@ answer reply = fine []
 -- a reply that a variable gets, with the command's answer: of gets(n) how many characters, or -1 at the end; of
 -- tsv::get whether there is one; of tpool::cancel the jobs that are removed
 abbrev pub kept_in : (name : List ℕ) → Reply → Then
-kept_in name (reply.Line line) = stored (Some name) line (decimal (length (characters line)))
-kept_in name reply.LineEnd = stored (Some name) [] (codes "-1")
-kept_in name (reply.Found true value) = stored (Some name) value (codes "1")
+kept_in name (reply.Line line) = variable_result (Some name) line (decimal (length (characters line)))
+kept_in name reply.LineEnd = variable_result (Some name) [] (codes "-1")
+kept_in name (reply.Found true value) = variable_result (Some name) value (codes "1")
 kept_in name (reply.Found false value) = passed (fine (codes "0"))
-kept_in name (reply.Lists removed left) = stored (Some name) left removed
+kept_in name (reply.Lists removed left) = variable_result (Some name) left removed
 kept_in name reply = passed (answer reply)
 
 -- the outcome of a post: a variable gets its value, and the answer is its code
 abbrev pub outcome_in : Option (List ℕ) → Reply → Then
-outcome_in (Some name) (reply.Answer outcome) = stored (Some name) outcome.value (number_of outcome.code)
+outcome_in (Some name) (reply.Answer outcome) = variable_result (Some name) outcome.value (number_of outcome.code)
 outcome_in variable reply = passed (answer reply)
 
 -- an answer, if it isn't refused
@@ -159,7 +159,7 @@ unknown (name ∷ words) = failed (invalid_name name)
 -- a send to oneself: without a variable its script's ending is the command's (thread(n), thread::send)
 abbrev pub sent : Option (List ℕ) → OnEnding
 sent None ending = passed ending
-sent (Some name) ending = stored (Some name) (text_of ending) (number_of (code_of ending))
+sent (Some name) ending = variable_result (Some name) (text_of ending) (number_of (code_of ending))
 
 -- what the words of a command do by the tables
 abbrev pub called : Call → (words : List (List ℕ)) → Then

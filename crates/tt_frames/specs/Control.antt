@@ -11,7 +11,7 @@ use Rattle.tt_outcomes.specs.declared.ending.Ending.TheVariants.{Failed, Raised,
 use Rattle.tt_evaluation.specs.Plans.{Calls, Goes}
 use Rattle.tt_trace.specs.Lines.{started_within}
 use Rattle.tt_frames.specs.Asking.{called}
-use Rattle.tt_frames.specs.Vocabulary.{OnEnding, Then, on_fine, on_truth, passed, stored, told}
+use Rattle.tt_frames.specs.Vocabulary.{OnEnding, Then, on_fine, on_truth, passed, variable_result, with_error_info}
 use Rattle.tt_frames.specs.declared.job.Job.TheVariants as job
 use Rattle.tt_frames.specs.declared.job.Loop.TheVariants as loop
 use Rattle.tt_frames.specs.declared.job.Purpose.TheVariants.{Condition, Value}
@@ -25,9 +25,9 @@ clauses (test ∷ body ∷ rest) = λ state.
 
 -- catch(n)
 abbrev pub caught : Option (List ℕ) → OnEnding
-caught variable (Failed fault) = told fault.trace.text (stored variable fault.message (codes "1"))
-caught variable (Raised fault) = told fault.trace.text (stored variable fault.message (codes "1"))
-caught variable ending = stored variable (text_of ending) (number_of (code_of ending))
+caught variable (Failed fault) = with_error_info fault.trace.text (variable_result variable fault.message (codes "1"))
+caught variable (Raised fault) = with_error_info fault.trace.text (variable_result variable fault.message (codes "1"))
+caught variable ending = variable_result variable (text_of ending) (number_of (code_of ending))
 
 -- error(n)
 abbrev pub raised : (message : List ℕ) → Option (List ℕ) → Ending

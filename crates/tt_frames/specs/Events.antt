@@ -1,5 +1,5 @@
--- Event loops: events are taken and served, one after the other (vwait(n), update(n), thread(n), thread::wait; tpool(n),
--- tpool::wait).
+-- Event loops: events are taken and served, one after the other (vwait(n), update(n), thread(n), thread::wait;
+-- tpool(n), tpool::wait).
 use Rattle.std.specs.Prelude.{ℕ, Bool, true, false, bytes_eq, if◌then◌else◌, List, [], codes, Option, Some, None}
 use Rattle.tt_calls.specs.declared.event.Event.{Event}
 use Rattle.tt_calls.specs.declared.event.Event.TheVariants as event
@@ -18,7 +18,7 @@ use Rattle.tt_outcomes.specs.declared.got.Got.TheVariants as got
 use Rattle.tt_outcomes.specs.declared.want.Body.TheVariants as body
 use Rattle.tt_outcomes.specs.declared.want.Want.TheVariants.{Ask, Enter, Leave, Seen, Unwatch}
 use Rattle.tt_frames.specs.Units.{past_limit, spending}
-use Rattle.tt_frames.specs.Vocabulary.{OnEnding, Then, ending_of, passed, setting, told}
+use Rattle.tt_frames.specs.Vocabulary.{OnEnding, Then, ending_of, passed, setting, with_error_info}
 use Rattle.tt_frames.specs.Waiting.{known, look_of}
 use Rattle.tt_frames.specs.declared.job.Job.TheVariants as job
 use Rattle.tt_frames.specs.declared.job.Until.{Until}
@@ -34,7 +34,7 @@ over until.Idle ending state = passed ending state
 over until.Stopped ending state = passed ending state
 over (until.Jobs wait) ending state = passed ending state
 
--- how it ends where the thread is to stop
+-- how it ends if the thread is to stop
 abbrev pub stopping : Until → Ending
 stopping until.Written = failed (codes "thread is stopping")
 stopping until.Idle = fine []
@@ -54,7 +54,7 @@ abbrev pub seen : OnEnding
 seen ending state =
     if bytes_eq (text_of ending) (codes "1") then over until.Written (fine []) state else unmet until.Written state
 
--- a round: first the goal is tested, where there is one to be tested
+-- a round: first the goal is tested, if there is one to be tested
 abbrev pub round : Until → Then
 round until.Written state = Asks Seen state (λ got. seen (ending_of got))
 round until.Idle state = unmet until.Idle state
@@ -79,7 +79,7 @@ abbrev pub post_of : Event → Option ℕ
 post_of (event.Script n script answer plain) = answered_post n answer
 post_of other = None
 
--- where there was no event the loop ends
+-- if there was no event the loop ends
 abbrev pub without_event : Until → Reply → Then
 without_event (until.Jobs wait) reply = known wait reply
 without_event goal reply = over goal (fine [])
@@ -128,10 +128,10 @@ abbrev pub result_handed : (n : ℕ) → (answer : Bool) → Ending → Then
 result_handed n true ending = handing (delivery n ending)
 result_handed n false ending = passed (fine [])
 
--- a script is served, and ended so; an error is told first
+-- a script is served, and ended so; an error is recorded first
 abbrev pub script_ended : (n : ℕ) → (answer plain : Bool) → OnEnding
 script_ended n answer plain (Failed fault) =
-    told fault.trace.text (handing (error_request n answer plain fault))
+    with_error_info fault.trace.text (handing (error_request n answer plain fault))
 script_ended n answer plain ending = result_handed n answer ending
 
 abbrev pub script_served : (n : ℕ) → (answer plain : Bool) → OnEnding

@@ -19,7 +19,7 @@ use Rattle.tt_frames.specs.Nesting.{left}
 use Rattle.tt_frames.specs.Programs.{PlainStep, end_of, start_of, steps_of}
 use Rattle.tt_frames.specs.Scripts.{commands, ended, needing, ran, running}
 use Rattle.tt_frames.specs.Starts.{finished, reporting}
-use Rattle.tt_frames.specs.Vocabulary.{OnEnding, Then, ending_of, on_fine, on_truth, passed, stored}
+use Rattle.tt_frames.specs.Vocabulary.{OnEnding, Then, ending_of, on_fine, on_truth, passed, variable_result}
 use Rattle.tt_frames.specs.Workers as workers
 use Rattle.tt_frames.specs.declared.job.Asking.{Asking}
 use Rattle.tt_frames.specs.declared.job.Asking.TheVariants as asking
@@ -112,7 +112,7 @@ on_got (asking.Runs command) got = ran (command_ended command) got
 on_got (asking.Paused command) got = command_needs command
 on_got (asking.Begins job) got = Goes job
 on_got (asking.Ends ending) got = passed ending
-on_got (asking.Caught variable message) got = stored variable message (codes "1")
+on_got (asking.Caught variable message) got = variable_result variable message (codes "1")
 on_got (asking.Replied awaits) got = on_reply (following awaits) got
 on_got (asking.Reported trace ending) got = reporting trace ending
 on_got asking.Seen got = events.seen (ending_of got)

@@ -25,7 +25,7 @@ is_over (While test body) = false
 is_over (For test next body) = false
 is_over (Foreach names values body) = is_empty values
 
--- a loop: the next turn, for which a unit is spent; there is none where foreach has no values left
+-- a loop: the next turn, for which a unit is spent; there is none if foreach has no values left
 abbrev pub looping : Loop → Then
 looping loop = if is_over loop then done else next_turn loop
 

@@ -27,7 +27,7 @@ needing finish quit (Script text go) state =
 needing finish quit (Refused message) state = quit (failed message) state
 needing finish quit (Values values) state = finish values state
 
--- what running a command's words comes to: the host does it, or tells a body, or it is one of the commands here
+-- what running a command's words comes to: the host does it, or names a body, or it is one of the commands here
 abbrev pub ran : (go : OnEnding) → Got → Then
 ran go (got.Value outcome) state = go (of_value outcome) state
 ran go (got.Own words) state = Calls None (job.Own words) state go

@@ -9,7 +9,7 @@ use Rattle.tt_outcomes.specs.declared.ending.Ending.{Ending}
 use Rattle.tt_outcomes.specs.declared.ending.Ending.TheVariants.{Failed}
 use Rattle.tt_evaluation.specs.Plans.{Asks, Calls}
 use Rattle.tt_outcomes.specs.declared.want.Want.TheVariants.{Ask}
-use Rattle.tt_frames.specs.Vocabulary.{OnEnding, Then, passed, told}
+use Rattle.tt_frames.specs.Vocabulary.{OnEnding, Then, passed, with_error_info}
 use Rattle.tt_frames.specs.Workers.{begins, worker_of}
 use Rattle.tt_frames.specs.declared.job.Job.TheVariants as job
 
@@ -20,9 +20,9 @@ report me trace = if me == 1 then WriteErr (trace ++ 10 ∷ []) else Report trac
 abbrev pub reporting : (trace : List ℕ) → Ending → Then
 reporting trace ending state = Asks (Ask (report state.me trace)) state (λ got. passed ending)
 
--- an error is told and reported
+-- an error is recorded and reported
 abbrev pub reported : OnEnding
-reported (Failed fault) = told fault.trace.text (reporting fault.trace.text (Failed fault))
+reported (Failed fault) = with_error_info fault.trace.text (reporting fault.trace.text (Failed fault))
 reported ending = passed ending
 
 -- how the script of a start ended

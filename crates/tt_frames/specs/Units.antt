@@ -29,7 +29,7 @@ spent state =
 abbrev pub past_limit : List ℕ
 past_limit = codes "unit limit reached"
 
--- a unit is spent, after a pause where a stretch is full; or there is none left
+-- a unit is spent, after a pause if a stretch is full; or there is none left
 abbrev pub by_unit : Unit → Counts → (go past : Then) → TclPlan
 by_unit Past state go past = past state
 by_unit Pauses state go past = Asks (Ask Pause) state (λ got st. go st)

@@ -58,11 +58,11 @@ abbrev pub stored_in : (name value result : List ℕ) → Then
 stored_in name value result state =
     Asks (setting name value) state (λ got. on_fine (λ old. passed (Fine result)) passed (ending_of got))
 
--- likewise, where there is a variable
-abbrev pub stored : Option (List ℕ) → (value result : List ℕ) → Then
-stored None value result = passed (Fine result)
-stored (Some name) value result = stored_in name value result
+-- likewise, if there is a variable
+abbrev pub variable_result : Option (List ℕ) → (value result : List ℕ) → Then
+variable_result None value result = passed (Fine result)
+variable_result (Some name) value result = stored_in name value result
 
--- errorInfo gets a trace; where it can't be written nothing changes (tclvars(n))
-abbrev pub told : (trace : List ℕ) → (go : Then) → Then
-told trace go state = Asks (WriteVar (codes "::errorInfo") None trace) state (λ got. go)
+-- errorInfo gets a trace; if it can't be written nothing changes (tclvars(n))
+abbrev pub with_error_info : (trace : List ℕ) → (go : Then) → Then
+with_error_info trace go state = Asks (WriteVar (codes "::errorInfo") None trace) state (λ got. go)

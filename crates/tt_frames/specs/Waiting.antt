@@ -5,7 +5,7 @@ use Rattle.tt_calls.specs.declared.reply.Reply.TheVariants.{Lists}
 use Rattle.tt_calls.specs.declared.request.Request.{Request}
 use Rattle.tt_calls.specs.declared.request.Request.TheVariants as ask
 use Rattle.tt_frames.specs.Asking.{answering}
-use Rattle.tt_frames.specs.Vocabulary.{Then, stored}
+use Rattle.tt_frames.specs.Vocabulary.{Then, variable_result}
 use Rattle.tt_frames.specs.declared.job.JobsWait.{JobsWait}
 
 -- what asks for the jobs that are done, or for an event
@@ -14,5 +14,5 @@ look_of wait = ask.Pool (Look wait.pool wait.jobs)
 
 -- the jobs that are done are the answer, and the variable gets those that are pending
 abbrev pub known : JobsWait → Reply → Then
-known wait (Lists done pending) = stored wait.variable pending done
+known wait (Lists done pending) = variable_result wait.variable pending done
 known wait reply = answering reply

@@ -11,7 +11,7 @@ use Rattle.tt_evaluation.specs.Plans.{Asks, Calls, Goes}
 use Rattle.tt_outcomes.specs.declared.got.Got.{Got}
 use Rattle.tt_outcomes.specs.declared.got.Got.TheVariants as got
 use Rattle.tt_outcomes.specs.declared.want.Want.TheVariants.{Ask}
-use Rattle.tt_frames.specs.Vocabulary.{OnEnding, Then, passed, told}
+use Rattle.tt_frames.specs.Vocabulary.{OnEnding, Then, passed, with_error_info}
 use Rattle.tt_frames.specs.declared.job.BegunJob.{BegunJob}
 use Rattle.tt_frames.specs.declared.job.Job.TheVariants as job
 use Rattle.tt_frames.specs.declared.job.Work.{Work}
@@ -24,9 +24,9 @@ reporting trace next state = Asks (Ask (ask.Report trace false)) state (λ got. 
 
 -- ---- the scripts of the pool ----
 
--- how the script for new workers, or the one for those that end, came out: an error is told and reported
+-- how the script for new workers, or the one for those that end, came out: an error is recorded and reported
 abbrev pub mentioned : Work → OnEnding
-mentioned next (Failed fault) = told fault.trace.text (reporting fault.trace.text next)
+mentioned next (Failed fault) = with_error_info fault.trace.text (reporting fault.trace.text next)
 mentioned next ending = Goes (job.Work next)
 
 abbrev pub aside : Work → OnEnding
@@ -60,9 +60,9 @@ handing_in begun ending state =
     Asks (Ask (ask.Pool (JobDone begun.worker.pool begun.number (outcome_of ending)))) state
     (λ got. after_job begun.worker (reported_trace begun.detached ending))
 
--- how the script of a job came out: an error is told
+-- how the script of a job came out: an error is recorded
 abbrev pub came_out : BegunJob → OnEnding
-came_out begun (Failed fault) = told fault.trace.text (handing_in begun (Failed fault))
+came_out begun (Failed fault) = with_error_info fault.trace.text (handing_in begun (Failed fault))
 came_out begun ending = handing_in begun ending
 
 abbrev pub job_ended : BegunJob → OnEnding

@@ -69,7 +69,8 @@ fn next_command(
 
 // A command that can't be read.
 fn wrong(alloc: Global, fault: ParseFault, start: usize, text: &[u8]) -> Result<Next, NoMemory>
-    ensures { IfOk result (λ move. move ≡ moves.Done (in_command text.now start (length text.now) (failed (parse_message fault)))) }
+    ensures { IfOk result (λ move.
+        move ≡ moves.Done (in_command text.now start (length text.now) (failed (parse_message fault)))) }
 {
     let ending = Ending::failed_with(alloc, fault.message())?;
     let ending = ending.in_command(text, start, text.len())?;

@@ -2,7 +2,7 @@
 ghost use Rattle.std.specs.Prelude.{IsFalse, ◌≡◌, IfOk, List, ℕ, codes};
 ghost use Rattle.tt_frames.specs.Control.{caught, clauses, controlled, is_other, own, raised};
 ghost use Rattle.tt_frames.specs.Frames.{after, on_got};
-ghost use Rattle.tt_frames.specs.Vocabulary.{on_truth, stored};
+ghost use Rattle.tt_frames.specs.Vocabulary.{on_truth, variable_result};
 ghost use Rattle.tt_frames.specs.declared.job.Job.TheVariants as jobs;
 ghost use Rattle.tt_frames.specs.declared.state.Counts.{Counts};
 ghost use Rattle.tt_evaluation.specs.Frames.{plan_of};
@@ -169,14 +169,14 @@ pub(crate) fn after_caught(
     }
 }
 
-/// The error that was caught is told.
+/// The error that was caught is recorded.
 pub(crate) fn store_caught(
     alloc: Global,
     variable: Option<Text>,
     message: Text,
 ) -> Result<Next, NoMemory>
     ensures { IfOk result (λ move. (state : Counts)
-        → stored variable message (codes "1") state ≡ plan_of after on_got move state) }
+        → variable_result variable message (codes "1") state ≡ plan_of after on_got move state) }
 {
     let number = Text::from_bytes(alloc, code_number(Code::Failed))?;
     let next = store(alloc, variable, message, number)?;

@@ -104,7 +104,7 @@ fn end(goal: Until, ending: Ending) -> Next
     }
 }
 
-// How a loop ends where the thread is to stop.
+// How a loop ends if the thread is to stop.
 fn stopping(alloc: Global, goal: &Until) -> Result<Ending, NoMemory>
     ensures { IfOk result (λ ending. ending ≡ events.stopping goal.now) }
 {

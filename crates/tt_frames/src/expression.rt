@@ -46,7 +46,7 @@ impl Expression {
 
     /// The code.
     ///
-    /// `NoMemory` where it can't be counted.
+    /// `NoMemory` if it can't be counted.
     pub(crate) fn code(&self) -> Result<Arc<Code>, NoMemory>
         ensures { IfOk result (λ code. needs_of (arc_value code) ≡ text_needs self.now) }
     {

@@ -157,7 +157,7 @@ pub enum Frame {
     Does(CommandFrame),
     /// An expression that needs a value.
     Expression(Purpose, Running),
-    /// The body of a test, and what comes where it is false (if(n)).
+    /// The body of a test, and what comes if it is false (if(n)).
     Clause(Text, Rest),
     /// The test of a loop.
     Test(Loop),
@@ -256,7 +256,7 @@ pub enum Asking {
     Sets(Text, Text),
     /// The global level, which is left after a variable was set there, with how that ended.
     Left(Ending),
-    /// The telling of the error of an event's script, and what it's told to next.
+    /// The recording of the error of an event's script, and to whom it is reported next.
     Told {
         n: u64,
         answer: bool,

@@ -1,5 +1,5 @@
-//! Code that is kept, so that a text that is evaluated again isn't read again. No contract rests on which code that is: it
-//! is taken only where its own text is the one that is evaluated.
+//! Code that is kept, so that a text that is evaluated again isn't read again. No contract rests on which code that is:
+//! it is taken only if its own text is the one that is evaluated.
 ghost use Rattle.std.specs.Prelude.{◌≡◌, IfOk, IfSome};
 ghost use Rattle.std.specs.Arc.{arc_value};
 ghost use Rattle.tt_code.specs.Code.{needs_of};
@@ -38,7 +38,7 @@ pub(crate) enum Made {
 impl Kept {
     /// Nothing is kept yet.
     ///
-    /// `NoMemory` where memory is refused.
+    /// `NoMemory` if memory is refused.
     pub(crate) fn new(alloc: Global) -> Result<Self, NoMemory> {
         let most = NonZeroUsize::new(MOST).ok_or(NoMemory)?;
         Ok(Kept {
@@ -50,7 +50,7 @@ impl Kept {
 
     /// A script, made into code.
     ///
-    /// `NoMemory` where memory is refused.
+    /// `NoMemory` if memory is refused.
     pub(crate) fn script(&mut self, text: Text) -> Result<Arc<Program>, NoMemory>
         ensures script { IfOk result (λ program. arc_value program ≡ text) }
     {
@@ -74,7 +74,7 @@ impl Kept {
 
     /// A text as an expression, made into code.
     ///
-    /// `NoMemory` where memory is refused.
+    /// `NoMemory` if memory is refused.
     pub(crate) fn expression(&mut self, text: Text) -> Result<Made, NoMemory>
         ensures expression { IfOk result (λ made. made_needs made ≡ text_needs text) }
     {

@@ -69,7 +69,7 @@ pub(crate) fn begin_turn(alloc: Global, turn: Loop) -> Result<Next, NoMemory>
     }
 }
 
-// The next name of a turn gets its value; where none is left the body begins.
+// The next name of a turn gets its value; if none is left the body begins.
 fn assign(
     alloc: Global,
     left: Rest,

@@ -1,6 +1,7 @@
 ghost use Rattle.std.specs.Prelude.{◌≡◌, ◌+◌, IfOk, OnOk, drop};
 ghost use Rattle.std.specs.Option.{option_map};
-ghost use Rattle.tt_frames.specs.Programs.{does, end_of, from_front, plain_step, plain_steps, read_from, start_of, steps_of};
+ghost use Rattle.tt_frames.specs.Programs.{does, end_of, from_front, plain_step, plain_steps, read_from, start_of};
+ghost use Rattle.tt_frames.specs.Programs.{steps_of};
 ghost use Rattle.tt_script.specs.Plain.{plain_command};
 
 use std::alloc::Global;
@@ -40,7 +41,7 @@ impl Model for Program {
 impl Program {
     /// A script, made into code.
     ///
-    /// `NoMemory` where memory for it is refused.
+    /// `NoMemory` if memory for it is refused.
     pub fn new(alloc: Global, text: Text) -> Result<Self, NoMemory>
         ensures text { IfOk result (λ program. program ≡ text) }
     {
@@ -58,7 +59,8 @@ impl Program {
     /// The command of this number, from 0 on; `None` exactly past the last.
     #[tactic(auto, using(crate::proofs::Fronts::dropped))]
     pub fn step(&self, at: usize) -> Option<&Step>
-        ensures step { drop at (steps_of self.now) ≡ from_front (option_map (λ step. plain_step step.now) result) (drop (at + 1) (steps_of self.now)) }
+        ensures step { drop at (steps_of self.now)
+            ≡ from_front (option_map (λ step. plain_step step.now) result) (drop (at + 1) (steps_of self.now)) }
     {
         self.steps.get(at)
     }
@@ -103,7 +105,8 @@ fn read_step(
     text: &[u8],
     next: Option<usize>,
 ) -> Result<Option<usize>, NoMemory>
-    ensures steps { OnOk result (plain_steps steps.new.items ≡ (read_from text.now (plain_steps steps.old.items) next).steps) }
+    ensures steps { OnOk result (plain_steps steps.new.items
+        ≡ (read_from text.now (plain_steps steps.old.items) next).steps) }
     ensures next { IfOk result (λ after. after ≡ (read_from text.now (plain_steps steps.old.items) next).next) }
 {
     let Some(from) = next else {

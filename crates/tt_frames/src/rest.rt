@@ -25,7 +25,7 @@ impl Model for Rest {
 impl Rest {
     /// All of the texts.
     ///
-    /// `NoMemory` where memory is refused.
+    /// `NoMemory` if memory is refused.
     pub fn new(alloc: Global, texts: Texts) -> Result<Self, NoMemory>
         ensures all { IfOk result (λ rest. rest ≡ texts) }
     {
@@ -35,9 +35,9 @@ impl Rest {
         })
     }
 
-    /// Takes the first that is left; `None` exactly where none is.
+    /// Takes the first that is left; `None` exactly if none is.
     ///
-    /// `NoMemory` where memory is refused; then nothing has changed.
+    /// `NoMemory` if memory is refused; then nothing has changed.
     pub fn take(&mut self) -> Result<Option<Text>, NoMemory>
         ensures taken { IfOk result (λ first. Takes first self.old self.new) }
     {
@@ -60,7 +60,7 @@ impl Rest {
 
     /// The same once more.
     ///
-    /// `NoMemory` where it can't be counted.
+    /// `NoMemory` if it can't be counted.
     pub fn copy(&self) -> Result<Self, NoMemory>
         ensures copied { IfOk result (λ rest. rest ≡ self.now) }
     {

@@ -80,7 +80,7 @@ fn hand_result(alloc: Global, n: u64, answer: bool, ending: Ending) -> Result<Ne
     }
 }
 
-/// The error of an event's script was told: it goes to its sender, or is reported.
+/// The error of an event's script was recorded: it goes to its sender, or is reported.
 pub(crate) fn after_told(
     alloc: Global,
     n: u64,
@@ -165,7 +165,8 @@ pub(crate) fn after_set(ending: Ending) -> Next
 
 /// The global level was left after a variable was set there: an error is reported.
 pub(crate) fn after_left(alloc: Global, ending: Ending) -> Result<Next, NoMemory>
-    ensures { IfOk result (λ move. (state : Counts) → events.set_reported ending state ≡ plan_of after on_got move state) }
+    ensures { IfOk result (λ move. (state : Counts) →
+        events.set_reported ending state ≡ plan_of after on_got move state) }
 {
     match ending {
         Ending::Failed(failure) => {

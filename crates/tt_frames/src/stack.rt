@@ -21,7 +21,7 @@ pub type Stack = tt_evaluation::Stack<State, Frame, Asking>;
 
 /// The stack of a thread of this number that begins so and may spend so many units, and where it halts first.
 ///
-/// `NoMemory` where memory is refused.
+/// `NoMemory` if memory is refused.
 pub fn begin(
     alloc: Global,
     start: Start,
@@ -40,7 +40,7 @@ pub fn begin(
 
 /// Goes on with the answer to what the stack wants, and answers where it halts next.
 ///
-/// `NoMemory` where memory is refused; then the stack is only fit to be dropped.
+/// `NoMemory` if memory is refused; then the stack is only fit to be dropped.
 pub fn turn(alloc: Global, stack: &mut Stack, got: Got) -> Result<Halt<Want, Ending>, NoMemory>
     requires asked { IsTrue (is_waiting stack.old) }
     ensures turned { IfOk result (λ halt. (gots : List Got)

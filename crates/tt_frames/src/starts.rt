@@ -45,7 +45,7 @@ pub(crate) fn finish(alloc: Global, ending: Ending) -> Result<Next, NoMemory>
     }
 }
 
-/// The error that a thread ends with is told, and is reported.
+/// The error that a thread ends with is recorded, and is reported.
 pub(crate) fn report_error(
     alloc: Global,
     trace: Text,

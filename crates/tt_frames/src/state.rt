@@ -6,8 +6,8 @@ use std::alloc::Global;
 use std::marker::Model;
 use tt_text::NoMemory;
 
-/// How many nested evaluations there are, at most: calls of procedures, eval(n), uplevel(n), served events, held scripts
-/// and sends to oneself.
+/// How many nested evaluations there are, at most: calls of procedures, eval(n), uplevel(n), served events, held
+/// scripts and sends to oneself.
 pub const DEEPEST: u64 = 1000;
 
 /// How many units lie between two pauses.
@@ -57,7 +57,7 @@ pub enum Unit {
 impl State {
     /// What a thread of this number counts at its start, which may spend so many units.
     ///
-    /// `NoMemory` where memory is refused.
+    /// `NoMemory` if memory is refused.
     pub fn new(alloc: Global, me: u32, limit: u64) -> Result<Self, NoMemory>
         ensures fresh { IfOk result (λ state. state ≡ fresh me limit) }
     {
@@ -81,7 +81,7 @@ impl State {
         self.counts.me
     }
 
-    /// Spends a unit, where one is left.
+    /// Spends a unit, if one is left.
     pub fn spend(&mut self) -> Unit
         ensures unit { result ≡ unit_of self.old }
         ensures spent { self.new ≡ spent self.old }

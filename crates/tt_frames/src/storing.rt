@@ -3,7 +3,7 @@ ghost use Rattle.tt_frames.specs.declared.state.Counts.{Counts};
 ghost use Rattle.tt_outcomes.specs.declared.want.Want.TheVariants as wants;
 ghost use Rattle.std.specs.Prelude.{◌≡◌, IfOk, codes, None};
 ghost use Rattle.tt_frames.specs.Frames.{after, on_got};
-ghost use Rattle.tt_frames.specs.Vocabulary.{setting, stored, told};
+ghost use Rattle.tt_frames.specs.Vocabulary.{setting, variable_result, with_error_info};
 ghost use Rattle.tt_evaluation.specs.Frames.{plan_of};
 
 use crate::job::{Asking, Frame};
@@ -31,7 +31,7 @@ pub(crate) fn setting(alloc: Global, name: Text, value: Text) -> Result<Want, No
     }
 }
 
-/// A variable is set, where there is one, and then that is the result.
+/// A variable is set, if there is one, and then that is the result.
 pub(crate) fn store(
     alloc: Global,
     variable: Option<Text>,
@@ -39,7 +39,7 @@ pub(crate) fn store(
     answer: Text,
 ) -> Result<Next, NoMemory>
     ensures { IfOk result (λ move. (state : Counts)
-        → stored variable value answer state ≡ plan_of after on_got move state) }
+        → variable_result variable value answer state ≡ plan_of after on_got move state) }
 {
     match variable {
         None => Ok(Next::Done(Ending::Fine(answer))),

@@ -92,7 +92,7 @@ pub(crate) fn after_worker(
     }
 }
 
-// The script for new workers ended so, or the one for those that end: an error is told.
+// The script for new workers ended so, or the one for those that end: an error is recorded.
 fn after_aside(alloc: Global, next: Work, ending: Ending) -> Result<Next, NoMemory>
     ensures { IfOk result (λ move. (state : Counts)
         → workers.aside next ending state ≡ plan_of after on_got move state) }
@@ -107,7 +107,7 @@ fn after_aside(alloc: Global, next: Work, ending: Ending) -> Result<Next, NoMemo
     }
 }
 
-// The script of a job ended so: an error is told.
+// The script of a job ended so: an error is recorded.
 fn after_script(alloc: Global, begun: BegunJob, ending: Ending) -> Result<Next, NoMemory>
     ensures { IfOk result (λ move. (state : Counts)
         → workers.job_ended begun ending state ≡ plan_of after on_got move state) }
@@ -182,7 +182,8 @@ pub(crate) fn take_got(alloc: Global, asking: WorkerAsking, got: &Got) -> Result
 
 // A worker has a job, or there is none.
 fn begin_job(worker: Boxed<Worker>, got: &Got) -> Result<Next, NoMemory>
-    ensures { IfOk result (λ move. (state : Counts) → workers.given worker got.now state ≡ plan_of after on_got move state) }
+    ensures { IfOk result (λ move. (state : Counts) →
+        workers.given worker got.now state ≡ plan_of after on_got move state) }
 {
     match got {
         Got::Reply(Reply::Job(number, script, detached)) => {

@@ -1,4 +1,5 @@
-use Rattle.std.proofs.Common.{rules, ◌≡◌, ◌≢◌, ◌<◌, ◌≤◌, ◌+◌, ◌-◌, ◌*◌, ◌^◌, ◌&&◌, ℕ, List, [], ◌∷◌, ◌++◌, length, take, drop, get_or, Bool, true, false, refl, sym, ap, ◌∙◌, subst, arith, add-one, drop-cons}
+use Rattle.std.proofs.Common.{rules, ◌≡◌, ◌≢◌, ◌<◌, ◌≤◌, ◌+◌, ◌-◌, ◌*◌, ◌^◌, ◌&&◌, ℕ, List, [], ◌∷◌, ◌++◌, length, take}
+use Rattle.std.proofs.Common.{drop, get_or, Bool, true, false, refl, sym, ap, ◌∙◌, subst, arith, add-one, drop-cons}
 use Rattle.std.specs.Char.{is_ascii_digit}
 use Rattle.std.specs.Str.{all_ascii_digits}
 use Rattle.std.specs.Fmt.{decimal}
@@ -33,7 +34,8 @@ read_on-ge n [] = omega arith
 read_on-ge n (d ∷ ds) = omega (arith, read_on-ge (10 * n + (d - 48)) ds)
 
 -- the longest run of digits at the front is one
-pub same-run : (ds es x y : List ℕ) → all_ascii_digits ds ≡ true → all_ascii_digits es ≡ true → BeginsWithNoDigit x → BeginsWithNoDigit y → ds ++ x ≡ es ++ y → (ds ≡ es) × (x ≡ y)
+pub same-run : (ds es x y : List ℕ) → all_ascii_digits ds ≡ true → all_ascii_digits es ≡ true → BeginsWithNoDigit x → BeginsWithNoDigit y →
+    ds ++ x ≡ es ++ y → (ds ≡ es) × (x ≡ y)
 same-run [] [] x y p q nx ny e = (refl, e)
 same-run [] (d ∷ es) x y p q nx ny e =
     let not_digit : is_ascii_digit d ≡ false = subst BeginsWithNoDigit e nx in
@@ -51,7 +53,8 @@ same-run (d ∷ ds) (f ∷ es) x y p q nx ny e =
     (cc, more.1)
 
 -- a number that the text begins with is written by its longest run of digits
-pub run-only : (text : List ℕ) (count : ℕ) (n : ℕ) (rest : List ℕ) → IsDigitRun text count → IsInRange n → BeginsWithNoDigit rest → text ≡ decimal n ++ rest → take count text ≡ decimal n
+pub run-only : (text : List ℕ) (count : ℕ) (n : ℕ) (rest : List ℕ) → IsDigitRun text count → IsInRange n → BeginsWithNoDigit rest →
+    text ≡ decimal n ++ rest → take count text ≡ decimal n
 run-only text count n rest run range stops e =
     let small : n < 2 ^ 64 = omega (arith, range.1) in
     (same-run (take count text) (decimal n) (drop count text) rest run.digits (digits_decimal own n small) run.stops stops (take-append-drop count text ∙ e)).0
@@ -66,7 +69,8 @@ pub record IsStep (digits : List ℕ) (i value : ℕ) : Type 0 where
 digit-low : (c : ℕ) → is_ascii_digit c ≡ true → 48 ≤ c
 digit-low c e = grind (arith, nat_tests)
 
-pub next_step : (digits : List ℕ) (i value : ℕ) → length digits ≤ 8 → all_ascii_digits digits ≡ true → i < length digits → read_on value (drop i digits) ≡ read_on 0 digits → all_ascii_digits (drop i digits) ≡ true → IsStep digits i value
+pub next_step : (digits : List ℕ) (i value : ℕ) → length digits ≤ 8 → all_ascii_digits digits ≡ true → i < length digits →
+    read_on value (drop i digits) ≡ read_on 0 digits → all_ascii_digits (drop i digits) ≡ true → IsStep digits i value
 next_step digits i value short all h e left =
     let cut : drop i digits ≡ get_or digits i 0 ∷ drop (i + 1) digits = rw add-one (drop-cons digits i 0 h) in
     let read : read_on (10 * value + (get_or digits i 0 - 48)) (drop (i + 1) digits) ≡ read_on 0 digits = rw cut at e in
@@ -112,7 +116,8 @@ from_one digits first same = not_zero (read_on 0 digits) (λ zero. first (
     ap (λ (ds : List ℕ). get_or ds 0 0) written))
 
 -- digits that begin with no 0 write a number from 1
-pub decimal-value : (digits : List ℕ) → all_ascii_digits digits ≡ true → 0 < length digits → get_or digits 0 0 ≢ 48 → length digits ≤ 8 → (decimal (read_on 0 digits) ≡ digits) × (1 ≤ read_on 0 digits)
+pub decimal-value : (digits : List ℕ) → all_ascii_digits digits ≡ true → 0 < length digits → get_or digits 0 0 ≢ 48 → length digits ≤ 8 →
+    (decimal (read_on 0 digits) ≡ digits) × (1 ≤ read_on 0 digits)
 decimal-value digits all some first short =
     let bound : read_on 0 digits < 10 ^ 8 = digits_value_short own digits 8 all short in
     let same : decimal (read_on 0 digits) ≡ digits = decimal-digits_value own digits all some (λ zero. absurd (first zero)) (omega arith) in

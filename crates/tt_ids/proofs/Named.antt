@@ -1,5 +1,7 @@
 -- The number that a text names is the one that writes it.
-use Rattle.std.proofs.Common.{◌≡◌, ◌≢◌, ◌<◌, ◌^◌, ◌&&◌, ◌==◌, ℕ, Bool, true, false, List, [], ◌∷◌, ◌++◌, Option, Some, None, option_and_then, if◌then◌else◌, IfSome, IfNone, refl, sym, ap, ◌∙◌, nat_lt, rules, arith, tests}
+use Rattle.std.proofs.Common.{◌≡◌, ◌≢◌, ◌<◌, ◌^◌, ◌&&◌, ◌==◌, ℕ, Bool, true, false, List, [], ◌∷◌, ◌++◌, Option, Some}
+use Rattle.std.proofs.Common.{None, option_and_then, if◌then◌else◌, IfSome, IfNone, refl, sym, ap, ◌∙◌, nat_lt, rules}
+use Rattle.std.proofs.Common.{arith, tests}
 use Rattle.std.proofs.lemmas.Bool.Decides.{nat_tests}
 use Rattle.std.proofs.lemmas.Fmt.{digits_value-decimal}
 use Rattle.std.proofs.lemmas.Slice.Eq.{bytes_eq-Decides}
@@ -28,14 +30,16 @@ named_decimal n small =
 pub named_none : (text : List ℕ) → ((n : ℕ) → n < 2 ^ 64 → text ≢ decimal n) → number_named text ≡ None
 named_none text none = go (nat_lt (read_on 0 text) (2 ^ 64)) (bytes_eq text (decimal (read_on 0 text))) refl refl
   where
-    go : (small same : Bool) → nat_lt (read_on 0 text) (2 ^ 64) ≡ small → bytes_eq text (decimal (read_on 0 text)) ≡ same → (if small && same then Some (read_on 0 text) else None) ≡ None
+    go : (small same : Bool) → nat_lt (read_on 0 text) (2 ^ 64) ≡ small → bytes_eq text (decimal (read_on 0 text)) ≡ same →
+        (if small && same then Some (read_on 0 text) else None) ≡ None
     go false same is e = refl
     go true false is e = refl
     go true true is e =
         let fits : read_on 0 text < 2 ^ 64 = grind (arith, nat_tests) in
         absurd (none (read_on 0 text) fits ((bytes_eq-Decides text (decimal (read_on 0 text))).0 e))
 
-pub named_is : (text : List ℕ) (answer : Option ℕ) → IfSome answer (λ n. n < 2 ^ 64) → IfSome answer (λ n. text ≡ decimal n) → IfNone answer ((n : ℕ) → n < 2 ^ 64 → text ≢ decimal n) → answer ≡ number_named text
+pub named_is : (text : List ℕ) (answer : Option ℕ) → IfSome answer (λ n. n < 2 ^ 64) → IfSome answer (λ n. text ≡ decimal n) →
+    IfNone answer ((n : ℕ) → n < 2 ^ 64 → text ≢ decimal n) → answer ≡ number_named text
 named_is text None small read none = sym (named_none text none)
 named_is text (Some n) small read none = rw read (sym (named_decimal n small))
 
@@ -52,13 +56,15 @@ front_cut [] text rest e = cc e
 front_cut (letter ∷ front) [] rest e = absurd (search rules)
 front_cut (letter ∷ front) (b ∷ text) rest e = go (letter == b) refl e (λ h. front_cut front text rest h)
   where
-    go : (same : Bool) → (letter == b) ≡ same → (if same then after_letters front text else None) ≡ Some rest → (after_letters front text ≡ Some rest → text ≡ front ++ rest) → b ∷ text ≡ letter ∷ front ++ rest
+    go : (same : Bool) → (letter == b) ≡ same → (if same then after_letters front text else None) ≡ Some rest →
+        (after_letters front text ≡ Some rest → text ≡ front ++ rest) → b ∷ text ≡ letter ∷ front ++ rest
     go true is e cut =
         let alike : letter ≡ b = search (rules, is, tests) in
         rw alike (ap (λ t. b ∷ t) (cut e))
     go false is e cut = absurd (search rules)
 
-pub id_is : (kind : IdKind) (text : List ℕ) (answer : Option ℕ) → IfSome answer (λ n. n < 2 ^ 64) → IfSome answer (λ n. text ≡ id kind n) → IfNone answer ((n : ℕ) → n < 2 ^ 64 → text ≢ id kind n) → answer ≡ id_named kind text
+pub id_is : (kind : IdKind) (text : List ℕ) (answer : Option ℕ) → IfSome answer (λ n. n < 2 ^ 64) → IfSome answer (λ n. text ≡ id kind n) →
+    IfNone answer ((n : ℕ) → n < 2 ^ 64 → text ≢ id kind n) → answer ≡ id_named kind text
 id_is kind text (Some n) small read none =
     rw (read, front_same (letters kind) (decimal n)) (sym (named_decimal n small))
 id_is kind text None small read none = sym (go (after_letters (letters kind) text) refl)

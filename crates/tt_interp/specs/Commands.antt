@@ -69,7 +69,7 @@ own_of words =
 abbrev pub Table : Type 1
 Table = (words : List (List ℕ)) → (old : Held) → Answer → (new : Held) → Type 0
 
--- what one table answers stands; where it has no such command, another one says
+-- what one table answers stands; if it has no such command, another one says
 abbrev pub Continues : Answer → Table → Table
 Continues answers.Other other words old answer new = other words old answer new
 Continues first other words old answer new = (answer ≡ first) × (new ≡ old)

@@ -76,7 +76,7 @@ is_halted (standing.Fresh start me limit) = false
 is_halted (standing.Asks stack request) = is_waiting stack
 is_halted (standing.Over stack ending) = true
 
--- what is given when it is resumed: nothing at first, and then the reply to a request, where one can come
+-- what is given when it is resumed: nothing at first, and then the reply to a request, if one can come
 abbrev pub fits : Standing → Option Reply → Bool
 fits (standing.Fresh start me limit) None = true
 fits (standing.Asks stack request) (Some reply) = goes_on request

@@ -32,7 +32,8 @@ impl Kept {
     }
 
     fn read(&self, name: &Text, index: Option<&Text>) -> Result<Got, NoMemory>
-        ensures { IfOk result (λ got. answering.Answers (wants.ReadVar name.now (option_copied index.entry)) self.now got self.now) }
+        ensures { IfOk result (λ got.
+            answering.Answers (wants.ReadVar name.now (option_copied index.entry)) self.now got self.now) }
     {
         match index {
             Some(index) => self.read_at(name, Some(index.as_bytes())),
@@ -41,14 +42,16 @@ impl Kept {
     }
 
     fn read_at(&self, name: &Text, index: Option<&[u8]>) -> Result<Got, NoMemory>
-        ensures { IfOk result (λ got. answering.Answers (wants.ReadVar name.now (option_copied index.entry)) self.now got self.now) }
+        ensures { IfOk result (λ got.
+            answering.Answers (wants.ReadVar name.now (option_copied index.entry)) self.now got self.now) }
     {
         let outcome = self.store.read(name.as_bytes(), index)?;
         Ok(Got::Value(outcome))
     }
 
     fn write(&mut self, name: &Text, index: Option<&Text>, value: Text) -> Result<Got, NoMemory>
-        ensures { IfOk result (λ got. answering.Answers (wants.WriteVar name.now (option_copied index.entry) value) self.old got self.new) }
+        ensures { IfOk result (λ got.
+            answering.Answers (wants.WriteVar name.now (option_copied index.entry) value) self.old got self.new) }
     {
         match index {
             Some(index) => self.write_at(name, Some(index.as_bytes()), value),
@@ -57,7 +60,8 @@ impl Kept {
     }
 
     fn write_at(&mut self, name: &Text, index: Option<&[u8]>, value: Text) -> Result<Got, NoMemory>
-        ensures { IfOk result (λ got. answering.Answers (wants.WriteVar name.now (option_copied index.entry) value) self.old got self.new) }
+        ensures { IfOk result (λ got.
+            answering.Answers (wants.WriteVar name.now (option_copied index.entry) value) self.old got self.new) }
     {
         let outcome = self.store.write(name.as_bytes(), index, value)?;
         Ok(Got::Value(outcome))
@@ -81,7 +85,8 @@ impl Kept {
     }
 
     fn leave(&mut self, alloc: Global) -> Result<Got, NoMemory>
-        ensures { IfOk result (λ got. (got ≡ answering.nothing) × (self.new ≡ commands.with_store self.old (after_end self.old.store))) }
+        ensures { IfOk result (λ got. (got ≡ answering.nothing)
+            × (self.new ≡ commands.with_store self.old (after_end self.old.store))) }
     {
         self.store.leave();
         Ok(nothing(alloc))

@@ -52,7 +52,8 @@ impl Kept {
     }
 
     fn run_own(&mut self, alloc: Global, words: &[Text]) -> Result<Answer, NoMemory>
-        ensures { IfOk result (λ answer. commands.RunsOwn (commands.own_of words.now) words.now self.old answer self.new) }
+        ensures { IfOk result (λ answer.
+            commands.RunsOwn (commands.own_of words.now) words.now self.old answer self.new) }
     {
         match own_of(words) {
             Own::Define => Ok(Answer::Outcome(self.procedures.define(after(words, 1))?)),
@@ -85,7 +86,8 @@ fn on_levels(alloc: Global, store: &mut Store, words: &[Text]) -> Result<Answer,
 }
 
 fn on_arrays(alloc: Global, store: &mut Store, words: &[Text]) -> Result<Answer, NoMemory>
-    ensures { IfOk result (λ answer. commands.Either arrays.Runs dictionaries.Runs words.now store.old answer store.new) }
+    ensures { IfOk result (λ answer.
+        commands.Either arrays.Runs dictionaries.Runs words.now store.old answer store.new) }
 {
     match tt_variable_commands::arrays::run(alloc, store, words)? {
         Answer::Other => tt_dictionaries::run(alloc, store, words),

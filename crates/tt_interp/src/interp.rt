@@ -32,8 +32,8 @@ pub enum Standing {
     },
 }
 
-/// The interpreter of a thread. Contracts see what it keeps and where it stands, and say of it what its thread asks after
-/// further replies.
+/// The interpreter of a thread. Contracts see what it keeps and where it stands, and say of it what its thread asks
+/// after further replies.
 #[derive(Debug, Drop)]
 pub struct Interp {
     kept: Kept,
@@ -56,7 +56,7 @@ impl Model for Interp {
 impl Interp {
     /// The interpreter of a thread of this number that begins so. It has evaluated nothing.
     ///
-    /// `NoMemory` where memory is refused.
+    /// `NoMemory` if memory is refused.
     pub fn new(alloc: Global, start: &Start, me: u32, setup: &Setup) -> Result<Self, NoMemory>
         ensures stands { IfOk result (λ interp. interps.StandsFor interp setup.now me start.now) }
         ensures fresh { IfOk result (λ interp. IsTrue (interps.is_fresh interp.standing)) }
@@ -77,7 +77,7 @@ impl Interp {
 
     /// Evaluates up to the next request: at first without a reply, and then with the reply to the request.
     ///
-    /// `NoMemory` where memory is refused; then the interpreter is only fit to be dropped.
+    /// `NoMemory` if memory is refused; then the interpreter is only fit to be dropped.
     pub fn resume(&mut self, reply: Option<Reply>) -> Result<(), NoMemory>
         requires fits { IsTrue (interps.fits self.old.standing reply) }
         ensures stands { OnOk result (interps.GoesOn self.new self.old reply) }
@@ -91,7 +91,8 @@ impl Interp {
         Ok(())
     }
 
-    /// Whether it can be resumed with this: at first without a reply, and then with one, but after its end with nothing.
+    /// Whether it can be resumed with this: at first without a reply, and then with one, but after its end with
+    /// nothing.
     pub fn can_resume(&self, reply: &Option<Reply>) -> bool
         ensures fits { result ≡ interps.fits self.now.standing reply.now }
     {

@@ -1,4 +1,5 @@
-//! The interpreter of a thread (Tcl(n), thread(n)): it evaluates its start up to each request, and goes on with the reply.
+//! The interpreter of a thread (Tcl(n), thread(n)): it evaluates its start up to each request, and goes on with the
+//! reply.
 #![tactic(auto)]
 
 mod answering;

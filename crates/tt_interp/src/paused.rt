@@ -36,7 +36,7 @@ impl Model for Paused {
 impl Paused {
     /// The stack of a thread of this number that begins so and may spend so many units, and where it halts first.
     ///
-    /// `NoMemory` where memory is refused.
+    /// `NoMemory` if memory is refused.
     pub(crate) fn begin(
         alloc: Global,
         start: Start,
@@ -54,7 +54,7 @@ impl Paused {
 
     /// Goes on with the answer to what the stack wants, and answers where it halts next.
     ///
-    /// `NoMemory` where memory is refused; then the stack is only fit to be dropped.
+    /// `NoMemory` if memory is refused; then the stack is only fit to be dropped.
     pub(crate) fn turn(&mut self, alloc: Global, got: Got) -> Result<Halt<Want, Ending>, NoMemory>
         requires asked { IsTrue (is_waiting self.old) }
         ensures turned { IfOk result (λ halt. (gots : List Got)

@@ -26,7 +26,7 @@ pub(crate) enum Reached {
 
 /// Where an evaluation stands after this reply, or first.
 ///
-/// `NoMemory` where memory is refused.
+/// `NoMemory` if memory is refused.
 pub(crate) fn resumed(
     alloc: Global,
     kept: &mut Kept,
@@ -35,13 +35,14 @@ pub(crate) fn resumed(
 ) -> Result<Standing, NoMemory>
     requires waits { interps.Waits standing }
     requires fits { IsTrue (interps.fits standing reply) }
-    ensures leads { IfOk result (λ next. interps.GoesOnFrom (interps.coming next) kept.new (interps.coming standing) kept.old reply) }
+    ensures leads { IfOk result (λ next.
+        interps.GoesOnFrom (interps.coming next) kept.new (interps.coming standing) kept.old reply) }
     ensures halts { IfOk result (λ next. IsTrue (interps.is_halted next)) }
 {
     match (standing, reply) {
         (Standing::Fresh { start, me, limit }, None) => begun(alloc, kept, start, me, limit),
         (Standing::Asks { stack, request }, Some(reply)) => {
-            replied(alloc, kept, stack, request, reply)
+            after_reply(alloc, kept, stack, request, reply)
         }
         _ => Err(NoMemory),
     }
@@ -54,7 +55,8 @@ fn begun(
     me: u32,
     limit: u64,
 ) -> Result<Standing, NoMemory>
-    ensures leads { IfOk result (λ next. interps.LeadsTo (interps.coming next) kept.new (interps.coming (standing.Fresh start me limit)) kept.old) }
+    ensures leads { IfOk result (λ next.
+        interps.LeadsTo (interps.coming next) kept.new (interps.coming (standing.Fresh start me limit)) kept.old) }
     ensures halts { IfOk result (λ next. IsTrue (interps.is_halted next)) }
 {
     let (stack, halt) = Paused::begin(alloc, start, me, limit)?;
@@ -63,7 +65,7 @@ fn begun(
     Ok(standing_of(reached, stack))
 }
 
-fn replied(
+fn after_reply(
     alloc: Global,
     kept: &mut Kept,
     stack: Paused,
@@ -72,7 +74,8 @@ fn replied(
 ) -> Result<Standing, NoMemory>
     requires waits { IsTrue (is_waiting stack) }
     requires goes_on { IsTrue (goes_on request) }
-    ensures leads { IfOk result (λ next. interps.GoesOnFrom (interps.coming next) kept.new (interps.coming (standing.Asks stack request)) kept.old (Some reply)) }
+    ensures leads { IfOk result (λ next. interps.GoesOnFrom (interps.coming next) kept.new
+        (interps.coming (standing.Asks stack request)) kept.old (Some reply)) }
     ensures halts { IfOk result (λ next. IsTrue (interps.is_halted next)) }
 {
     let mut stack = stack;
@@ -96,7 +99,9 @@ fn go_on_with(
     reply: Reply,
 ) -> Result<Reached, NoMemory>
     requires { IsTrue (is_waiting stack.old) }
-    ensures leads { IfOk result (λ reached. interps.LeadsTo (interps.halted (interps.halt_of reached) stack.new) kept.new (interps.after_got stack.old (gots.Reply reply)) kept.old) }
+    ensures leads { IfOk result (λ reached. interps.LeadsTo
+        (interps.halted (interps.halt_of reached) stack.new) kept.new
+        (interps.after_got stack.old (gots.Reply reply)) kept.old) }
     ensures waiting { IfOk result (λ reached. wants (interps.halt_of reached) ≡ is_waiting stack.new) }
 {
     let halt = stack.turn(alloc, Got::Reply(reply))?;
@@ -112,7 +117,8 @@ fn settle(
     halt: Halt<Want, Ending>,
 ) -> Result<Reached, NoMemory>
     requires { wants halt ≡ is_waiting stack.old }
-    ensures leads { IfOk result (λ reached. interps.LeadsTo (interps.halted (interps.halt_of reached) stack.new) kept.new (interps.halted halt stack.old) kept.old) }
+    ensures leads { IfOk result (λ reached. interps.LeadsTo
+        (interps.halted (interps.halt_of reached) stack.new) kept.new (interps.halted halt stack.old) kept.old) }
     ensures waiting { IfOk result (λ reached. wants (interps.halt_of reached) ≡ is_waiting stack.new) }
 {
     let mut halt = halt;
@@ -133,7 +139,8 @@ fn go_on(
     want: Want,
 ) -> Result<Halt<Want, Ending>, NoMemory>
     requires { IsTrue (is_waiting stack.old) }
-    ensures leads { IfOk result (λ halt. interps.LeadsTo (interps.halted halt stack.new) kept.new (interps.halted (Wants want) stack.old) kept.old) }
+    ensures leads { IfOk result (λ halt.
+        interps.LeadsTo (interps.halted halt stack.new) kept.new (interps.halted (Wants want) stack.old) kept.old) }
     ensures waiting { IfOk result (λ halt. wants halt ≡ is_waiting stack.new) }
 {
     let got = kept.answer(alloc, want)?;

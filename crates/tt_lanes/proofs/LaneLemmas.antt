@@ -1,5 +1,6 @@
 -- From a test of many bytes at once to the test of each.
-use Rattle.std.proofs.Common.{◌≡◌, ℕ, ◌+◌, ◌%◌, ◌^◌, ◌≤◌, Bool, true, if◌then◌else◌, ◌==◌, List, [], ◌∷◌, map, length, get_or, Fits, w8, w64, refl, ap, ap₂, ◌∙◌, arith}
+use Rattle.std.proofs.Common.{◌≡◌, ℕ, ◌+◌, ◌%◌, ◌^◌, ◌≤◌, Bool, true, if◌then◌else◌, ◌==◌, List, [], ◌∷◌, map, length}
+use Rattle.std.proofs.Common.{get_or, Fits, w8, w64, refl, ap, ap₂, ◌∙◌, arith}
 use Rattle.std.specs.Prelude.{count_ones, count_by}
 use Rattle.std.specs.Int.{trailing_zeros}
 use Rattle.std.specs.List.{position_or_len}
@@ -12,7 +13,7 @@ same_map : (g p : ℕ → Bool) (v : List ℕ) → Each1 (Fits w8) v → agree_b
 same_map g p [] fits agree = refl
 same_map g p (x ∷ v) fits agree = ap₂ (λ b r. b ∷ r) (agree_below_at g p 256 x agree fits.0.fits) (same_map g p v fits.1 agree)
 
--- z was computed lane by lane from v, and its highest bits tell which lanes pass the test
+-- z was computed lane by lane from v, and its highest bits say which lanes pass the test
 module _ (p : ℕ → Bool) (bytes : List ℕ) (at n : ℕ) (room : at + n ≤ length bytes) (few : n ≤ 64)
     (fits : (k : ℕ) → Fits w8 (get_or bytes k 0)) (f : ℕ → ℕ) {z : List ℕ} (lanes : z ≡ map f (chunk at n bytes))
     (agree : agree_below (λ x. top 7 (f x)) p 256 ≡ true) where

@@ -34,7 +34,8 @@ block_passes p bytes at n r room e whole =
 -- the bytes counted so far, and a block more
 pub block_counted : (p : ℕ → Bool) (bytes : List ℕ) (at n counted more : ℕ) → counted ≡ count_by p (take at bytes) → more ≡ count_by p (chunk at n bytes)
     → counted + more ≡ count_by p (take (at + n) bytes)
-block_counted p bytes at n counted more e f = ap₂ (λ a b. a + b) e f ∙ sym (sum_by-append _ (take at bytes) (chunk at n bytes)) ∙ ap (count_by p) (sym (take-add at n bytes))
+block_counted p bytes at n counted more e f =
+    ap₂ (λ a b. a + b) e f ∙ sym (sum_by-append _ (take at bytes) (chunk at n bytes)) ∙ ap (count_by p) (sym (take-add at n bytes))
 
 pub rest_counted : (p : ℕ → Bool) (bytes : List ℕ) (at counted more : ℕ) → counted ≡ count_by p (take at bytes)
     → more ≡ count_by p (take (length bytes - at) (drop at bytes)) → counted + more ≡ count_by p bytes

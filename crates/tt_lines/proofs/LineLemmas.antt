@@ -1,9 +1,13 @@
--- Where a newline stands, and what of the known bytes a line is.
-use Rattle.std.proofs.Common.{◌≡◌, ◌≢◌, ◌∙◌, ℕ, zero, suc, ◌+◌, ◌<◌, ◌≤◌, ◌==◌, ◌&&◌, not, Bool, true, false, List, [], ◌∷◌, ◌++◌, length, take, drop, get_or, Option, Some, None, cond, MatchOption, Result, Ok, Err, IfOk, OnOk, ap, refl, subst, sym, arith, append-nil, append_assoc}
+-- If a newline stands, and what of the known bytes a line is.
+use Rattle.std.proofs.Common.{◌≡◌, ◌≢◌, ◌∙◌, ℕ, zero, suc, ◌+◌, ◌<◌, ◌≤◌, ◌==◌, ◌&&◌, not, Bool, true, false, List, []}
+use Rattle.std.proofs.Common.{◌∷◌, ◌++◌, length, take, drop, get_or, Option, Some, None, cond, MatchOption, Result, Ok}
+use Rattle.std.proofs.Common.{Err, IfOk, OnOk, ap, refl, subst, sym, arith, append-nil, append_assoc}
 use Rattle.memchr.specs.Find.{NoneBefore, Nowhere, Passes, is_byte}
 use Rattle.std.proofs.Math.Seq.{take-add}
 use Rattle.std.proofs.lemmas.Bool.{and_from, cond-false, cond-true, eqb-true, le-ltb, lt-ltb, ltb-false, ltb-true, ne_eqb}
-use Rattle.std.proofs.lemmas.List.{drop_all, drop_at, drop_more, get_or-drop, get_or-take, length-append, length-drop, length-take, length-take-le, take-append-drop, take-take, take_all, take_at, take_more}
+use Rattle.std.proofs.lemmas.List.{drop_all, drop_at, drop_more, get_or-drop, get_or-take, length-append, length-drop}
+use Rattle.std.proofs.lemmas.List.{length-take, length-take-le, take-append-drop, take-take, take_all, take_at}
+use Rattle.std.proofs.lemmas.List.{take_more}
 use Rattle.std.proofs.lemmas.List.Folds.{list_all-append, list_all_more}
 use Rattle.std.specs.Io.KnownBytes.{IsAtEnd, Keeps, prepend_known}
 use Rattle.std.specs.List.{list_all, prefix_len}
@@ -53,7 +57,8 @@ none-found xs n before never =
     let rest' = rw (take_all (length (drop n xs)) (drop n xs) (omega arith)) at rest in
     rw (sym (take-append-drop n xs)) (in-line-joined (take n xs) (drop n xs) before rest')
 
-pub one-found : (xs : List ℕ) (n k : ℕ) → n ≤ length xs → IsInLine (take n xs) → NoneBefore (Passes (is_byte 10) (drop n xs)) 0 (length (drop n xs)) k → Passes (is_byte 10) (drop n xs) k → IsInLine (take (n + k) xs) × (n + k < length xs) × (get_or xs (n + k) 0 ≡ 10)
+pub one-found : (xs : List ℕ) (n k : ℕ) → n ≤ length xs → IsInLine (take n xs) → NoneBefore (Passes (is_byte 10) (drop n xs)) 0 (length (drop n xs)) k →
+    Passes (is_byte 10) (drop n xs) k → IsInLine (take (n + k) xs) × (n + k < length xs) × (get_or xs (n + k) 0 ≡ 10)
 one-found xs n k within before none here =
     let high = none.high in
     let within' : n + k < length xs = omega (arith, high, length-drop n xs, within) in
@@ -95,7 +100,8 @@ more-ahead began xs n same never none = by-test (nat_lt n (length xs)) refl
 
 -- ---- what a line is of the known bytes ----
 
-whole-by : (held line left got : List ℕ) → held ≡ line ++ 10 ∷ left → got ≡ line ++ 10 ∷ [] → IsInLine line → length line ≤ most_bytes → TakesLine held (Read got) left
+whole-by : (held line left got : List ℕ) → held ≡ line ++ 10 ∷ left → got ≡ line ++ 10 ∷ [] → IsInLine line → length line ≤ most_bytes →
+    TakesLine held (Read got) left
 whole-by held line left got e f none few = rw (e, f) (whole line left none few)
 
 cut-at : (xs : List ℕ) (n x : ℕ) → n < length xs → get_or xs n 0 ≡ x → xs ≡ take n xs ++ x ∷ drop (n + 1) xs
@@ -103,7 +109,9 @@ cut-at xs n x within is =
     let rest : drop n xs ≡ x ∷ drop (n + 1) xs = drop_more xs n 0 within ∙ ap (λ (b : ℕ). b ∷ drop (n + 1) xs) is in
     sym (take-append-drop n xs) ∙ ap (λ (bytes : List ℕ). take n xs ++ bytes) rest
 
-reads-whole : (old held : Option (List ℕ)) (xs : List ℕ) (n m : ℕ) → m ≤ most_bytes + 1 → IsInLine (take n (take m xs)) → n < length (take m xs) → get_or (take m xs) n 0 ≡ 10 → n < m → n < length xs → Keeps old (prepend_known xs held) → ReadsKnown old (prepend_known (drop (n + 1) xs) held) (Read (take (n + 1) xs))
+reads-whole : (old held : Option (List ℕ)) (xs : List ℕ) (n m : ℕ) → m ≤ most_bytes + 1 → IsInLine (take n (take m xs)) → n < length (take m xs) →
+    get_or (take m xs) n 0 ≡ 10 → n < m → n < length xs → Keeps old (prepend_known xs held) →
+    ReadsKnown old (prepend_known (drop (n + 1) xs) held) (Read (take (n + 1) xs))
 reads-whole None held xs n m few none within is below there keeps = tt
 reads-whole (Some bytes) None xs n m few none within is below there keeps = absurd keeps
 reads-whole (Some bytes) (Some more) xs n m few none within is below there keeps =
@@ -116,13 +124,18 @@ reads-whole (Some bytes) (Some more) xs n m few none within is below there keeps
     whole-by bytes (take n xs) (drop (n + 1) xs ++ more) (take (n + 1) xs) all got none' (omega (arith, length-take-le n xs (omega (arith, there)), below, few))
 
 -- a line with its newline is taken of the bytes that are there
-pub whole-line : (old mid held : Option (List ℕ)) (xs front ys : List ℕ) (n m : ℕ) (result : Result Line LineFault) → m ≤ most_bytes + 1 → front ≡ take m xs → IsInLine (take n front) → n < length front → get_or front n 0 ≡ 10 → Keeps old mid → Keeps mid (prepend_known xs held) → IfOk result (λ line. line ≡ Read (take (n + 1) xs)) → OnOk result (ys ≡ drop (n + 1) xs) → IfOk result (λ line. ReadsKnown old (prepend_known ys held) line)
+pub whole-line : (old mid held : Option (List ℕ)) (xs front ys : List ℕ) (n m : ℕ) (result : Result Line LineFault) → m ≤ most_bytes + 1 →
+    front ≡ take m xs → IsInLine (take n front) → n < length front → get_or front n 0 ≡ 10 → Keeps old mid → Keeps mid (prepend_known xs held) →
+    IfOk result (λ line. line ≡ Read (take (n + 1) xs)) → OnOk result (ys ≡ drop (n + 1) xs) → IfOk result (λ line. ReadsKnown old (prepend_known ys held) line)
 whole-line old mid held xs front ys n m (Err fault) few e none within is before keeps line left = tt
 whole-line old mid held xs front ys n m (Ok read) few e none within is before keeps line left =
     let below = front-within xs front n m e within in
-    rw (line, left) (reads-whole old held xs n m few (rw e at none) (rw e at within) (rw e at is) below.1 below.0 (Stays-trans old mid (prepend_known xs held) before keeps))
+    rw (line, left)
+    (reads-whole old held xs n m few (rw e at none) (rw e at within) (rw e at is) below.1 below.0
+    (Stays-trans old mid (prepend_known xs held) before keeps))
 
-pub reads-last : (old held : Option (List ℕ)) (xs ys : List ℕ) (line : Line) → TakesLine xs line ys → IsAtEnd held → Keeps old (prepend_known xs held) → ReadsKnown old (prepend_known ys held) line
+pub reads-last : (old held : Option (List ℕ)) (xs ys : List ℕ) (line : Line) → TakesLine xs line ys → IsAtEnd held → Keeps old (prepend_known xs held) →
+    ReadsKnown old (prepend_known ys held) line
 reads-last None held xs ys line is end keeps = tt
 reads-last (Some bytes) None xs ys line is end keeps = absurd keeps
 reads-last (Some bytes) (Some more) xs ys line is end keeps =
@@ -130,25 +143,30 @@ reads-last (Some bytes) (Some more) xs ys line is end keeps =
     let left : ys ++ more ≡ ys = ap (λ (one : List ℕ). ys ++ one) end ∙ append-nil ys in
     rw (all, left) is
 
-long-by : (held part left : List ℕ) (next : ℕ) (rest : List ℕ) → held ≡ part ++ next ∷ left → rest ≡ next ∷ left → IsInLine part → length part ≡ most_bytes → next ≢ 10 → TakesLine held TooLong rest
+long-by : (held part left : List ℕ) (next : ℕ) (rest : List ℕ) → held ≡ part ++ next ∷ left → rest ≡ next ∷ left → IsInLine part →
+    length part ≡ most_bytes → next ≢ 10 → TakesLine held TooLong rest
 long-by held part left next rest e f none many other = rw (e, f) (long part left next none many other)
 
 both : (a b : Bool) → (a && b) ≡ true → (a ≡ true) × (b ≡ true)
 both true b e = (refl, e)
 both false b e = absurd (cc e)
 
-reads-long : (old held : Option (List ℕ)) (xs : List ℕ) → IsInLine (take (most_bytes + 1) xs) → most_bytes < length xs → Keeps old (prepend_known xs held) → ReadsKnown old (prepend_known (drop most_bytes xs) held) TooLong
+reads-long : (old held : Option (List ℕ)) (xs : List ℕ) → IsInLine (take (most_bytes + 1) xs) → most_bytes < length xs →
+    Keeps old (prepend_known xs held) → ReadsKnown old (prepend_known (drop most_bytes xs) held) TooLong
 reads-long None held xs none many keeps = tt
 reads-long (Some bytes) None xs none many keeps = absurd keeps
 reads-long (Some bytes) (Some more) xs none many keeps =
     let parts = both _ _ (sym (list_all_more in_line xs most_bytes 0 many) ∙ none) in
     let other : get_or xs most_bytes 0 ≢ 10 = λ same. no-newline-left (get_or xs most_bytes 0 == 10) parts.1 (rw same refl) in
     let cut = cut-at xs most_bytes (get_or xs most_bytes 0) many refl in
-    let all = sym keeps ∙ (ap (λ (one : List ℕ). one ++ more) cut ∙ append_assoc (take most_bytes xs) (get_or xs most_bytes 0 ∷ drop (most_bytes + 1) xs) more) in
+    let all = sym keeps
+    ∙ (ap (λ (one : List ℕ). one ++ more) cut ∙ append_assoc (take most_bytes xs) (get_or xs most_bytes 0 ∷ drop (most_bytes + 1) xs) more) in
     let left = ap (λ (one : List ℕ). one ++ more) (drop_more xs most_bytes 0 many) in
-    long-by bytes (take most_bytes xs) (drop (most_bytes + 1) xs ++ more) (get_or xs most_bytes 0) _ all left parts.0 (length-take-le most_bytes xs (omega (arith, many))) other
+    long-by bytes (take most_bytes xs) (drop (most_bytes + 1) xs ++ more) (get_or xs most_bytes 0) _ all left parts.0
+    (length-take-le most_bytes xs (omega (arith, many))) other
 
-pub too-long : (old held : Option (List ℕ)) (xs ys : List ℕ) (n : ℕ) → n ≡ most_bytes + 1 → IsInLine (take n xs) → n ≤ length xs → ys ≡ drop most_bytes xs → Keeps old (prepend_known xs held) → ReadsKnown old (prepend_known ys held) TooLong
+pub too-long : (old held : Option (List ℕ)) (xs ys : List ℕ) (n : ℕ) → n ≡ most_bytes + 1 → IsInLine (take n xs) → n ≤ length xs →
+    ys ≡ drop most_bytes xs → Keeps old (prepend_known xs held) → ReadsKnown old (prepend_known ys held) TooLong
 too-long old held xs ys n e none within left keeps =
     rw left (reads-long old held xs (rw e at none) (omega (arith, e, within)) keeps)
 
@@ -162,7 +180,8 @@ not-empty xs some same = some (ap (λ (bytes : List ℕ). length bytes) same)
 last-by : (xs got ys : List ℕ) → IsInLine xs → xs ≢ [] → length xs ≤ most_bytes → got ≡ xs → ys ≡ [] → TakesLine xs (Read got) ys
 last-by xs got ys none some few e f = rw (e, f) (last xs none some few)
 
-pub last-line : (xs ys : List ℕ) (n : ℕ) (result : Result Line LineFault) → n ≡ length xs → n ≢ 0 → IsInLine xs → length xs ≤ most_bytes → IfOk result (λ line. line ≡ Read (take n xs)) → OnOk result (ys ≡ drop n xs) → IfOk result (λ line. TakesLine xs line ys)
+pub last-line : (xs ys : List ℕ) (n : ℕ) (result : Result Line LineFault) → n ≡ length xs → n ≢ 0 → IsInLine xs → length xs ≤ most_bytes →
+    IfOk result (λ line. line ≡ Read (take n xs)) → OnOk result (ys ≡ drop n xs) → IfOk result (λ line. TakesLine xs line ys)
 last-line xs ys n (Err fault) e some none few is left = tt
 last-line xs ys n (Ok line) e some none few is left =
     let some' : length xs ≢ 0 = λ same. some (e ∙ same) in
@@ -198,15 +217,19 @@ line_by n [] = (End, [])
 line_by n (x ∷ xs) =
     cond (nat_lt most_bytes n) (TooLong, drop most_bytes (x ∷ xs)) (Read (take (n + 1) (x ∷ xs)), drop (n + 1) (x ∷ xs))
 
-by-read : (held : List ℕ) (n : ℕ) (line left : List ℕ) → held ≢ [] → n ≤ most_bytes → take (n + 1) held ≡ line → drop (n + 1) held ≡ left → (Read line, left) ≡ line_by n held
+by-read : (held : List ℕ) (n : ℕ) (line left : List ℕ) → held ≢ [] → n ≤ most_bytes → take (n + 1) held ≡ line → drop (n + 1) held ≡ left →
+    (Read line, left) ≡ line_by n held
 by-read [] n line left some few e f = absurd (some refl)
 by-read (x ∷ xs) n line left some few e f =
-    rw (← e, ← f) (sym (cond-false (nat_lt most_bytes n) (TooLong, drop most_bytes (x ∷ xs)) (Read (take (n + 1) (x ∷ xs)), drop (n + 1) (x ∷ xs)) (le-ltb most_bytes n few)))
+    rw (← e, ← f)
+    (sym (cond-false (nat_lt most_bytes n) (TooLong, drop most_bytes (x ∷ xs)) (Read (take (n + 1) (x ∷ xs)), drop (n + 1) (x ∷ xs))
+    (le-ltb most_bytes n few)))
 
 by-long : (held : List ℕ) (n : ℕ) (left : List ℕ) → held ≢ [] → most_bytes < n → drop most_bytes held ≡ left → (TooLong, left) ≡ line_by n held
 by-long [] n left some many e = absurd (some refl)
 by-long (x ∷ xs) n left some many e =
-    rw (← e) (sym (cond-true (nat_lt most_bytes n) (TooLong, drop most_bytes (x ∷ xs)) (Read (take (n + 1) (x ∷ xs)), drop (n + 1) (x ∷ xs)) (lt-ltb most_bytes n many)))
+    rw (← e) (sym
+    (cond-true (nat_lt most_bytes n) (TooLong, drop most_bytes (x ∷ xs)) (Read (take (n + 1) (x ∷ xs)), drop (n + 1) (x ∷ xs)) (lt-ltb most_bytes n many)))
 
 some-joined : (xs ys : List ℕ) (x : ℕ) → xs ++ x ∷ ys ≢ []
 some-joined [] ys x = λ same. cc same
@@ -227,7 +250,8 @@ is-by held left line ended = refl
 is-by held left line (long part rest next none many other) =
     let more = before-other next rest other in
     let e = before-joined part (next ∷ rest) none in
-    by-long (part ++ next ∷ rest) (before_newline (part ++ next ∷ rest)) (next ∷ rest) (some-joined part rest next) (omega (arith, more, e, many)) (drop_at part (next ∷ rest) most_bytes many)
+    by-long (part ++ next ∷ rest) (before_newline (part ++ next ∷ rest)) (next ∷ rest) (some-joined part rest next) (omega (arith, more, e, many))
+    (drop_at part (next ∷ rest) most_bytes many)
 
 pub one-line : OneLineLaw
 one-line held left rest one other p q =

@@ -1,5 +1,6 @@
 -- Lines of standard input (gets(n)).
-use Rattle.std.specs.Prelude.{◌≡◌, ◌≢◌, ◌≤◌, ◌==◌, not, ℕ, Bool, true, false, IsTrue, List, [], ◌∷◌, ◌++◌, length, Option, Some, None, ⊤}
+use Rattle.std.specs.Prelude.{◌≡◌, ◌≢◌, ◌≤◌, ◌==◌, not, ℕ, Bool, true, false, IsTrue, List, [], ◌∷◌, ◌++◌, length}
+use Rattle.std.specs.Prelude.{Option, Some, None, ⊤}
 use Rattle.std.specs.List.{list_all}
 use Rattle.tt_calls.specs.declared.request.Request.{Request}
 use Rattle.tt_calls.specs.declared.request.Request.TheVariants as ask
@@ -19,8 +20,8 @@ most_bytes = 16777216
 abbrev pub IsInLine : (bytes : List ℕ) → Type 0
 IsInLine bytes = IsTrue (list_all (λ b. not (b == 10)) bytes)
 
--- What is read of standard input for a line, and what remains of it (gets(n)): a line is taken with its newline; the last
--- one may have none; at the end there is no line; of one with too many bytes as many are taken as a line may have.
+-- What is read of standard input for a line, and what remains of it (gets(n)): a line is taken with its newline; the
+-- last one may have none; at the end there is no line; of one with too many bytes as many are taken as a line may have.
 pub data TakesLine : (held : List ℕ) → Line → (left : List ℕ) → Type 0 where
   whole : (line left : List ℕ) →
       IsInLine line → length line ≤ most_bytes →
@@ -41,7 +42,7 @@ OneLineLaw =
     TakesLine held other rest →
     (one ≡ other) × (left ≡ rest)
 
--- a line is read, if standard input tells its bytes
+-- a line is read, if standard input shows its bytes
 abbrev pub ReadsKnown : (held left : Option (List ℕ)) → Line → Type 0
 ReadsKnown None left line = ⊤
 ReadsKnown (Some held) None line = ⊥

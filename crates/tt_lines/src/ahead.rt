@@ -1,4 +1,5 @@
-ghost use Rattle.std.specs.Prelude.{◌≡◌, ◌≢◌, ◌≤◌, ◌<◌, ◌+◌, ◌++◌, ℕ, List, [], take, drop, length, slice_index, min, MatchOption, IfOk, OnOk, IsErrOf, IsOk, Ok, Err, IsTrue, true, false, ◌↔◌};
+ghost use Rattle.std.specs.Prelude.{◌≡◌, ◌≢◌, ◌≤◌, ◌<◌, ◌+◌, ◌++◌, ℕ, List, [], take, drop, length, slice_index, min};
+ghost use Rattle.std.specs.Prelude.{MatchOption, IfOk, OnOk, IsErrOf, IsOk, Ok, Err, IsTrue, true, false, ◌↔◌};
 ghost use Rattle.std.specs.Io.KnownBytes.{IsAtEnd, Keeps, prepend_known};
 ghost use Rattle.tt_devices.specs.Faults.{Rises};
 ghost use Rattle.tt_devices.specs.Streams.{LosesPart};
@@ -141,8 +142,8 @@ impl Ahead {
         self.take_line(count)
     }
 
-    // Whether there are more bytes than were searched. There are none more only at the end of input. The source is read only
-    // if all that were read ahead were searched.
+    // Whether there are more bytes than were searched. There are none more only at the end of input. The source is read
+    // only if all that were read ahead were searched.
     fn has_more<S: Source>(&mut self, source: &mut S, searched: usize) -> Result<bool, LineFault>
         requires within { searched ≤ length self.old }
         ensures same { take searched self.new ≡ take searched self.old }
@@ -154,7 +155,8 @@ impl Ahead {
         ensures steady { (result ≢ Err LineFault.Failed) → S.fault_count source.new ≡ S.fault_count source.old }
         ensures cause { IsErrOf result LineFault.Failed → Rises (S.fault_count source.old) (S.fault_count source.new) }
         ensures taken { LosesPart (S.held source.old) (S.held source.new) }
-        ensures not_read { searched < length self.old → (source.new ≡ source.old) × (self.new ≡ self.old) × (result ≡ Ok true) }
+        ensures not_read { searched < length self.old → (source.new ≡ source.old) × (self.new ≡ self.old)
+            × (result ≡ Ok true) }
     {
         if searched < self.unused().len() {
             return Ok(true);

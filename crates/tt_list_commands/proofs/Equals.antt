@@ -1,4 +1,4 @@
--- In a sorted list an item is equal to a later one exactly where it is equal to the next.
+-- In a sorted list an item is equal to a later one exactly if it is equal to the next.
 use Rattle.std.proofs.Common.{◌≡◌, ℕ, suc, ◌+◌, Bool, true, false, if◌then◌else◌, List, [], ◌∷◌, get_or, refl, sym, ap, ◌∙◌, inl, inr, arith}
 use Rattle.std.proofs.lemmas.Bool.{cases_Bool}
 use Rattle.std.proofs.lemmas.Cmp.{back_total, int_cmp_total, nat_list_cmp_total, on_total}
@@ -55,7 +55,8 @@ unequal R x y below = go (R x y) refl
     go Greater e = ap is_eq e
 
 -- an item below the first of a sorted list is below all, so it is equal to none
-below_all : {X : Type 0} (R : X → X → Ordering) → IsTotalOrder R → (x y : X) (ys : List X) → IsSorted R (y ∷ ys) → is_lt (R x y) ≡ true → list_any (λ z. is_eq (R x z)) (y ∷ ys) ≡ false
+below_all : {X : Type 0} (R : X → X → Ordering) → IsTotalOrder R → (x y : X) (ys : List X) → IsSorted R (y ∷ ys) → is_lt (R x y) ≡ true →
+    list_any (λ z. is_eq (R x z)) (y ∷ ys) ≡ false
 below_all R total x y [] up below = rw (unequal R x y below) refl
 below_all R total x y (z ∷ zs) up below =
     let weak : IsStrictWeakOrder (λ a b. is_lt (R a b)) = ranks_by total (λ k. k) in
@@ -66,7 +67,8 @@ below_all R total x y (z ∷ zs) up below =
     ] in
     rw (unequal R x y below) (below_all R total x z zs (sorted_later R y (z ∷ zs) up) next)
 
-equals_next_is : (how : Sorting) (item : List ℕ) (later : List (List ℕ)) → IsSorted (order how) (item ∷ later) → equals_next how item later ≡ equals_later how item later
+equals_next_is : (how : Sorting) (item : List ℕ) (later : List (List ℕ)) → IsSorted (order how) (item ∷ later) →
+    equals_next how item later ≡ equals_later how item later
 equals_next_is how item [] up = refl
 equals_next_is how item (next ∷ later) up =
     elim (cases_Bool (is_eq (order how item next))) [

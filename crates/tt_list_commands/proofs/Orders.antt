@@ -14,7 +14,9 @@ order_is how integer decreasing e f =
     ap (λ i. order_by i how.decreasing) e ∙ ap (λ d. order_by integer d) f
 
 -- what sorts by that order puts items in order
-pub in_order : (how : Sorting) (integer decreasing : Bool) (items sorted : List (List ℕ)) → how.integer ≡ integer → how.decreasing ≡ decreasing → IsPermutation items sorted → IsSorted (order_by integer decreasing) sorted → IsStable (order_by integer decreasing) items sorted → IsInOrder how items sorted
+pub in_order : (how : Sorting) (integer decreasing : Bool) (items sorted : List (List ℕ)) → how.integer ≡ integer → how.decreasing ≡ decreasing →
+    IsPermutation items sorted → IsSorted (order_by integer decreasing) sorted → IsStable (order_by integer decreasing) items sorted →
+    IsInOrder how items sorted
 in_order how integer decreasing items sorted e f permutation ascends stable =
     let is : order_by integer decreasing ≡ order how = sym (order_is how integer decreasing e f) in
     record {

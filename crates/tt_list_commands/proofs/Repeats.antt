@@ -33,26 +33,32 @@ pub record IsCut (values : List (List ℕ)) (first again : List ℕ) : Type 0 wh
   pub begins : first ≡ list_of values
   pub adds : again ≡ flat_map later_item values
 
-text_is : (later : ℕ) (values : List (List ℕ)) (first again : List ℕ) → IsCut values first again → list_of (repeat (later + 1) values) ≡ first ++ repeat later again
+text_is : (later : ℕ) (values : List (List ℕ)) (first again : List ℕ) → IsCut values first again →
+    list_of (repeat (later + 1) values) ≡ first ++ repeat later again
 text_is later values first again cut =
     let next : later + 1 ≡ suc later = omega arith in
     ap (λ k. list_of (repeat k values)) next ∙ list_repeated later values cut.some
     ∙ ap (λ t. t ++ repeat later (flat_map later_item values)) (sym cut.begins)
     ∙ ap (λ t. first ++ repeat later t) (sym cut.adds)
 
-length_is : (later : ℕ) (values : List (List ℕ)) (first again : List ℕ) → IsCut values first again → length (list_of (repeat (later + 1) values)) ≡ length first + later * length again
+length_is : (later : ℕ) (values : List (List ℕ)) (first again : List ℕ) → IsCut values first again →
+    length (list_of (repeat (later + 1) values)) ≡ length first + later * length again
 length_is later values first again cut =
     ap length (text_is later values first again cut) ∙ length-append first (repeat later again)
     ∙ ap (λ k. length first + k) (length_repeated later again)
 
-pub short_list : (later : ℕ) (values : List (List ℕ)) (first again text : List ℕ) → IsCut values first again → nat_le (length first + later * length again) LONGEST ≡ true → text ≡ first ++ repeat later again → Made text ≡ unless_long (repeat (later + 1) values)
+pub short_list : (later : ℕ) (values : List (List ℕ)) (first again text : List ℕ) → IsCut values first again →
+    nat_le (length first + later * length again) LONGEST ≡ true → text ≡ first ++ repeat later again → Made text ≡ unless_long (repeat (later + 1) values)
 short_list later values first again text cut fits is =
-    let small : nat_le (length (list_of (repeat (later + 1) values))) LONGEST ≡ true = ap (λ n. nat_le n LONGEST) (length_is later values first again cut) ∙ fits in
+    let small : nat_le (length (list_of (repeat (later + 1) values))) LONGEST ≡ true =
+    ap (λ n. nat_le n LONGEST) (length_is later values first again cut) ∙ fits in
     rw small (ap Made (is ∙ sym (text_is later values first again cut)))
 
-pub long_list : (later : ℕ) (values : List (List ℕ)) (first again message : List ℕ) → IsCut values first again → nat_le (length first + later * length again) LONGEST ≡ false → message ≡ codes "result too long" → Bad message ≡ unless_long (repeat (later + 1) values)
+pub long_list : (later : ℕ) (values : List (List ℕ)) (first again message : List ℕ) → IsCut values first again →
+    nat_le (length first + later * length again) LONGEST ≡ false → message ≡ codes "result too long" → Bad message ≡ unless_long (repeat (later + 1) values)
 long_list later values first again message cut fits is =
-    let large : nat_le (length (list_of (repeat (later + 1) values))) LONGEST ≡ false = ap (λ n. nat_le n LONGEST) (length_is later values first again cut) ∙ fits in
+    let large : nat_le (length (list_of (repeat (later + 1) values))) LONGEST ≡ false =
+    ap (λ n. nat_le n LONGEST) (length_is later values first again cut) ∙ fits in
     rw large (ap Bad is)
 
 -- no values, or no times

@@ -1,5 +1,6 @@
 -- Lists in order with the same equals are the same, and the function's list is in order.
-use Rattle.std.proofs.Common.{◌≡◌, ◌≢◌, ◌∙◌, ℕ, Bool, true, false, not, ◌&&◌, cond, if◌then◌else◌, List, [], ◌∷◌, Option, Some, None, ap, refl, sym, subst, rules}
+use Rattle.std.proofs.Common.{◌≡◌, ◌≢◌, ◌∙◌, ℕ, Bool, true, false, not, ◌&&◌, cond, if◌then◌else◌, List, [], ◌∷◌}
+use Rattle.std.proofs.Common.{Option, Some, None, ap, refl, sym, subst, rules}
 use Rattle.std.proofs.lemmas.List.MinMax.{ranks_by}
 use Rattle.std.specs.Cmp.{IsStrictWeakOrder}
 use Rattle.std.specs.List.{AllByRecursion, filter}
@@ -52,7 +53,8 @@ least-later : {X : Type 0} (lt : X → X → Bool) → IsStrictWeakOrder lt → 
 least-later lt weak x y [] first least = tt
 least-later lt weak x y (z ∷ xs) first least = (weak.chain z y x least.0 first, least-later lt weak x y xs first least.1)
 
-ascends : {X : Type 0} (cmp : X → X → Ordering) → IsStrictWeakOrder (λ a b. is_lt (cmp a b)) → (xs : List X) → IsSorted cmp xs → Ascends (λ a b. is_lt (cmp a b)) xs
+ascends : {X : Type 0} (cmp : X → X → Ordering) → IsStrictWeakOrder (λ a b. is_lt (cmp a b)) → (xs : List X) → IsSorted cmp xs →
+    Ascends (λ a b. is_lt (cmp a b)) xs
 ascends cmp weak [] up = tt
 ascends cmp weak (x ∷ []) up = (tt, tt)
 ascends cmp weak (x ∷ y ∷ xs) up =
@@ -62,7 +64,7 @@ ascends cmp weak (x ∷ y ∷ xs) up =
 
 -- ---- one list with the same ties ----
 
--- where something ties with z in a list of which none is less than y, z is not less than y
+-- if something ties with z in a list of which none is less than y, z is not less than y
 not-less : {X : Type 0} (lt : X → X → Bool) → IsStrictWeakOrder lt → (y z : X) (xs : List X) → Least lt y xs → filter (ties lt z) xs ≢ [] → lt z y ≡ false
 not-less lt weak y z [] least some = absurd (some refl)
 not-less lt weak y z (w ∷ xs) least some = go (ties lt z w) refl (not-less lt weak y z xs least.1)
@@ -80,10 +82,14 @@ head-ties lt weak y ys = rw (ties-self lt weak y) refl
 not-empty : {X : Type 0} (xs ys : List X) (x : X) → xs ≡ x ∷ ys → xs ≢ []
 not-empty xs ys x e = λ none. absurd (cc (sym e ∙ none))
 
-firsts-tie : {X : Type 0} (lt : X → X → Bool) → IsStrictWeakOrder lt → (y z : X) (ys zs : List X) → Least lt y ys → Least lt z zs → SameTies lt (y ∷ ys) (z ∷ zs) → ties lt y z ≡ true
+firsts-tie : {X : Type 0} (lt : X → X → Bool) → IsStrictWeakOrder lt → (y z : X) (ys zs : List X) → Least lt y ys → Least lt z zs →
+    SameTies lt (y ∷ ys) (z ∷ zs) → ties lt y z ≡ true
 firsts-tie lt weak y z ys zs least-y least-z same =
-    let a : lt z y ≡ false = not-less lt weak y z (y ∷ ys) (least-self lt weak y ys least-y) (not-empty (filter (ties lt z) (y ∷ ys)) _ z (same z ∙ head-ties lt weak z zs)) in
-    let b : lt y z ≡ false = not-less lt weak z y (z ∷ zs) (least-self lt weak z zs least-z) (not-empty (filter (ties lt y) (z ∷ zs)) _ y (sym (same y) ∙ head-ties lt weak y ys)) in
+    let a : lt z y ≡ false =
+    not-less lt weak y z (y ∷ ys) (least-self lt weak y ys least-y) (not-empty (filter (ties lt z) (y ∷ ys)) _ z (same z ∙ head-ties lt weak z zs)) in
+    let b : lt y z ≡ false =
+    not-less lt weak z y (z ∷ zs) (least-self lt weak z zs least-z)
+    (not-empty (filter (ties lt y) (z ∷ zs)) _ y (sym (same y) ∙ head-ties lt weak y ys)) in
     rw (a, b) refl
 
 tail-by : {X : Type 0} (b : Bool) (y : X) (xs ys : List X) → cond b (y ∷ xs) xs ≡ cond b (y ∷ ys) ys → xs ≡ ys
@@ -98,7 +104,8 @@ same-list lt weak (y ∷ ys) (z ∷ zs) up-y up-z same =
     let tie = firsts-tie lt weak y z ys zs up-y.0 up-z.0 same in
     let heads : y ∷ filter (ties lt y) ys ≡ z ∷ filter (ties lt y) zs = sym (head-ties lt weak y ys) ∙ same y ∙ rw tie refl in
     let first : y ≡ z = cc heads in
-    let later = same-list lt weak ys zs up-y.1 up-z.1 (λ x. tail-by (ties lt x y) y (filter (ties lt x) ys) (filter (ties lt x) zs) (same x ∙ rw (← first) refl)) in
+    let later = same-list lt weak ys zs up-y.1 up-z.1
+    (λ x. tail-by (ties lt x y) y (filter (ties lt x) ys) (filter (ties lt x) zs) (same x ∙ rw (← first) refl)) in
     rw (first, later) refl
 
 -- ---- the function's list ----
@@ -111,7 +118,8 @@ placed-all cmp P x (y ∷ xs) one all = go (is_lt (cmp y x)) refl (placed-all cm
     go true e later = rw e (all.0, later)
     go false e later = rw e (one, all)
 
-placed-ascends : {X : Type 0} (cmp : X → X → Ordering) → IsStrictWeakOrder (λ a b. is_lt (cmp a b)) → (x : X) (xs : List X) → Ascends (λ a b. is_lt (cmp a b)) xs → Ascends (λ a b. is_lt (cmp a b)) (with_item cmp x xs)
+placed-ascends : {X : Type 0} (cmp : X → X → Ordering) → IsStrictWeakOrder (λ a b. is_lt (cmp a b)) → (x : X) (xs : List X) →
+    Ascends (λ a b. is_lt (cmp a b)) xs → Ascends (λ a b. is_lt (cmp a b)) (with_item cmp x xs)
 placed-ascends cmp weak x [] up = (tt, tt)
 placed-ascends cmp weak x (y ∷ xs) up = go (is_lt (cmp y x)) refl (placed-ascends cmp weak x xs up.1)
   where
@@ -129,38 +137,47 @@ apart lt weak t x y less tie = go (ties lt t x) refl
         absurd (cc (sym less ∙ no))
     go false e = e
 
-behind : {X : Type 0} (lt : X → X → Bool) → IsStrictWeakOrder lt → (t x y : X) (front back : List X) (b : Bool) → ties lt t y ≡ b → lt y x ≡ true → filter (ties lt t) front ≡ filter (ties lt t) (x ∷ back) → filter (ties lt t) (y ∷ front) ≡ filter (ties lt t) (x ∷ y ∷ back)
+behind : {X : Type 0} (lt : X → X → Bool) → IsStrictWeakOrder lt → (t x y : X) (front back : List X) (b : Bool) → ties lt t y ≡ b → lt y x ≡ true →
+    filter (ties lt t) front ≡ filter (ties lt t) (x ∷ back) → filter (ties lt t) (y ∷ front) ≡ filter (ties lt t) (x ∷ y ∷ back)
 behind lt weak t x y front back true tie less later = rw (tie, later, apart lt weak t x y less tie) refl
 behind lt weak t x y front back false tie less later = rw (tie, later) refl
 
-placed-ties : {X : Type 0} (cmp : X → X → Ordering) → IsStrictWeakOrder (λ a b. is_lt (cmp a b)) → (t x : X) (xs : List X) → filter (ties (λ a b. is_lt (cmp a b)) t) (with_item cmp x xs) ≡ filter (ties (λ a b. is_lt (cmp a b)) t) (x ∷ xs)
+placed-ties : {X : Type 0} (cmp : X → X → Ordering) → IsStrictWeakOrder (λ a b. is_lt (cmp a b)) → (t x : X) (xs : List X) →
+    filter (ties (λ a b. is_lt (cmp a b)) t) (with_item cmp x xs) ≡ filter (ties (λ a b. is_lt (cmp a b)) t) (x ∷ xs)
 placed-ties cmp weak t x [] = refl
 placed-ties cmp weak t x (y ∷ xs) = go (is_lt (cmp y x)) refl (placed-ties cmp weak t x xs)
   where
-    go : (b : Bool) → is_lt (cmp y x) ≡ b → filter (ties (λ a b. is_lt (cmp a b)) t) (with_item cmp x xs) ≡ filter (ties (λ a b. is_lt (cmp a b)) t) (x ∷ xs) → filter (ties (λ a b. is_lt (cmp a b)) t) (with_item cmp x (y ∷ xs)) ≡ filter (ties (λ a b. is_lt (cmp a b)) t) (x ∷ y ∷ xs)
+    go : (b : Bool) → is_lt (cmp y x) ≡ b →
+        filter (ties (λ a b. is_lt (cmp a b)) t) (with_item cmp x xs) ≡ filter (ties (λ a b. is_lt (cmp a b)) t) (x ∷ xs) →
+        filter (ties (λ a b. is_lt (cmp a b)) t) (with_item cmp x (y ∷ xs)) ≡ filter (ties (λ a b. is_lt (cmp a b)) t) (x ∷ y ∷ xs)
     go true e later = rw e (behind (λ a b. is_lt (cmp a b)) weak t x y (with_item cmp x xs) xs (ties (λ a b. is_lt (cmp a b)) t y) refl e later)
     go false e later = rw e refl
 
-order-ascends : {X : Type 0} (cmp : X → X → Ordering) → IsStrictWeakOrder (λ a b. is_lt (cmp a b)) → (xs : List X) → Ascends (λ a b. is_lt (cmp a b)) (in_order cmp xs)
+order-ascends : {X : Type 0} (cmp : X → X → Ordering) → IsStrictWeakOrder (λ a b. is_lt (cmp a b)) → (xs : List X) →
+    Ascends (λ a b. is_lt (cmp a b)) (in_order cmp xs)
 order-ascends cmp weak [] = tt
 order-ascends cmp weak (x ∷ xs) = placed-ascends cmp weak x (in_order cmp xs) (order-ascends cmp weak xs)
 
 cons-ties : {X : Type 0} (p : X → Bool) (x : X) (xs ys : List X) → filter p xs ≡ filter p ys → filter p (x ∷ xs) ≡ filter p (x ∷ ys)
 cons-ties p x xs ys e = rw e refl
 
-order-ties : {X : Type 0} (cmp : X → X → Ordering) → IsStrictWeakOrder (λ a b. is_lt (cmp a b)) → (xs : List X) → SameTies (λ a b. is_lt (cmp a b)) (in_order cmp xs) xs
+order-ties : {X : Type 0} (cmp : X → X → Ordering) → IsStrictWeakOrder (λ a b. is_lt (cmp a b)) → (xs : List X) →
+    SameTies (λ a b. is_lt (cmp a b)) (in_order cmp xs) xs
 order-ties cmp weak [] = λ t. refl
-order-ties cmp weak (x ∷ xs) = λ t. placed-ties cmp weak t x (in_order cmp xs) ∙ cons-ties (ties (λ a b. is_lt (cmp a b)) t) x (in_order cmp xs) xs (order-ties cmp weak xs t)
+order-ties cmp weak (x ∷ xs) =
+    λ t. placed-ties cmp weak t x (in_order cmp xs) ∙ cons-ties (ties (λ a b. is_lt (cmp a b)) t) x (in_order cmp xs) xs (order-ties cmp weak xs t)
 
 -- ---- the answer ----
 
 one-order : (how : Sorting) (items sorted : List (List ℕ)) → IsInOrder how items sorted → sorted ≡ in_order (order how) items
 one-order how items sorted is =
     let weak : IsStrictWeakOrder (λ (a b : List ℕ). is_lt (order how a b)) = ranks_by (order-total how) (λ (item : List ℕ). item) in
-    same-list (λ (a b : List ℕ). is_lt (order how a b)) weak sorted (in_order (order how) items) (ascends (order how) weak sorted is.ascends) (order-ascends (order how) weak items)
+    same-list (λ (a b : List ℕ). is_lt (order how a b)) weak sorted (in_order (order how) items) (ascends (order how) weak sorted is.ascends)
+    (order-ascends (order how) weak items)
     (λ t. is.stable t ∙ sym (order-ties (order how) weak items t))
 
-unless : (fault : Option (List ℕ)) (how : Sorting) (items : List (List ℕ)) (answer : ListAnswer) → IsSortUnless fault how items answer → answer ≡ sort_unless fault how items
+unless : (fault : Option (List ℕ)) (how : Sorting) (items : List (List ℕ)) (answer : ListAnswer) → IsSortUnless fault how items answer →
+    answer ≡ sort_unless fault how items
 unless (Some message) how items answer is = is
 unless None how items answer is = is.2 ∙ ap (λ sorted. Made (list_of (sort_result how sorted))) (one-order how items is.0 is.1)
 

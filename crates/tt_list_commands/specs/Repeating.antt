@@ -8,7 +8,7 @@ use Rattle.tt_number.specs.Messages.{number_message}
 use Rattle.tt_number.specs.Numerals.{whole_of}
 use Rattle.tt_list_commands.specs.declared.repeating.TheConstants.{LONGEST}
 
--- a list, where its text is not too long
+-- a list, if its text is not too long
 abbrev pub unless_long : List (List ℕ) → ListAnswer
 unless_long items =
     if nat_le (length (list_of items)) LONGEST then Made (list_of items) else Bad (codes "result too long")

@@ -16,7 +16,7 @@ use Rattle.tt_number.specs.Messages.{number_message}
 use Rattle.tt_number.specs.Numerals.{whole_of}
 use Rattle.tt_list_commands.specs.declared.sorting.Sorting.{Sorting}
 
--- the whole number that an item spells; 0 where it spells none
+-- the whole number that an item spells; 0 if it spells none
 abbrev pub number_of : List ℕ → ℤ
 number_of item = elim (whole_of item) [ Ok number ↦ number | Err fault ↦ pos 0 ]
 

@@ -11,16 +11,16 @@ use tt_text::{NoMemory, Text, Texts};
 /// The texts without the white space around them, and without those that are empty then, with a space between each two
 /// (concat(n)). White space goes after a backslash too.
 ///
-/// `NoMemory` where memory is refused.
+/// `NoMemory` if memory is refused.
 pub fn concat(alloc: Global, texts: &[Text]) -> Result<Text, NoMemory>
     ensures text { IfOk result (λ text. text ≡ concatenation texts.now) }
 {
-    let kept = kept(alloc, texts)?;
+    let kept = kept_texts(alloc, texts)?;
     let text = joined_text(alloc, b" ", kept.as_slice())?;
     Ok(text)
 }
 
-fn kept(alloc: Global, texts: &[Text]) -> Result<Texts, NoMemory>
+fn kept_texts(alloc: Global, texts: &[Text]) -> Result<Texts, NoMemory>
     ensures { IfOk result (λ kept. kept ≡ filter has_some (map trimmed texts.now)) }
 {
     let mut kept = Texts::new(alloc);

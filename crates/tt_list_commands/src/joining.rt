@@ -8,7 +8,7 @@ use tt_text::{NoMemory, Text};
 
 /// The text of a list's items with the separator between each two (join(n)).
 ///
-/// `Bad` where the text is no list. `NoMemory` where memory is refused.
+/// `Bad` if the text is no list. `NoMemory` if memory is refused.
 pub fn join(alloc: Global, list: &[u8], separator: &[u8]) -> Result<ListAnswer, NoMemory>
     ensures answer { IfOk result (λ answer. answer ≡ join_answer list.now separator.now) }
 {

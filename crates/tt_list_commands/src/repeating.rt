@@ -14,7 +14,7 @@ pub const LONGEST: usize = 268_435_456;
 /// The list of the values as many times as the count says (lrepeat(n)).
 ///
 /// `Bad` where the count is no whole number, where it is negative, and where the list would have more than `LONGEST`
-/// bytes; then it isn't made. `NoMemory` where memory is refused.
+/// bytes; then it isn't made. `NoMemory` if memory is refused.
 pub fn repeat(alloc: Global, count: &[u8], values: &[Text]) -> Result<ListAnswer, NoMemory>
     ensures answer { IfOk result (λ answer. answer ≡ repeat_answer count.now values.now) }
 {

@@ -7,7 +7,7 @@ use tt_text::NoMemory;
 
 /// The list of a list's items in reverse order (lreverse(n)).
 ///
-/// `Bad` where the text is no list. `NoMemory` where memory is refused.
+/// `Bad` if the text is no list. `NoMemory` if memory is refused.
 pub fn reverse(alloc: Global, list: &[u8]) -> Result<ListAnswer, NoMemory>
     ensures answer { IfOk result (λ answer. answer ≡ reverse_answer list.now) }
 {

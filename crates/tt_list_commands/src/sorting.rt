@@ -25,8 +25,8 @@ pub struct Sorting {
 
 /// The list of a list's items in order (lsort(n)). Equals stay in the order that they have.
 ///
-/// `Bad` where the text is no list, and else with `integer` for the first item that is no whole number. `NoMemory`
-/// where memory is refused.
+/// `Bad` if the text is no list, and else with `integer` for the first item that is no whole number. `NoMemory`
+/// if memory is refused.
 pub fn sort(alloc: Global, how: Sorting, list: &[u8]) -> Result<ListAnswer, NoMemory>
     ensures answer { IfOk result (IsSortAnswer how list.now) }
 {

@@ -1,5 +1,7 @@
 -- Indices by the grammar and by the function.
-use Rattle.std.proofs.Common.{◌≡◌, ℕ, ◌^◌, Bool, true, false, ◌==◌, ◌&&◌, ◌||◌, cond, ℤ, pos, negsuc, neg_ℤ, ◌+ℤ◌, List, [], ◌∷◌, ◌++◌, length, take, drop, Option, Some, None, refl, sym, ap, subst, ◌∙◌, inl, inr, arith}
+use Rattle.std.proofs.Common.{◌≡◌, ℕ, ◌^◌, Bool, true, false, ◌==◌, ◌&&◌, ◌||◌, cond, ℤ, pos, negsuc, neg_ℤ, ◌+ℤ◌, List}
+use Rattle.std.proofs.Common.{[], ◌∷◌, ◌++◌, length, take, drop, Option, Some, None, refl, sym, ap, subst, ◌∙◌, inl}
+use Rattle.std.proofs.Common.{inr, arith}
 use Rattle.std.specs.List.{list_all, prefix_len, take_while}
 use Rattle.std.specs.Prelude.{nat_lt, FitsSigned, ◌⊎◌}
 use Rattle.std.specs.Int.{w64}
@@ -8,7 +10,9 @@ use Rattle.std.proofs.lemmas.Bool.{cases_Bool, and_parts, eqb-true, lt-ltb, ltb-
 use Rattle.std.proofs.lemmas.Bool.Decides.{nat_tests}
 use Rattle.std.proofs.lemmas.List.{take-append-drop}
 use Rattle.std.proofs.Math.Seq.{take-append_seam, drop-append_seam}
-use Rattle.tt_lists.specs.Indices.{IsOffset, IsIndex, IndexLaw, is_decimal, is_number, number_of, signed_with, offset_of, fits, place_of, sum_of, from_first_of, is_end_first, is_sign_first, index_of}
+use Rattle.tt_lists.specs.Indices.{IsOffset, IsIndex, IndexLaw, is_decimal, is_number, number_of, signed_with}
+use Rattle.tt_lists.specs.Indices.{offset_of, fits, place_of, sum_of, from_first_of, is_end_first, is_sign_first}
+use Rattle.tt_lists.specs.Indices.{index_of}
 use Rattle.tt_lists.specs.Indices.IsOffset.{none, plus, minus}
 use Rattle.tt_lists.specs.Indices.IsIndex.{from_first, signed, from_end}
 use Rattle.tt_lists.specs.declared.place.Index.{Index}
@@ -34,11 +38,13 @@ number_sound digits n h = both (is_number digits) refl h
 number_complete : (digits : List ℕ) → is_number digits ≡ true → number_of digits ≡ Some (digits_value 10 digits)
 number_complete digits h = ap (λ t. cond t (Some (digits_value 10 digits)) None) h
 
--- a number with a sign, where there is one
-signed_sound : (negative : Bool) (digits : List ℕ) (z : ℤ) → signed_with negative (number_of digits) ≡ Some z → (is_number digits ≡ true) × (z ≡ cond negative (neg_ℤ (pos (digits_value 10 digits))) (pos (digits_value 10 digits)))
+-- a number with a sign, if there is one
+signed_sound : (negative : Bool) (digits : List ℕ) (z : ℤ) → signed_with negative (number_of digits) ≡ Some z → (is_number digits ≡ true)
+    × (z ≡ cond negative (neg_ℤ (pos (digits_value 10 digits))) (pos (digits_value 10 digits)))
 signed_sound negative digits z h = go (number_of digits) refl h
   where
-    go : (o : Option ℕ) → number_of digits ≡ o → signed_with negative o ≡ Some z → (is_number digits ≡ true) × (z ≡ cond negative (neg_ℤ (pos (digits_value 10 digits))) (pos (digits_value 10 digits)))
+    go : (o : Option ℕ) → number_of digits ≡ o → signed_with negative o ≡ Some z → (is_number digits ≡ true)
+        × (z ≡ cond negative (neg_ℤ (pos (digits_value 10 digits))) (pos (digits_value 10 digits)))
     go None e h = absurd (cc h)
     go (Some n) e h = let p = number_sound digits n e in let is : cond negative (neg_ℤ (pos n)) (pos n) ≡ z = cc in (p.0, sym is ∙ ap (λ m. cond negative (neg_ℤ (pos m)) (pos m)) p.1)
 
@@ -99,29 +105,35 @@ digit_first b text h =
     no_end (n ∷ []) e = refl
     no_end (n ∷ d ∷ text) e = rw e refl
 
--- digits end where an offset begins
+-- digits end if an offset begins
 offset_ends : {text : List ℕ} {z : ℤ} → IsOffset text z → prefix_len is_decimal text ≡ 0
 offset_ends none = refl
 offset_ends (plus h) = refl
 offset_ends (minus h) = refl
 
-digits_end : (digits offset : List ℕ) → list_all is_decimal digits ≡ true → prefix_len is_decimal offset ≡ 0 → prefix_len is_decimal (digits ++ offset) ≡ length digits
+digits_end : (digits offset : List ℕ) → list_all is_decimal digits ≡ true → prefix_len is_decimal offset ≡ 0 →
+    prefix_len is_decimal (digits ++ offset) ≡ length digits
 digits_end [] offset h e = e
 digits_end (d ∷ digits) offset h e = let p = and_parts (is_decimal d) (list_all is_decimal digits) h in rw p.0 (omega (arith, digits_end digits offset p.1 e))
 
 -- ---- the law
 
 first_sound : (text : List ℕ) (i : Index) → from_first_of text ≡ Some i → IsIndex text i
-first_sound text i h = go (number_of (take_while is_decimal text)) (offset_of (drop (prefix_len is_decimal text) text)) refl refl (place_sound At (sum_of (number_of (take_while is_decimal text)) (offset_of (drop (prefix_len is_decimal text) text))) i h)
+first_sound text i h =
+    go (number_of (take_while is_decimal text)) (offset_of (drop (prefix_len is_decimal text) text)) refl refl
+    (place_sound At (sum_of (number_of (take_while is_decimal text)) (offset_of (drop (prefix_len is_decimal text) text))) i h)
   where
-    go : (m : Option ℕ) (n : Option ℤ) → number_of (take_while is_decimal text) ≡ m → offset_of (drop (prefix_len is_decimal text) text) ≡ n → IsPlace At (sum_of m n) i → IsIndex text i
+    go : (m : Option ℕ) (n : Option ℤ) → number_of (take_while is_decimal text) ≡ m → offset_of (drop (prefix_len is_decimal text) text) ≡ n →
+        IsPlace At (sum_of m n) i → IsIndex text i
     go None n e f p = absurd (cc p.told)
     go (Some m) None e f p = absurd (cc p.told)
     go (Some m) (Some n) e f p =
         let number = number_sound (take_while is_decimal text) m e in
         let sum : pos m +ℤ n ≡ p.number = cc (p.told) in
         let place : p.number ≡ pos (digits_value 10 (take_while is_decimal text)) +ℤ n = sym sum ∙ ap (λ k. pos k +ℤ n) number.1 in
-        subst (IsIndex text) p.is (from_first (take_while is_decimal text) (drop (prefix_len is_decimal text) text) n (sym (take-append-drop (prefix_len is_decimal text) text)) number.0 (offset_sound (drop (prefix_len is_decimal text) text) n f) place p.inside)
+        subst (IsIndex text) p.is
+        (from_first (take_while is_decimal text) (drop (prefix_len is_decimal text) text) n
+        (sym (take-append-drop (prefix_len is_decimal text) text)) number.0 (offset_sound (drop (prefix_len is_decimal text) text) n f) place p.inside)
 
 signed_index : (text : List ℕ) (i : Index) → is_sign_first text ≡ true → place_of At (offset_of text) ≡ Some i → IsIndex text i
 signed_index [] i s h = absurd (cc s)
@@ -133,7 +145,8 @@ sound text i h =
     elim (cases_Bool (is_end_first text)) [
       | inl p ↦ (
           let q = place_sound FromEnd (offset_of (drop 3 text)) i (rw p at h) in
-          subst (λ t. IsIndex t i) (sym (ends_first text p)) (subst (IsIndex (101 ∷ 110 ∷ 100 ∷ drop 3 text)) q.is (from_end (offset_sound (drop 3 text) q.number q.told) q.inside)))
+          subst (λ t. IsIndex t i) (sym (ends_first text p))
+          (subst (IsIndex (101 ∷ 110 ∷ 100 ∷ drop 3 text)) q.is (from_end (offset_sound (drop 3 text) q.number q.told) q.inside)))
       | inr p ↦ elim (cases_Bool (is_sign_first text)) [
         | inl q ↦ signed_index text i q (rw (p, q) at h)
         | inr q ↦ first_sound text i (rw (p, q) at h)
@@ -162,16 +175,19 @@ complete_signed b digits z o f =
     sign : (b : ℕ) → (b == 43 || b == 45) ≡ true → (b == 43 || b == 45) ≡ true
     sign b e = e
 
-complete_first : (digits offset : List ℕ) (number place : ℤ) → is_number digits ≡ true → IsOffset offset number → place ≡ pos (digits_value 10 digits) +ℤ number → FitsSigned w64 place → index_of (digits ++ offset) ≡ Some (At place)
+complete_first : (digits offset : List ℕ) (number place : ℤ) → is_number digits ≡ true → IsOffset offset number →
+    place ≡ pos (digits_value 10 digits) +ℤ number → FitsSigned w64 place → index_of (digits ++ offset) ≡ Some (At place)
 unfolding index_of
 complete_first digits offset number place d o e f = go digits d refl
   where
     told : (digits : List ℕ) → is_number digits ≡ true → place ≡ pos (digits_value 10 digits) +ℤ number → from_first_of (digits ++ offset) ≡ Some (At place)
     told digits d e =
-        let all = (and_parts (nat_lt 0 (length digits)) (list_all is_decimal digits) (and_parts (nat_lt 0 (length digits) && list_all is_decimal digits) (nat_lt (digits_value 10 digits) (2 ^ 64)) d).0).1 in
+        let all = (and_parts (nat_lt 0 (length digits)) (list_all is_decimal digits)
+        (and_parts (nat_lt 0 (length digits) && list_all is_decimal digits) (nat_lt (digits_value 10 digits) (2 ^ 64)) d).0).1 in
         let size = digits_end digits offset all (offset_ends o) in
         let front : take_while is_decimal (digits ++ offset) ≡ digits = ap (λ n. take n (digits ++ offset)) size ∙ take-append_seam digits offset in
-        let back : drop (prefix_len is_decimal (digits ++ offset)) (digits ++ offset) ≡ offset = ap (λ n. drop n (digits ++ offset)) size ∙ drop-append_seam digits offset in
+        let back : drop (prefix_len is_decimal (digits ++ offset)) (digits ++ offset) ≡ offset =
+        ap (λ n. drop n (digits ++ offset)) size ∙ drop-append_seam digits offset in
         ap (λ t. place_of At (sum_of (number_of t) (offset_of (drop (prefix_len is_decimal (digits ++ offset)) (digits ++ offset))))) front
         ∙ ap (λ t. place_of At (sum_of (number_of digits) (offset_of t))) back
         ∙ ap (λ n. place_of At (sum_of n (offset_of offset))) (number_complete digits d)
@@ -182,7 +198,8 @@ complete_first digits offset number place d o e f = go digits d refl
     go : (ds : List ℕ) → is_number ds ≡ true → digits ≡ ds → index_of (digits ++ offset) ≡ Some (At place)
     go [] d' same = absurd (both_ways false refl d')
     go (b ∷ ds) d' same =
-        let all = (and_parts (nat_lt 0 (length (b ∷ ds))) (list_all is_decimal (b ∷ ds)) (and_parts (nat_lt 0 (length (b ∷ ds)) && list_all is_decimal (b ∷ ds)) (nat_lt (digits_value 10 (b ∷ ds)) (2 ^ 64)) d').0).1 in
+        let all = (and_parts (nat_lt 0 (length (b ∷ ds))) (list_all is_decimal (b ∷ ds))
+        (and_parts (nat_lt 0 (length (b ∷ ds)) && list_all is_decimal (b ∷ ds)) (nat_lt (digits_value 10 (b ∷ ds)) (2 ^ 64)) d').0).1 in
         let p = digit_first b (ds ++ offset) (and_parts (is_decimal b) (list_all is_decimal ds) all).0 in
         rw same (rw (p.0, p.1) (told (b ∷ ds) d' (e ∙ ap (λ t. pos (digits_value 10 t) +ℤ number) same)))
 

@@ -1,5 +1,6 @@
 -- A canonical text lists the items that it was made of.
-use Rattle.std.proofs.Common.{◌≡◌, ◌≢◌, ℕ, Bool, true, false, not, ◌==◌, ◌||◌, cond, List, [], ◌∷◌, ◌++◌, drop, refl, sym, ap, subst, ◌∙◌, inl, inr, append_assoc, arith}
+use Rattle.std.proofs.Common.{◌≡◌, ◌≢◌, ℕ, Bool, true, false, not, ◌==◌, ◌||◌, cond, List, [], ◌∷◌, ◌++◌, drop, refl}
+use Rattle.std.proofs.Common.{sym, ap, subst, ◌∙◌, inl, inr, append_assoc, arith}
 use Rattle.std.specs.List.{list_any, flat_map}
 use Rattle.std.proofs.lemmas.Bool.{cases_Bool, eqb-true, or_parts, and_parts, both_ways, cond-true, cond-false}
 use Rattle.std.proofs.lemmas.Bool.Decides.{nat_tests}
@@ -13,7 +14,9 @@ use Rattle.tt_lists.specs.ListText.IsRun.{at_end as run_end, stopped, letter, es
 use Rattle.tt_lists.specs.ListText.IsSeparated.{at_end, white}
 use Rattle.tt_lists.specs.ListText.IsItem.{braced, bare}
 use Rattle.tt_lists.specs.ListText.IsListText.{none, space, first}
-use Rattle.tt_lists.specs.Spelling.{is_comment_sign, joins_lines, is_substituted, wants_braces, wants_braces_first, fits_braces, style_of, escape, escape_first, escape_bare, escaped, styled, spelling, later_item, list_of}
+use Rattle.tt_lists.specs.Spelling.{is_comment_sign, joins_lines, is_substituted, wants_braces, wants_braces_first}
+use Rattle.tt_lists.specs.Spelling.{fits_braces, style_of, escape, escape_first, escape_bare, escaped, styled, spelling}
+use Rattle.tt_lists.specs.Spelling.{later_item, list_of}
 use Rattle.tt_lists.specs.Reading.{split_of}
 use Rattle.tt_lists.proofs.SplitLaw.{complete_items}
 use Rattle.tt_lists.specs.declared.items.Split.TheVariants.{Items}
@@ -78,8 +81,10 @@ escape_is b =
             | inr h12 ↦ elim (cases_Bool (b == 13)) [
               | inl p ↦ rw (eqb-true b 13 p) (letter_after refl)
               | inr h13 ↦ elim (cases_Bool (gets_backslash b)) [
-                | inl p ↦ subst (IsEscape b) (sym (rw (h9, h10, h11, h12, h13) (cond-true (gets_backslash b) (92 ∷ b ∷ []) (b ∷ []) p))) (itself_after (plain_kind b p))
-                | inr p ↦ subst (IsEscape b) (sym (rw (h9, h10, h11, h12, h13) (cond-false (gets_backslash b) (92 ∷ b ∷ []) (b ∷ []) p))) (as_it_is (ordinary b h9 h10 h11 h12 h13 p))
+                | inl p ↦ subst (IsEscape b) (sym (rw (h9, h10, h11, h12, h13) (cond-true (gets_backslash b) (92 ∷ b ∷ []) (b ∷ []) p)))
+                    (itself_after (plain_kind b p))
+                | inr p ↦ subst (IsEscape b) (sym (rw (h9, h10, h11, h12, h13) (cond-false (gets_backslash b) (92 ∷ b ∷ []) (b ∷ []) p)))
+                    (as_it_is (ordinary b h9 h10 h11 h12 h13 p))
               ]
             ]
           ]
@@ -103,18 +108,21 @@ run_escape b text value rest _ (itself_after k) r = itself b text value rest k r
 run_escape b text value rest _ (letter_after {sign} k) r = named sign b text value rest k r
 run_escape b text value rest _ (as_it_is o) r = letter o.no_white o.no_backslash r
 
-run_escapes : (f : ℕ → List ℕ) (p : ℕ → Bool) (item rest : List ℕ) → ((b : ℕ) → p b ≡ false → IsEscape b (f b)) → list_any p item ≡ false → IsSeparated rest → Runs (flat_map f item ++ rest) item rest
+run_escapes : (f : ℕ → List ℕ) (p : ℕ → Bool) (item rest : List ℕ) → ((b : ℕ) → p b ≡ false → IsEscape b (f b)) → list_any p item ≡ false →
+    IsSeparated rest → Runs (flat_map f item ++ rest) item rest
 run_escapes f p [] rest each h s = stops_here rest s
 run_escapes f p (b ∷ item) rest each h s =
     let q = or_parts (p b) (list_any p item) h in
-    subst (λ t. Runs t (b ∷ item) rest) (sym (append_assoc (f b) (flat_map f item) rest)) (run_escape b (flat_map f item ++ rest) item rest (f b) (each b q.0) (run_escapes f p item rest each q.1 s))
+    subst (λ t. Runs t (b ∷ item) rest) (sym (append_assoc (f b) (flat_map f item) rest))
+    (run_escape b (flat_map f item ++ rest) item rest (f b) (each b q.0) (run_escapes f p item rest each q.1 s))
 
 none_of : (item : List ℕ) → list_any (λ _. false) item ≡ false
 none_of [] = refl
 none_of (b ∷ item) = none_of item
 
 -- what is escaped begins with a byte that begins a bare item
-begins_bare : (b : ℕ) (written more item rest : List ℕ) → IsEscape b written → (written ≡ b ∷ [] → (b ≢ 123) × (b ≢ 34)) → Runs (written ++ more) item rest → IsItem (written ++ more) item rest
+begins_bare : (b : ℕ) (written more item rest : List ℕ) → IsEscape b written → (written ≡ b ∷ [] → (b ≢ 123) × (b ≢ 34)) →
+    Runs (written ++ more) item rest → IsItem (written ++ more) item rest
 begins_bare b _ more item rest (itself_after k) alone r = bare refl (λ e. absurd (omega arith)) (λ e. absurd (omega arith)) r
 begins_bare b _ more item rest (letter_after k) alone r = bare refl (λ e. absurd (omega arith)) (λ e. absurd (omega arith)) r
 begins_bare b _ more item rest (as_it_is o) alone r = bare o.no_white (alone refl).0 (alone refl).1 r
@@ -130,25 +138,38 @@ quote_escape Later e = cc
 escaped_item : (place : Place) (b : ℕ) (item rest : List ℕ) → IsSeparated rest → IsItem (escaped place (b ∷ item) ++ rest) (b ∷ item) rest
 escaped_item place b item rest s =
     let more = flat_map escape item ++ rest in
-    let runs = run_escape b more item rest (escape_first place b) (escape_first_is place b) (run_escapes escape (λ _. false) item rest (λ c h. escape_is c) (none_of item) s) in
-    subst (λ t. IsItem t (b ∷ item) rest) (sym (append_assoc (escape_first place b) (flat_map escape item) rest)) (begins_bare b (escape_first place b) more (b ∷ item) rest (escape_first_is place b) (λ e. (λ is. brace_escape place (rw is at e), λ is. quote_escape place (rw is at e))) runs)
+    let runs = run_escape b more item rest (escape_first place b) (escape_first_is place b)
+    (run_escapes escape (λ _. false) item rest (λ c h. escape_is c) (none_of item) s) in
+    subst (λ t. IsItem t (b ∷ item) rest) (sym (append_assoc (escape_first place b) (flat_map escape item) rest))
+    (begins_bare b (escape_first place b) more (b ∷ item) rest (escape_first_is place b)
+    (λ e. (λ is. brace_escape place (rw is at e), λ is. quote_escape place (rw is at e))) runs)
 
 bare_is : (b : ℕ) → wants_braces b ≡ false → IsEscape b (escape_bare b)
 bare_is b h =
     elim (cases_Bool (b == 93 || b == 34)) [
       | inl p ↦ rw p (itself_after (grind (arith, nat_tests)))
-      | inr p ↦ rw p (as_it_is (record { no_white = (or_parts (is_white_space b) (is_substituted b) h).0; no_backslash = λ e. both_ways (is_substituted b) (or_parts (is_white_space b) (is_substituted b) h).1 (rw e refl) }))
+      | inr p ↦ rw p
+          (as_it_is (record {
+            no_white =
+                (or_parts (is_white_space b) (is_substituted b) h).0;
+            no_backslash =
+                λ e. both_ways (is_substituted b) (or_parts (is_white_space b) (is_substituted b) h).1 (rw e refl);
+          }))
     ]
 
-bare_item : (place : Place) (b : ℕ) (item rest : List ℕ) → wants_braces_first place b ≡ false → list_any wants_braces (b ∷ item) ≡ false → IsSeparated rest → IsItem (flat_map escape_bare (b ∷ item) ++ rest) (b ∷ item) rest
+bare_item : (place : Place) (b : ℕ) (item rest : List ℕ) → wants_braces_first place b ≡ false → list_any wants_braces (b ∷ item) ≡ false →
+    IsSeparated rest → IsItem (flat_map escape_bare (b ∷ item) ++ rest) (b ∷ item) rest
 bare_item place b item rest f h s =
     let q = or_parts (wants_braces b) (list_any wants_braces item) h in
     let more = flat_map escape_bare item ++ rest in
     let runs = run_escape b more item rest (escape_bare b) (bare_is b q.0) (run_escapes escape_bare wants_braces item rest bare_is q.1 s) in
-    subst (λ t. IsItem t (b ∷ item) rest) (sym (append_assoc (escape_bare b) (flat_map escape_bare item) rest)) (begins_bare b (escape_bare b) more (b ∷ item) rest (bare_is b q.0) (λ e. (λ is. both_ways (wants_braces_first place b) f (rw is refl), λ is. both_ways (wants_braces_first place b) f (rw is refl))) runs)
+    subst (λ t. IsItem t (b ∷ item) rest) (sym (append_assoc (escape_bare b) (flat_map escape_bare item) rest))
+    (begins_bare b (escape_bare b) more (b ∷ item) rest (bare_is b q.0)
+    (λ e. (λ is. both_ways (wants_braces_first place b) f (rw is refl), λ is. both_ways (wants_braces_first place b) f (rw is refl))) runs)
 
 braced_item : (item rest : List ℕ) → fits_braces item ≡ true → IsSeparated rest → IsItem ((123 ∷ (item ++ (125 ∷ []))) ++ rest) item rest
-braced_item item rest h s = braced (ap (λ t. 123 ∷ t) (append_assoc item (125 ∷ []) rest)) ((balanced_law item).0 (and_parts (is_balanced item) (not (joins_lines item)) h).0) s
+braced_item item rest h s =
+    braced (ap (λ t. 123 ∷ t) (append_assoc item (125 ∷ []) rest)) ((balanced_law item).0 (and_parts (is_balanced item) (not (joins_lines item)) h).0) s
 
 -- a spelling with a separator after it is an item
 spelled : (place : Place) (item rest : List ℕ) → IsSeparated rest → IsItem (spelling place item ++ rest) item rest
@@ -168,10 +189,12 @@ spelled place (b ∷ item) rest s =
     style_escaped p = ap (λ t. cond (not t) Escaped (cond (wants_braces_first place b || list_any wants_braces (b ∷ item)) Braced Bare)) p
 
     style_braced : fits_braces (b ∷ item) ≡ true → (wants_braces_first place b || list_any wants_braces (b ∷ item)) ≡ true → style_of place (b ∷ item) ≡ Braced
-    style_braced p q = ap (λ t. cond (not t) Escaped (cond (wants_braces_first place b || list_any wants_braces (b ∷ item)) Braced Bare)) p ∙ ap (λ t. cond t Braced Bare) q
+    style_braced p q =
+        ap (λ t. cond (not t) Escaped (cond (wants_braces_first place b || list_any wants_braces (b ∷ item)) Braced Bare)) p ∙ ap (λ t. cond t Braced Bare) q
 
     style_bare : fits_braces (b ∷ item) ≡ true → (wants_braces_first place b || list_any wants_braces (b ∷ item)) ≡ false → style_of place (b ∷ item) ≡ Bare
-    style_bare p q = ap (λ t. cond (not t) Escaped (cond (wants_braces_first place b || list_any wants_braces (b ∷ item)) Braced Bare)) p ∙ ap (λ t. cond t Braced Bare) q
+    style_bare p q =
+        ap (λ t. cond (not t) Escaped (cond (wants_braces_first place b || list_any wants_braces (b ∷ item)) Braced Bare)) p ∙ ap (λ t. cond t Braced Bare) q
 
 separated_later : (items : List (List ℕ)) → IsSeparated (flat_map later_item items)
 separated_later [] = at_end

@@ -1,5 +1,6 @@
 -- Runs by the grammar and by the function.
-use Rattle.std.proofs.Common.{◌≡◌, ℕ, zero, suc, ◌+◌, ◌≤◌, Bool, List, [], ◌∷◌, ◌++◌, length, drop, refl, sym, ap, subst, ◌∙◌, inl, inr, arith, drop-drop, length-drop}
+use Rattle.std.proofs.Common.{◌≡◌, ℕ, zero, suc, ◌+◌, ◌≤◌, Bool, List, [], ◌∷◌, ◌++◌, length, drop, refl, sym, ap}
+use Rattle.std.proofs.Common.{subst, ◌∙◌, inl, inr, arith, drop-drop, length-drop}
 use Rattle.std.proofs.lemmas.Bool.{cases_Bool, cases_eq}
 use Rattle.tt_text.specs.Backslash.{backslash}
 use Rattle.tt_lists.specs.ListText.{IsRun}
@@ -13,10 +14,13 @@ pub drop_next : (n b : ℕ) (text : List ℕ) → drop (1 + n) (b ∷ text) ≡ 
 drop_next n b text = let e : 1 + n ≡ suc n = omega arith in ap (λ k. drop k (b ∷ text)) e
 
 -- the function's run is one by the grammar
-pub run_sound : (stops : ℕ → Bool) (passed : ℕ) (text : List ℕ) → passed ≤ length text → IsRun stops (drop passed text) (run stops passed text).value (drop (run stops passed text).takes text)
+pub run_sound : (stops : ℕ → Bool) (passed : ℕ) (text : List ℕ) → passed ≤ length text →
+    IsRun stops (drop passed text) (run stops passed text).value (drop (run stops passed text).takes text)
 run_sound stops zero [] h = at_end
 run_sound stops (suc passed) [] h = absurd (omega arith)
-run_sound stops (suc passed) (b ∷ text) h = subst (IsRun stops (drop passed text) (run stops passed text).value) (sym (drop_next (run stops passed text).takes b text)) (run_sound stops passed text (omega arith))
+run_sound stops (suc passed) (b ∷ text) h =
+    subst (IsRun stops (drop passed text) (run stops passed text).value) (sym (drop_next (run stops passed text).takes b text))
+    (run_sound stops passed text (omega arith))
 run_sound stops zero (b ∷ text) h =
     let P : Run → Type 0 = λ r. IsRun stops (b ∷ text) r.value (drop r.takes (b ∷ text)) in
     elim (cases_Bool (stops b)) [
@@ -39,7 +43,13 @@ run_complete at_end = record { takes = 0; is = refl; cut = refl; size = refl }
 run_complete {stops} (stopped {b} {text} h) = record { takes = 0; is = run-stopped stops b text h; cut = refl; size = omega arith }
 run_complete {stops} (letter {b} {text} {value} {rest} h e r) =
     let q = run_complete r in
-    record { takes = 1 + q.takes; is = run-letter stops b text h e ∙ ap (prepend (b ∷ [])) q.is; cut = drop_next q.takes b text ∙ q.cut; size = omega (arith, q.size) }
+    record {
+      takes =
+          1 + q.takes;
+      is = run-letter stops b text h e ∙ ap (prepend (b ∷ [])) q.is;
+      cut = drop_next q.takes b text ∙ q.cut;
+      size = omega (arith, q.size);
+    }
 run_complete {stops} (escape {b} {text} {whole} {value} {rest} h e r w) =
     let q = run_complete r in
     let s = backslash text in

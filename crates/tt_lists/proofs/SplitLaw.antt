@@ -1,5 +1,7 @@
 -- Items and lists by the grammar and by the function.
-use Rattle.std.proofs.Common.{◌≡◌, ℕ, zero, suc, ◌+◌, ◌-◌, ◌<◌, ◌≤◌, Bool, true, false, List, [], ◌∷◌, ◌++◌, length, drop, take, Option, Some, None, refl, sym, ap, subst, ◌∙◌, inl, inr, arith, length-drop, drop-drop}
+use Rattle.std.proofs.Common.{◌≡◌, ℕ, zero, suc, ◌+◌, ◌-◌, ◌<◌, ◌≤◌, Bool, true, false, List, [], ◌∷◌, ◌++◌, length}
+use Rattle.std.proofs.Common.{drop, take, Option, Some, None, refl, sym, ap, subst, ◌∙◌, inl, inr, arith, length-drop}
+use Rattle.std.proofs.Common.{drop-drop}
 use Rattle.std.specs.List.{take_while}
 use Rattle.std.proofs.lemmas.Bool.{cases_Bool, cases_eq, cases_lt, both_ways, lt-ltb, le-ltb}
 use Rattle.std.proofs.lemmas.List.{drop_all}
@@ -41,14 +43,16 @@ followed_from (b ∷ after) h = by h
 followed_to : {after told : List ℕ} → IsFollowed after told → (is_separated after ≡ false) × (told ≡ take 20 (take_while is_no_white_space after))
 followed_to (by h) = (h, refl)
 
-ended_item : (fault : List ℕ → ListFault) (value item : List ℕ) (n takes : ℕ) (after : List ℕ) → closed_item fault value n after ≡ Item item takes → (is_separated after ≡ true) × (value ≡ item) × (n ≡ takes)
+ended_item : (fault : List ℕ → ListFault) (value item : List ℕ) (n takes : ℕ) (after : List ℕ) → closed_item fault value n after ≡ Item item takes →
+    (is_separated after ≡ true) × (value ≡ item) × (n ≡ takes)
 ended_item fault value item n takes after h =
     elim (cases_Bool (is_separated after)) [
       | inl p ↦ (let e : Item value n ≡ Item item takes = rw (p, closed_item) at h in (p, cc, cc))
       | inr p ↦ (let e : Wrong (fault (take 20 (take_while is_no_white_space after))) ≡ Item item takes = rw (p, closed_item) at h in absurd (cc))
     ]
 
-ended_wrong : (fault : List ℕ → ListFault) (value : List ℕ) (n : ℕ) (after : List ℕ) (told : ListFault) → closed_item fault value n after ≡ Wrong told → (is_separated after ≡ false) × (fault (take 20 (take_while is_no_white_space after)) ≡ told)
+ended_wrong : (fault : List ℕ → ListFault) (value : List ℕ) (n : ℕ) (after : List ℕ) (told : ListFault) → closed_item fault value n after ≡ Wrong told →
+    (is_separated after ≡ false) × (fault (take 20 (take_while is_no_white_space after)) ≡ told)
 ended_wrong fault value n after told h =
     elim (cases_Bool (is_separated after)) [
       | inl p ↦ (let e : Item value n ≡ Wrong told = rw (p, closed_item) at h in absurd (cc))
@@ -58,12 +62,13 @@ ended_wrong fault value n after told h =
 ended_yes : (fault : List ℕ → ListFault) (value : List ℕ) (n : ℕ) (after : List ℕ) → is_separated after ≡ true → closed_item fault value n after ≡ Item value n
 ended_yes fault value n after p = rw (p, closed_item) refl
 
-ended_no : (fault : List ℕ → ListFault) (value : List ℕ) (n : ℕ) (after : List ℕ) → is_separated after ≡ false → closed_item fault value n after ≡ Wrong (fault (take 20 (take_while is_no_white_space after)))
+ended_no : (fault : List ℕ → ListFault) (value : List ℕ) (n : ℕ) (after : List ℕ) → is_separated after ≡ false →
+    closed_item fault value n after ≡ Wrong (fault (take 20 (take_while is_no_white_space after)))
 ended_no fault value n after p = rw (p, closed_item) refl
 
 -- ---- braces
 
--- where a text is cut at the brace that closes
+-- if a text is cut at the brace that closes
 record IsCut (text : List ℕ) (place : ℕ) : Type 0 where
   spelled : text ≡ take place text ++ (125 ∷ drop (place + 1) text)
   balanced : IsBalanced (take place text)
@@ -71,8 +76,10 @@ record IsCut (text : List ℕ) (place : ℕ) : Type 0 where
 cut_at : (text : List ℕ) (place : ℕ) → matching_brace text ≡ Some place → IsCut text place
 cut_at text place h =
     let c = (matching_brace_law text place).0 h in
-    let front : take place text ≡ c.inner = ap (λ t. take place t) c.cut ∙ ap (λ n. take n (c.inner ++ (125 ∷ c.rest))) (sym c.place) ∙ take-append_seam c.inner (125 ∷ c.rest) in
-    let back : drop (place + 1) text ≡ c.rest = ap (λ t. drop (place + 1) t) c.cut ∙ ap (λ n. drop (n + 1) (c.inner ++ (125 ∷ c.rest))) (sym c.place) ∙ drop-append-add c.inner (125 ∷ c.rest) 1 in
+    let front : take place text ≡ c.inner =
+    ap (λ t. take place t) c.cut ∙ ap (λ n. take n (c.inner ++ (125 ∷ c.rest))) (sym c.place) ∙ take-append_seam c.inner (125 ∷ c.rest) in
+    let back : drop (place + 1) text ≡ c.rest =
+    ap (λ t. drop (place + 1) t) c.cut ∙ ap (λ n. drop (n + 1) (c.inner ++ (125 ∷ c.rest))) (sym c.place) ∙ drop-append-add c.inner (125 ∷ c.rest) 1 in
     record { spelled = c.cut ∙ sym (rw (front, back) refl); balanced = subst IsBalanced (sym front) c.balanced }
 
 matches : (item rest : List ℕ) → IsBalanced item → matching_brace (item ++ (125 ∷ rest)) ≡ Some (length item)
@@ -83,7 +90,8 @@ after_two place b text = let e : place + 2 ≡ 1 + (place + 1) = omega arith in 
 
 -- ---- what the function reads is so by the grammar
 
-braces_item : (b : ℕ) (text item : List ℕ) (takes : ℕ) → b ≡ 123 → in_braces text (matching_brace text) ≡ Item item takes → IsItem (b ∷ text) item (drop takes (b ∷ text))
+braces_item : (b : ℕ) (text item : List ℕ) (takes : ℕ) → b ≡ 123 → in_braces text (matching_brace text) ≡ Item item takes →
+    IsItem (b ∷ text) item (drop takes (b ∷ text))
 braces_item b text item takes e h = go (matching_brace text) refl h
   where
     go : (o : Option ℕ) → matching_brace text ≡ o → in_braces text o ≡ Item item takes → IsItem (b ∷ text) item (drop takes (b ∷ text))
@@ -115,14 +123,17 @@ run_stops (letter h e r) = run_stops r
 run_stops (escape h e r w) = run_stops r
 
 -- a quote ends a run that ends before the text
-quote_found : (text : List ℕ) (n : ℕ) (value : List ℕ) → n < length text → IsRun is_quote text value (drop n text) → (quote : ℕ) × (is_quote quote ≡ true) × (drop n text ≡ quote ∷ drop (n + 1) text)
+quote_found : (text : List ℕ) (n : ℕ) (value : List ℕ) → n < length text → IsRun is_quote text value (drop n text) → (quote : ℕ) × (is_quote quote ≡ true)
+    × (drop n text ≡ quote ∷ drop (n + 1) text)
 quote_found text n value h r = go (drop n text) refl r
   where
-    go : (rest : List ℕ) → drop n text ≡ rest → IsRun is_quote text value rest → (quote : ℕ) × (is_quote quote ≡ true) × (drop n text ≡ quote ∷ drop (n + 1) text)
+    go : (rest : List ℕ) → drop n text ≡ rest → IsRun is_quote text value rest → (quote : ℕ) × (is_quote quote ≡ true)
+        × (drop n text ≡ quote ∷ drop (n + 1) text)
     go [] e r = absurd (omega (arith, length-drop n text, ap length e))
     go (q ∷ rest) e r = (q, run_stops r, e ∙ ap (λ t. q ∷ t) (sym (ap (λ t. drop 1 t) e) ∙ drop-drop 1 n text))
 
-quotes_item : (b : ℕ) (text item : List ℕ) (takes : ℕ) → b ≡ 34 → in_quotes text (run is_quote 0 text) ≡ Item item takes → IsItem (b ∷ text) item (drop takes (b ∷ text))
+quotes_item : (b : ℕ) (text item : List ℕ) (takes : ℕ) → b ≡ 34 → in_quotes text (run is_quote 0 text) ≡ Item item takes →
+    IsItem (b ∷ text) item (drop takes (b ∷ text))
 quotes_item b text item takes e h =
     let r = run is_quote 0 text in
     let sound = run_sound is_quote 0 text (omega arith) in
@@ -131,7 +142,10 @@ quotes_item b text item takes e h =
           let q = quote_found text r.takes r.value p sound in
           let i = ended_item AfterQuote r.value item (r.takes + 2) takes (drop (r.takes + 1) text) (rw (lt-ltb r.takes (length text) p, in_quotes) at h) in
           let rest : drop (r.takes + 1) text ≡ drop takes (b ∷ text) = sym (after_two r.takes b text) ∙ ap (λ n. drop n (b ∷ text)) i.2 in
-          subst (λ c. IsItem (c ∷ text) item (drop takes (b ∷ text))) (sym e) (quoted q.1 (subst (λ v. IsRun is_quote text v (q.0 ∷ drop takes (b ∷ text))) i.1 (subst (IsRun is_quote text r.value) (q.2 ∙ ap (λ t. q.0 ∷ t) rest) sound)) (subst IsSeparated rest (separated_from (drop (r.takes + 1) text) i.0))))
+          subst (λ c. IsItem (c ∷ text) item (drop takes (b ∷ text))) (sym e)
+          (quoted q.1 (subst (λ v. IsRun is_quote text v (q.0 ∷ drop takes (b ∷ text))) i.1
+          (subst (IsRun is_quote text r.value) (q.2 ∙ ap (λ t. q.0 ∷ t) rest) sound))
+          (subst IsSeparated rest (separated_from (drop (r.takes + 1) text) i.0))))
       | inr p ↦ absurd (cc (rw (le-ltb r.takes (length text) p, in_quotes) at h))
     ]
 
@@ -143,14 +157,16 @@ quotes_wrong b text fault e h =
       | inl p ↦ (
           let q = quote_found text r.takes r.value p sound in
           let i = ended_wrong AfterQuote r.value (r.takes + 2) (drop (r.takes + 1) text) fault (rw (lt-ltb r.takes (length text) p, in_quotes) at h) in
-          subst (IsFaulty (b ∷ text)) i.1 (rw e (after_quote q.1 (subst (IsRun is_quote text r.value) q.2 sound) (followed_from (drop (r.takes + 1) text) i.0))))
+          subst (IsFaulty (b ∷ text)) i.1
+          (rw e (after_quote q.1 (subst (IsRun is_quote text r.value) q.2 sound) (followed_from (drop (r.takes + 1) text) i.0))))
       | inr p ↦ (
           let is : OpenQuote ≡ fault = cc (rw (le-ltb r.takes (length text) p, in_quotes) at h) in
           let all : drop r.takes text ≡ [] = drop_all r.takes text p in
           subst (IsFaulty (b ∷ text)) is (rw e (open_quote (subst (IsRun is_quote text r.value) all sound))))
     ]
 
-item_sound : (b : ℕ) (text item : List ℕ) (takes : ℕ) → is_white_space b ≡ false → item_at (b ∷ text) ≡ Item item takes → IsItem (b ∷ text) item (drop takes (b ∷ text))
+item_sound : (b : ℕ) (text item : List ℕ) (takes : ℕ) → is_white_space b ≡ false → item_at (b ∷ text) ≡ Item item takes →
+    IsItem (b ∷ text) item (drop takes (b ∷ text))
 item_sound b text item takes w h =
     elim (cases_eq b 123) [
       | inl p ↦ braces_item b text item takes p (sym (item-brace b text p) ∙ h)
@@ -161,7 +177,8 @@ item_sound b text item takes w h =
             let e : Item r.value r.takes ≡ Item item takes = sym (item-bare b text p q) ∙ h in
             let value : r.value ≡ item = cc in
             let place : r.takes ≡ takes = cc in
-            bare w p q (subst (λ v. IsRun is_white_space (b ∷ text) v (drop takes (b ∷ text))) value (subst (λ n. IsRun is_white_space (b ∷ text) r.value (drop n (b ∷ text))) place (run_sound is_white_space 0 (b ∷ text) (omega arith)))))
+            bare w p q (subst (λ v. IsRun is_white_space (b ∷ text) v (drop takes (b ∷ text))) value
+            (subst (λ n. IsRun is_white_space (b ∷ text) r.value (drop n (b ∷ text))) place (run_sound is_white_space 0 (b ∷ text) (omega arith)))))
       ]
     ]
 
@@ -194,12 +211,15 @@ sound zero (b ∷ text) h =
       | inr w ↦ go w (λ k bound. sound k text bound) (item_at (b ∷ text)) refl
     ]
   where
-    go : is_white_space b ≡ false → ((k : ℕ) → k ≤ length text → IsSplit (drop k text) (split_after k text)) → (reading : Reading) → item_at (b ∷ text) ≡ reading → IsSplit (b ∷ text) (split_of (b ∷ text))
+    go : is_white_space b ≡ false → ((k : ℕ) → k ≤ length text → IsSplit (drop k text) (split_after k text)) → (reading : Reading) →
+        item_at (b ∷ text) ≡ reading → IsSplit (b ∷ text) (split_of (b ∷ text))
     go w rest_is (Wrong fault) e = subst (IsSplit (b ∷ text)) (sym (split-wrong b text fault w e)) (fault_sound b text fault e)
     go w rest_is (Item item takes) e =
         let bounds = item_takes b text item takes w e in
         let rest : drop (takes - 1) text ≡ drop takes (b ∷ text) = sym (drop_next (takes - 1) b text) ∙ ap (λ n. drop n (b ∷ text)) (omega (arith, bounds.0)) in
-        subst (IsSplit (b ∷ text)) (sym (split-item_kept b text item takes w e)) (after_item (b ∷ text) item (drop takes (b ∷ text)) (split_after (takes - 1) text) (item_sound b text item takes w e) (subst (λ t. IsSplit t (split_after (takes - 1) text)) rest (rest_is (takes - 1) (omega (arith, bounds.1)))))
+        subst (IsSplit (b ∷ text)) (sym (split-item_kept b text item takes w e))
+        (after_item (b ∷ text) item (drop takes (b ∷ text)) (split_after (takes - 1) text) (item_sound b text item takes w e)
+        (subst (λ t. IsSplit t (split_after (takes - 1) text)) rest (rest_is (takes - 1) (omega (arith, bounds.1)))))
 
 -- ---- what the grammar says is read so
 
@@ -214,7 +234,8 @@ record ReadsItemAt (text item rest : List ℕ) : Type 0 where
   cut : drop takes text ≡ rest
 
 -- quotes in which a run ends at a quote
-in_quotes_yes : (text item rest : List ℕ) (quote : ℕ) → IsRun is_quote text item (quote ∷ rest) → (takes : ℕ) × (in_quotes text (run is_quote 0 text) ≡ closed_item AfterQuote item (takes + 2) rest) × (drop (takes + 1) text ≡ rest)
+in_quotes_yes : (text item rest : List ℕ) (quote : ℕ) → IsRun is_quote text item (quote ∷ rest) → (takes : ℕ)
+    × (in_quotes text (run is_quote 0 text) ≡ closed_item AfterQuote item (takes + 2) rest) × (drop (takes + 1) text ≡ rest)
 in_quotes_yes text item rest quote r =
     let q = run_complete r in
     let within : q.takes < length text = omega (arith, q.size) in
@@ -227,11 +248,38 @@ complete_item (braced {text} {item} {rest} e b s) =
     let found = matches item rest b in
     let front : take (length item) (item ++ (125 ∷ rest)) ≡ item = take-append_seam item (125 ∷ rest) in
     let back : drop (length item + 1) (item ++ (125 ∷ rest)) ≡ rest = drop-append-add item (125 ∷ rest) 1 in
-    let is : item_at (123 ∷ (item ++ (125 ∷ rest))) ≡ Item item (length item + 2) = item-brace 123 (item ++ (125 ∷ rest)) refl ∙ ap (in_braces (item ++ (125 ∷ rest))) found ∙ rw (front, back) (ended_yes AfterBrace item (length item + 2) rest (separated_to s)) in
-    record { first_byte = 123; others = item ++ (125 ∷ rest); takes = length item + 2; begins = e; no_white = refl; is = ap item_at e ∙ is; cut = ap (λ t. drop (length item + 2) t) e ∙ after_two (length item) 123 (item ++ (125 ∷ rest)) ∙ back }
+    let is : item_at (123 ∷ (item ++ (125 ∷ rest))) ≡ Item item (length item + 2) =
+    item-brace 123 (item ++ (125 ∷ rest)) refl ∙ ap (in_braces (item ++ (125 ∷ rest))) found
+    ∙ rw (front, back) (ended_yes AfterBrace item (length item + 2) rest (separated_to s)) in
+    record {
+      first_byte =
+          123;
+      others =
+          item ++ (125 ∷ rest);
+      takes =
+          length item + 2;
+      begins =
+          e;
+      no_white = refl;
+      is = ap item_at e ∙ is;
+      cut = ap (λ t. drop (length item + 2) t) e ∙ after_two (length item) 123 (item ++ (125 ∷ rest)) ∙ back;
+    }
 complete_item (quoted {text} {item} {rest} {quote} h r s) =
     let q = in_quotes_yes text item rest quote r in
-    record { first_byte = 34; others = text; takes = q.0 + 2; begins = refl; no_white = refl; is = item-quote 34 text refl ∙ q.1 ∙ ended_yes AfterQuote item (q.0 + 2) rest (separated_to s); cut = after_two q.0 34 text ∙ q.2 }
+    record {
+      first_byte =
+          34;
+      others =
+          text;
+      takes =
+          q.0 + 2;
+      begins =
+          refl;
+      no_white =
+          refl;
+      is = item-quote 34 text refl ∙ q.1 ∙ ended_yes AfterQuote item (q.0 + 2) rest (separated_to s);
+      cut = after_two q.0 34 text ∙ q.2;
+    }
 complete_item (bare {b} {text} {item} {rest} w e f r) =
     let q = run_complete r in
     record { first_byte = b; others = text; takes = q.takes; begins = refl; no_white = w; is = item-bare b text e f ∙ ap in_bare q.is; cut = q.cut }
@@ -256,20 +304,25 @@ no_match text h (Some n) e = absurd (h n ((matching_brace_law text n).0 e))
 complete_fault : {text : List ℕ} {fault : ListFault} → IsFaulty text fault → split_of text ≡ Bad fault
 complete_fault (space_before {b} {text} w h) = split-white b text w ∙ complete_fault h
 complete_fault (later {text} {item} {rest} {fault} i h) = item_then text item rest (Bad fault) i (complete_fault h)
-complete_fault (open_brace {text} h) = split-wrong 123 text OpenBrace refl (item-brace 123 text refl ∙ ap (in_braces text) (no_match text h (matching_brace text) refl))
+complete_fault (open_brace {text} h) =
+    split-wrong 123 text OpenBrace refl (item-brace 123 text refl ∙ ap (in_braces text) (no_match text h (matching_brace text) refl))
 complete_fault (after_brace {text} {item} {rest} {told} e b f) =
     let front : take (length item) (item ++ (125 ∷ rest)) ≡ item = take-append_seam item (125 ∷ rest) in
     let back : drop (length item + 1) (item ++ (125 ∷ rest)) ≡ rest = drop-append-add item (125 ∷ rest) 1 in
     let said = followed_to f in
-    let is : item_at (123 ∷ (item ++ (125 ∷ rest))) ≡ Wrong (AfterBrace told) = item-brace 123 (item ++ (125 ∷ rest)) refl ∙ ap (in_braces (item ++ (125 ∷ rest))) (matches item rest b) ∙ rw (front, back) (ended_no AfterBrace item (length item + 2) rest said.0 ∙ ap (λ t. Wrong (AfterBrace t)) (sym said.1)) in
+    let is : item_at (123 ∷ (item ++ (125 ∷ rest))) ≡ Wrong (AfterBrace told) =
+    item-brace 123 (item ++ (125 ∷ rest)) refl ∙ ap (in_braces (item ++ (125 ∷ rest))) (matches item rest b)
+    ∙ rw (front, back) (ended_no AfterBrace item (length item + 2) rest said.0 ∙ ap (λ t. Wrong (AfterBrace t)) (sym said.1)) in
     ap split_of e ∙ split-wrong 123 (item ++ (125 ∷ rest)) (AfterBrace told) refl is
 complete_fault (open_quote {text} {item} r) =
     let q = run_complete r in
-    split-wrong 34 text OpenQuote refl (item-quote 34 text refl ∙ ap (in_quotes text) q.is ∙ rw (le-ltb q.takes (length text) (omega (arith, q.size)), in_quotes) refl)
+    split-wrong 34 text OpenQuote refl
+    (item-quote 34 text refl ∙ ap (in_quotes text) q.is ∙ rw (le-ltb q.takes (length text) (omega (arith, q.size)), in_quotes) refl)
 complete_fault (after_quote {text} {item} {rest} {told} {quote} h r f) =
     let q = in_quotes_yes text item rest quote r in
     let said = followed_to f in
-    split-wrong 34 text (AfterQuote told) refl (item-quote 34 text refl ∙ q.1 ∙ ended_no AfterQuote item (q.0 + 2) rest said.0 ∙ ap (λ t. Wrong (AfterQuote t)) (sym said.1))
+    split-wrong 34 text (AfterQuote told) refl
+    (item-quote 34 text refl ∙ q.1 ∙ ended_no AfterQuote item (q.0 + 2) rest said.0 ∙ ap (λ t. Wrong (AfterQuote t)) (sym said.1))
 
 complete : (text : List ℕ) (split : Split) → IsSplit text split → split_of text ≡ split
 complete text (Items items) h = complete_items h

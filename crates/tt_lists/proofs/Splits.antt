@@ -1,5 +1,7 @@
 -- Items read one after another.
-use Rattle.std.proofs.Common.{◌≡◌, ◌≢◌, ℕ, zero, suc, ◌+◌, ◌-◌, ◌<◌, ◌≤◌, min, Bool, true, false, List, [], ◌∷◌, ◌++◌, length, take, drop, Option, Some, None, refl, sym, ap, ◌∙◌, inl, inr, append_assoc, append-nil, arith, length-append, length-take, length-drop}
+use Rattle.std.proofs.Common.{◌≡◌, ◌≢◌, ℕ, zero, suc, ◌+◌, ◌-◌, ◌<◌, ◌≤◌, min, Bool, true, false, List, [], ◌∷◌, ◌++◌}
+use Rattle.std.proofs.Common.{length, take, drop, Option, Some, None, refl, sym, ap, ◌∙◌, inl, inr, append_assoc}
+use Rattle.std.proofs.Common.{append-nil, arith, length-append, length-take, length-drop}
 use Rattle.std.specs.List.{take_while, prefix_len}
 use Rattle.std.proofs.lemmas.Bool.{cases_Bool, cases_eq, cases_lt, eq-eqb, ne_eqb, lt-ltb, le-ltb}
 use Rattle.std.proofs.lemmas.List.{take-take, take_all}
@@ -38,7 +40,8 @@ pub split-white : (b : ℕ) (text : List ℕ) → is_white_space b ≡ true → 
 unfolding split_after
 split-white b text h = rw (h, split_after) refl
 
-pub split-item_kept : (b : ℕ) (text item : List ℕ) (takes : ℕ) → is_white_space b ≡ false → item_at (b ∷ text) ≡ Item item takes → split_of (b ∷ text) ≡ with_item item (split_after (takes - 1) text)
+pub split-item_kept : (b : ℕ) (text item : List ℕ) (takes : ℕ) → is_white_space b ≡ false → item_at (b ∷ text) ≡ Item item takes →
+    split_of (b ∷ text) ≡ with_item item (split_after (takes - 1) text)
 unfolding split_after
 split-item_kept b text item takes h e = rw (h, e, split_after) refl
 
@@ -93,7 +96,8 @@ quotes_take text item takes h =
     ]
 
 -- what writes an item is one byte or more, and lies within the text
-pub item_takes : (b : ℕ) (text item : List ℕ) (takes : ℕ) → is_white_space b ≡ false → item_at (b ∷ text) ≡ Item item takes → (1 ≤ takes) × (takes ≤ length (b ∷ text))
+pub item_takes : (b : ℕ) (text item : List ℕ) (takes : ℕ) → is_white_space b ≡ false → item_at (b ∷ text) ≡ Item item takes → (1 ≤ takes)
+    × (takes ≤ length (b ∷ text))
 item_takes b text item takes h e =
     elim (cases_eq b 123) [
       | inl p ↦ (let q = braces_take text item takes (sym (item-brace b text p) ∙ e) in (q.0, omega (arith, q.1)))
@@ -104,7 +108,8 @@ item_takes b text item takes h e =
     ]
 
 -- an item is read, and the rest is split
-pub split-item : (b : ℕ) (text item : List ℕ) (takes : ℕ) → is_white_space b ≡ false → item_at (b ∷ text) ≡ Item item takes → split_of (b ∷ text) ≡ with_item item (split_of (drop takes (b ∷ text)))
+pub split-item : (b : ℕ) (text item : List ℕ) (takes : ℕ) → is_white_space b ≡ false → item_at (b ∷ text) ≡ Item item takes →
+    split_of (b ∷ text) ≡ with_item item (split_of (drop takes (b ∷ text)))
 split-item b text item zero h e = absurd (omega (arith, (item_takes b text item 0 h e).0))
 split-item b text item (suc takes) h e =
     let bound : takes ≤ length text = omega (arith, (item_takes b text item (suc takes) h e).1) in
@@ -120,18 +125,31 @@ after_items before (Bad fault) = Bad fault
 
 front_le : (text : List ℕ) → length (without_white_front text) ≤ length text
 front_le [] = omega arith
-front_le (b ∷ text) = elim (cases_Bool (is_white_space b)) [ inl p ↦ rw (p, without_white_front) (omega (arith, front_le text)) | inr p ↦ rw (p, without_white_front) (omega arith) ]
+front_le (b ∷ text) =
+    elim (cases_Bool (is_white_space b)) [
+      | inl p ↦ rw (p, without_white_front) (omega (arith, front_le text))
+      | inr p ↦ rw (p, without_white_front) (omega arith)
+    ]
 
 pub front_again : (text : List ℕ) → without_white_front (without_white_front text) ≡ without_white_front text
 front_again [] = refl
-front_again (b ∷ text) = elim (cases_Bool (is_white_space b)) [ inl p ↦ rw (p, without_white_front) (front_again text) | inr p ↦ rw (p, without_white_front) (rw (p, without_white_front) refl) ]
+front_again (b ∷ text) =
+    elim (cases_Bool (is_white_space b)) [
+      | inl p ↦ rw (p, without_white_front) (front_again text)
+      | inr p ↦ rw (p, without_white_front) (rw (p, without_white_front) refl)
+    ]
 
 front_not_white : (b : ℕ) (text : List ℕ) → without_white_front (b ∷ text) ≡ b ∷ text → is_white_space b ≡ false
-front_not_white b text e = elim (cases_Bool (is_white_space b)) [ inl p ↦ absurd (omega (arith, front_le text, ap length (rw (p, without_white_front) at e))) | inr p ↦ p ]
+front_not_white b text e =
+    elim (cases_Bool (is_white_space b)) [ inl p ↦ absurd (omega (arith, front_le text, ap length (rw (p, without_white_front) at e))) | inr p ↦ p ]
 
 pub split-front : (text : List ℕ) → split_of (without_white_front text) ≡ split_of text
 split-front [] = refl
-split-front (b ∷ text) = elim (cases_Bool (is_white_space b)) [ inl p ↦ rw (p, without_white_front) (split-front text ∙ sym (split-white b text p)) | inr p ↦ rw (p, without_white_front) refl ]
+split-front (b ∷ text) =
+    elim (cases_Bool (is_white_space b)) [
+      | inl p ↦ rw (p, without_white_front) (split-front text ∙ sym (split-white b text p))
+      | inr p ↦ rw (p, without_white_front) refl
+    ]
 
 pub none_before : (split : Split) → after_items [] split ≡ split
 none_before (Items items) = refl
@@ -144,13 +162,15 @@ one_more before item (Bad fault) = refl
 pub front_less : (text : List ℕ) (n : ℕ) → length (without_white_front (drop n text)) + n ≤ length text + (n - length text)
 front_less text n = omega (arith, front_le (drop n text), length-drop n text)
 
--- what a turn of the loop knows where an item is read
+-- what a turn of the loop knows if an item is read
 pub record ReadsItem (rest item : List ℕ) (takes : ℕ) : Type 0 where
   pub some : 1 ≤ takes
   pub within : takes ≤ length rest
-  pub split : (before : List (List ℕ)) → after_items before (split_of rest) ≡ after_items (before ++ (item ∷ [])) (split_of (without_white_front (drop takes rest)))
+  pub split : (before : List (List ℕ)) →
+      after_items before (split_of rest) ≡ after_items (before ++ (item ∷ [])) (split_of (without_white_front (drop takes rest)))
 
-pub reads_item : (rest item : List ℕ) (takes : ℕ) → 0 < length rest → without_white_front rest ≡ rest → item_at rest ≡ Item item takes → ReadsItem rest item takes
+pub reads_item : (rest item : List ℕ) (takes : ℕ) → 0 < length rest → without_white_front rest ≡ rest → item_at rest ≡ Item item takes →
+    ReadsItem rest item takes
 reads_item [] item takes h e read = absurd (omega arith)
 reads_item (b ∷ text) item takes h e read =
     let white = front_not_white b text e in
@@ -158,10 +178,12 @@ reads_item (b ∷ text) item takes h e read =
     record {
       some = bounds.0;
       within = bounds.1;
-      split = λ before. ap (after_items before) (split-item b text item takes white read) ∙ one_more before item (split_of (drop takes (b ∷ text))) ∙ ap (after_items (before ++ (item ∷ []))) (sym (split-front (drop takes (b ∷ text))));
+      split = λ before. ap (after_items before) (split-item b text item takes white read) ∙ one_more before item (split_of (drop takes (b ∷ text)))
+          ∙ ap (after_items (before ++ (item ∷ []))) (sym (split-front (drop takes (b ∷ text))));
     }
 
-pub reads_fault : (rest : List ℕ) (fault : ListFault) (before : List (List ℕ)) → 0 < length rest → without_white_front rest ≡ rest → item_at rest ≡ Wrong fault → after_items before (split_of rest) ≡ Bad fault
+pub reads_fault : (rest : List ℕ) (fault : ListFault) (before : List (List ℕ)) → 0 < length rest → without_white_front rest ≡ rest →
+    item_at rest ≡ Wrong fault → after_items before (split_of rest) ≡ Bad fault
 reads_fault [] fault before h e read = absurd (omega arith)
 reads_fault (b ∷ text) fault before h e read = ap (after_items before) (split-wrong b text fault (front_not_white b text e) read)
 

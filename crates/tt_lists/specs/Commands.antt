@@ -12,7 +12,7 @@ use Rattle.tt_lists.specs.declared.answer.ListAnswer.TheVariants.{Made, Bad}
 use Rattle.tt_lists.specs.declared.items.Split.{Split}
 use Rattle.tt_lists.specs.declared.items.Split.TheVariants as split
 
--- the answer for the items of a text, where it lists some
+-- the answer for the items of a text, if it lists some
 abbrev pub for_items : (List (List ℕ) → ListAnswer) → Split → ListAnswer
 for_items answer (split.Items items) = answer items
 for_items answer (split.Bad fault) = Bad (list_message fault)
@@ -57,7 +57,7 @@ range_among items first last =
 abbrev pub range_answer : (list first last : List ℕ) → ListAnswer
 range_answer list first last = for_items (λ items. range_among items first last) (split_of list)
 
--- items with others before the one at the index, where `end` is the place after the last item
+-- items with others before the one at the index, if `end` is the place after the last item
 abbrev pub insert_among : List (List ℕ) → (word : List ℕ) → (others : List (List ℕ)) → ListAnswer
 insert_among items word others =
     for_place word (length items + 1) (λ place. Made (list_of (with_items items place others)))

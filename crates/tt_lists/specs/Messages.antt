@@ -1,4 +1,4 @@
--- How lists and indices that can't be read are told (Tcl(n), lists; lindex(n)).
+-- How lists and indices that can't be read are reported (Tcl(n), lists; lindex(n)).
 use Rattle.std.specs.Prelude.{ℕ, List, ◌++◌, codes}
 use Rattle.tt_lists.specs.declared.items.ListFault.{ListFault}
 use Rattle.tt_lists.specs.declared.items.ListFault.TheVariants.{OpenBrace, OpenQuote, AfterBrace, AfterQuote}

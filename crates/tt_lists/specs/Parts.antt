@@ -35,7 +35,7 @@ range items first last = from (up_to items last) first
 abbrev pub with_items : List (List ℕ) → ℤ → List (List ℕ) → List (List ℕ)
 with_items items place others = before items place ++ (others ++ from items place)
 
--- with others in place of the items from a first place up to a last one; where the last is before the first, none of
+-- with others in place of the items from a first place up to a last one; if the last is before the first, none of
 -- the items goes (lreplace(n))
 abbrev pub with_replaced : List (List ℕ) → (first last : ℤ) → List (List ℕ) → List (List ℕ)
 with_replaced items first last others =

@@ -21,12 +21,12 @@ abbrev pub is_wanted : Search → (pattern item : List ℕ) → Bool
 is_wanted search pattern item =
     if search.not then not (is_alike search.matching pattern item) else is_alike search.matching pattern item
 
--- what is told of an item that is wanted: its place, and with `-inline` the item
+-- what is reported of an item that is wanted: its place, and with `-inline` the item
 abbrev pub told_of : Search → (place : ℕ) → (item : List ℕ) → List ℕ
 told_of search place item = if search.inline then item else decimal place
 
--- what is told of items, the first of which stands at this place: of each that is wanted, in their order, and without
--- `-all` of the first one only
+-- what is reported of items, the first of which stands at this place: of each that is wanted, in their order, and
+-- without `-all` of the first one only
 abbrev pub told_from : Search → (pattern : List ℕ) → (place : ℕ) → List (List ℕ) → List (List ℕ)
 told_from search pattern place [] = []
 told_from search pattern place (item ∷ items) =
@@ -34,7 +34,7 @@ told_from search pattern place (item ∷ items) =
     if search.all then told_of search place item ∷ told_from search pattern (place + 1) items else
     told_of search place item ∷ []
 
--- what is told of the first item: where there is none, -1, and with `-inline` the empty text
+-- what is reported of the first item: if there is none, -1, and with `-inline` the empty text
 abbrev pub first_told : Search → List (List ℕ) → List ℕ
 first_told search [] = if search.inline then [] else codes "-1"
 first_told search (told ∷ later) = told

@@ -55,7 +55,7 @@ escape b =
     if b == 13 then 92 ∷ 114 ∷ [] else
     if b == 32 || is_substituted b || b == 93 || b == 123 || b == 125 || b == 34 then 92 ∷ b ∷ [] else b ∷ []
 
--- the front byte too, where it may be a comment's sign
+-- the front byte too, if it may be a comment's sign
 abbrev pub escape_first : Place → ℕ → List ℕ
 escape_first place b = if is_comment_sign place b then 92 ∷ b ∷ [] else escape b
 

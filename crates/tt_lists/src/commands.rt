@@ -20,7 +20,7 @@ use tt_text::{NoMemory, Text};
 
 /// How many items the list has, in decimal (llength(n)).
 ///
-/// `Bad` where the text is no list. `NoMemory` where memory is refused.
+/// `Bad` if the text is no list. `NoMemory` if memory is refused.
 pub fn count(alloc: Global, list: &[u8]) -> Result<ListAnswer, NoMemory>
     ensures answer { IfOk result (λ answer. answer ≡ count_answer list.now) }
 {
@@ -37,7 +37,7 @@ pub fn count(alloc: Global, list: &[u8]) -> Result<ListAnswer, NoMemory>
 /// empty. Without indices it is the text as it is.
 ///
 /// `Bad` for the first from the left of a text that is no list and a word that is no index; a list is read before its
-/// index. `NoMemory` where memory is refused.
+/// index. `NoMemory` if memory is refused.
 pub fn item(alloc: Global, list: &[u8], words: &[Text]) -> Result<ListAnswer, NoMemory>
     ensures answer { IfOk result (λ answer. answer ≡ item_answer list.now words.now) }
 {
@@ -62,7 +62,7 @@ fn item_of(alloc: Global, list: &[u8], word: &[u8]) -> Result<ListAnswer, NoMemo
 
 /// Of these items the one that the index names (lindex(n)), in constant time. Outside the list it is empty.
 ///
-/// `Bad` where the word is no index. `NoMemory` where memory is refused.
+/// `Bad` if the word is no index. `NoMemory` if memory is refused.
 pub fn item_among(alloc: Global, items: &[Text], word: &[u8]) -> Result<ListAnswer, NoMemory>
     ensures answer { IfOk result (λ answer. answer ≡ item_among items.now word.now) }
 {
@@ -82,7 +82,7 @@ pub(crate) fn no_list(alloc: Global, fault: &ListFault) -> Result<ListAnswer, No
 
 /// A count or a place, in decimal.
 ///
-/// `NoMemory` where the memory for it is refused.
+/// `NoMemory` if the memory for it is refused.
 pub fn count_text(alloc: Global, count: usize) -> Result<Text, NoMemory>
     ensures written { IfOk result (λ text. text ≡ decimal count) }
 {
@@ -97,7 +97,7 @@ fn no_index(alloc: Global, word: &[u8]) -> Result<ListAnswer, NoMemory>
     Ok(ListAnswer::Bad(message))
 }
 
-fn made(alloc: Global, items: &[Text]) -> Result<ListAnswer, NoMemory>
+fn made_list(alloc: Global, items: &[Text]) -> Result<ListAnswer, NoMemory>
     ensures { IfOk result (λ answer. answer ≡ ListAnswer.Made (list_of items.now)) }
 {
     let text = join_list(alloc, items)?;
@@ -112,7 +112,7 @@ fn place_in(word: &[u8], count: usize) -> Option<i128>
 
 /// The list of the items from the first index up to the last one (lrange(n)).
 ///
-/// `Bad` where the text is no list or a word is no index, tested in this order. `NoMemory` where memory is refused.
+/// `Bad` if the text is no list or a word is no index, tested in this order. `NoMemory` if memory is refused.
 pub fn range(alloc: Global, list: &[u8], first: &[u8], last: &[u8]) -> Result<ListAnswer, NoMemory>
     ensures answer { IfOk result (λ answer. answer ≡ range_answer list.now first.now last.now) }
 {
@@ -131,14 +131,14 @@ fn range_of(
     ensures { IfOk result (λ answer. answer ≡ range_among items.now first.now last.now) }
 {
     match range_among(alloc, items, first, last)? {
-        Ok(part) => made(alloc, part),
+        Ok(part) => made_list(alloc, part),
         Err(message) => Ok(ListAnswer::Bad(message)),
     }
 }
 
-/// Of these items those from the first index up to the last one (lrange(n)), or the message where a word is no index.
+/// Of these items those from the first index up to the last one (lrange(n)), or the message if a word is no index.
 ///
-/// `NoMemory` where the memory for the message is refused.
+/// `NoMemory` if the memory for the message is refused.
 pub fn range_among<'a>(
     alloc: Global,
     items: &'a [Text],
@@ -159,9 +159,9 @@ pub fn range_among<'a>(
     Ok(Ok(parts::range(items, from, to)))
 }
 
-/// The list with others put before the item at the index, where `end` is the place after the last item (linsert(n)).
+/// The list with others put before the item at the index, if `end` is the place after the last item (linsert(n)).
 ///
-/// `Bad` where the text is no list or the word no index, tested in this order. `NoMemory` where memory is refused.
+/// `Bad` if the text is no list or the word no index, tested in this order. `NoMemory` if memory is refused.
 pub fn insert(
     alloc: Global,
     list: &[u8],
@@ -188,12 +188,12 @@ fn insert_among(
         return no_index(alloc, word);
     };
     let all = parts::with_items(alloc, items, place, others)?;
-    made(alloc, all.as_slice())
+    made_list(alloc, all.as_slice())
 }
 
 /// The list with others in place of the items from the first index up to the last one (lreplace(n)).
 ///
-/// `Bad` where the text is no list or a word is no index, tested in this order. `NoMemory` where memory is refused.
+/// `Bad` if the text is no list or a word is no index, tested in this order. `NoMemory` if memory is refused.
 pub fn replace(
     alloc: Global,
     list: &[u8],
@@ -225,5 +225,5 @@ fn replace_among(
         return no_index(alloc, last);
     };
     let all = parts::with_replaced(alloc, items, from, to, others)?;
-    made(alloc, all.as_slice())
+    made_list(alloc, all.as_slice())
 }

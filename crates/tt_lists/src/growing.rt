@@ -8,9 +8,9 @@ use tt_text::{NoMemory, Text};
 
 /// Puts one item more at the end of a list's text (lappend(n)), in time of that item.
 ///
-/// Where the text is a list's canonical one, it is then that of the longer list.
+/// If the text is a list's canonical one, it is then that of the longer list.
 ///
-/// `NoMemory` where the memory for it is refused; then the text is as it was.
+/// `NoMemory` if the memory for it is refused; then the text is as it was.
 #[tactic(auto, using(crate::proofs::Longer::grown))]
 pub fn push_item(alloc: Global, text: &mut Text, item: &[u8]) -> Result<(), NoMemory>
     ensures pushed { OnOk result (text.new ≡ with_last text.old item.now) }

@@ -11,7 +11,7 @@ use crate::place::Index;
 /// Reads a text as an index, by lindex(n): `N`, `+N`, `-N`, `M+N`, `M-N`, `end`, `end+N` or `end-N` of
 /// decimal digits.
 ///
-/// None for every other text, and where a number is 2^64 or more or the value does not lie in signed 64
+/// None for every other text, and if a number is 2^64 or more or the value does not lie in signed 64
 /// bits.
 #[tactic(auto, unfolding(crate::specs::Indices::index_of))]
 pub fn index(text: &[u8]) -> Option<Index>

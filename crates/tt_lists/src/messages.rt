@@ -8,7 +8,7 @@ use tt_text::{NoMemory, Text, quoting};
 impl ListFault {
     /// The text of the error that a command gives for this fault (Tcl(n), lists).
     ///
-    /// `NoMemory` where the memory for it is refused.
+    /// `NoMemory` if the memory for it is refused.
     pub fn message(&self, alloc: Global) -> Result<Text, NoMemory>
         ensures told { IfOk result (λ text. text ≡ list_message self.now) }
     {
@@ -33,7 +33,7 @@ impl ListFault {
 
 /// The text of the error that a command gives for a word that is no index (lindex(n)).
 ///
-/// `NoMemory` where the memory for it is refused.
+/// `NoMemory` if the memory for it is refused.
 pub fn bad_index(alloc: Global, text: &[u8]) -> Result<Text, NoMemory>
     ensures told { IfOk result (λ message. message ≡ bad_index_message text.now) }
 {

@@ -60,7 +60,7 @@ pub(crate) fn with_items(
 ) -> Result<Texts, NoMemory>
     ensures { IfOk result (λ all. all ≡ with_items items.now place others.now) }
 {
-    joined(alloc, before(items, place), others, from(items, place))
+    joined_parts(alloc, before(items, place), others, from(items, place))
 }
 
 /// The items with others in place of those from a first place up to a last one.
@@ -78,10 +78,15 @@ pub(crate) fn with_replaced(
     } else {
         after(items, last)
     };
-    joined(alloc, before(items, first), others, kept)
+    joined_parts(alloc, before(items, first), others, kept)
 }
 
-fn joined(alloc: Global, front: &[Text], middle: &[Text], back: &[Text]) -> Result<Texts, NoMemory>
+fn joined_parts(
+    alloc: Global,
+    front: &[Text],
+    middle: &[Text],
+    back: &[Text],
+) -> Result<Texts, NoMemory>
     ensures { IfOk result (λ all. all ≡ front.now ++ (middle.now ++ back.now)) }
 {
     let mut all = Texts::new(alloc);

@@ -19,23 +19,23 @@ pub enum Matching {
     Glob,
 }
 
-/// What is looked for in a list, and what is told of it (lsearch(n)).
+/// What is looked for in a list, and what is reported of it (lsearch(n)).
 #[derive(Clone, Copy, Debug, PartialEq, Eq)]
 pub struct Search {
     /// How items are compared with the pattern.
     pub matching: Matching,
-    /// Whether all that are wanted are told, as a list, or the first alone.
+    /// Whether all that are wanted are reported, as a list, or the first alone.
     pub all: bool,
-    /// Whether the items are told, or their places, from 0.
+    /// Whether the items are reported, or their places, from 0.
     pub inline: bool,
     /// Whether those are wanted that don't match.
     pub not: bool,
 }
 
-/// What a search of a list tells (lsearch(n)): the place of the first item that is wanted and -1 where there is none,
+/// What a search of a list reports (lsearch(n)): the place of the first item that is wanted and -1 if there is none,
 /// or what `how` asks for in place of that.
 ///
-/// `Bad` where the text is no list. `NoMemory` where memory is refused.
+/// `Bad` if the text is no list. `NoMemory` if memory is refused.
 pub fn find(alloc: Global, how: Search, list: &[u8], pattern: &[u8]) -> Result<ListAnswer, NoMemory>
     ensures answer { IfOk result (λ answer. answer ≡ search_answer how list.now pattern.now) }
 {

@@ -29,7 +29,7 @@ pub(crate) enum Style {
 
 /// The canonical spelling of an item that is the first of a list, by list(n).
 ///
-/// `NoMemory` where the memory for it is refused.
+/// `NoMemory` if the memory for it is refused.
 pub fn element(alloc: Global, item: &[u8]) -> Result<Text, NoMemory>
     ensures spelled { IfOk result (λ text. text ≡ spelling Place.First item.now) }
 {
@@ -41,7 +41,7 @@ pub fn element(alloc: Global, item: &[u8]) -> Result<Text, NoMemory>
 /// The canonical text of a list of these items, by list(n): their spellings with a space between them.
 /// `split` of it gives the items again.
 ///
-/// `NoMemory` where the memory for it is refused.
+/// `NoMemory` if the memory for it is refused.
 pub fn join_list(alloc: Global, items: &[Text]) -> Result<Text, NoMemory>
     ensures canonical { IfOk result (λ text. text ≡ list_of items.now) }
     ensures lists { IfOk result (λ text. IsListText text items.now) }
@@ -64,7 +64,7 @@ fn canonical(alloc: Global, items: &[Text]) -> Result<Text, NoMemory>
 
 /// Puts items after the first one of a list's text, each with the space before it (list(n)).
 ///
-/// `NoMemory` where the memory for them is refused.
+/// `NoMemory` if the memory for them is refused.
 pub fn push_later_items(text: &mut Text, items: &[Text]) -> Result<(), NoMemory>
     ensures pushed { OnOk result (text.new ≡ text.old ++ flat_map later_item items.now) }
 {

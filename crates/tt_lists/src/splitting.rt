@@ -20,9 +20,9 @@ pub(crate) enum Reading {
 ///
 /// Items are separated by white space. `{` opens an item that is taken as it is up to the brace that
 /// matches, `"` one up to the next quote, and any other byte one up to the next white space; in the two
-/// latter backslash sequences are replaced. `Bad` tells the first item that can't be read.
+/// latter backslash sequences are replaced. `Bad` has the first item that can't be read.
 ///
-/// `NoMemory` where the memory for the items is refused.
+/// `NoMemory` if the memory for the items is refused.
 #[tactic(auto, using(crate::proofs::SplitLaw::split_by))]
 pub fn split(alloc: Global, text: &[u8]) -> Result<Split, NoMemory>
     ensures answer { IfOk result (λ split. split ≡ split_of text.now) }
@@ -71,7 +71,7 @@ fn in_braces(alloc: Global, text: &[u8]) -> Result<Reading, NoMemory>
     };
     let after = &text[place + 1..];
     if !is_separated(after) {
-        return Ok(Reading::Wrong(ListFault::AfterBrace(told(alloc, after)?)));
+        return Ok(Reading::Wrong(ListFault::AfterBrace(word_front(alloc, after)?)));
     }
     let item = Text::from_bytes(alloc, &text[..place])?;
     Ok(Reading::Item(item, place + 2))
@@ -86,7 +86,7 @@ fn in_quotes(alloc: Global, text: &[u8]) -> Result<Reading, NoMemory>
     }
     let after = &text[quoted.takes + 1..];
     if !is_separated(after) {
-        return Ok(Reading::Wrong(ListFault::AfterQuote(told(alloc, after)?)));
+        return Ok(Reading::Wrong(ListFault::AfterQuote(word_front(alloc, after)?)));
     }
     Ok(Reading::Item(quoted.value, quoted.takes + 2))
 }
@@ -102,8 +102,8 @@ fn is_separated(after: &[u8]) -> bool
 
 // The bytes up to the next white space, at most 20.
 #[tactic(auto, using(crate::proofs::Splits::take_told))]
-fn told(alloc: Global, after: &[u8]) -> Result<Text, NoMemory>
-    ensures { IfOk result (λ told. told ≡ take 20 (take_while is_no_white_space after.now)) }
+fn word_front(alloc: Global, after: &[u8]) -> Result<Text, NoMemory>
+    ensures { IfOk result (λ front. front ≡ take 20 (take_while is_no_white_space after.now)) }
 {
     Text::from_bytes(alloc, &after[..word_length(after).min(20)])
 }

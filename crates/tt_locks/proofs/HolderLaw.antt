@@ -1,5 +1,7 @@
 -- Who holds a lock: what is done to one lock keeps the rule, and so does each call.
-use Rattle.std.proofs.Common.{◌≡◌, ◌∙◌, ◌≤◌, ◌&&◌, ◌||◌, ◌==◌, ℕ, zero, suc, Bool, true, false, not, cond, if◌then◌else◌, List, [], ◌∷◌, ◌++◌, length, take, drop, Option, Some, None, IfSome, ap, refl, sym, subst, arith, rules}
+use Rattle.std.proofs.Common.{◌≡◌, ◌∙◌, ◌≤◌, ◌&&◌, ◌||◌, ◌==◌, ℕ, zero, suc, Bool, true, false, not, cond}
+use Rattle.std.proofs.Common.{if◌then◌else◌, List, [], ◌∷◌, ◌++◌, length, take, drop, Option, Some, None, IfSome, ap}
+use Rattle.std.proofs.Common.{refl, sym, subst, arith, rules}
 use Rattle.std.proofs.lemmas.List.Elements.{All-append, All-drop, All-head, All-tail, All-take}
 use Rattle.std.proofs.lemmas.Map.Views.{All-map-remove_entry, All-values-insert_entry, All-values-set_value, IfSome-lookup_from_All}
 use Rattle.std.specs.List.{All, prefix_len, remove}
@@ -14,7 +16,8 @@ use Rattle.tt_calls.specs.declared.lock_call.LockCall.TheVariants as ask
 use Rattle.tt_calls.specs.Replies.{refuses}
 use Rattle.tt_locks.specs.Calls.{act, acts, acts_on, begins, cond_waits, destroys, destroys_named, gives_up, is_first, is_held, table_after, waits, waits_where}
 use Rattle.tt_locks.specs.LockLaws.{AreAllowed, AreOfOne, HasOneHolder, HaveOneHolder, OneHolderLaw}
-use Rattle.tt_locks.specs.Lock.{Done, does, family_of, free, has_none, held, holds, is_among, is_held_by_others, is_owned, locks, read_locks, unheld, unlocks, waits_alone, without_one, write_locks}
+use Rattle.tt_locks.specs.Lock.{Done, does, family_of, free, has_none, held, holds, is_among, is_held_by_others}
+use Rattle.tt_locks.specs.Lock.{is_owned, locks, read_locks, unheld, unlocks, waits_alone, without_one, write_locks}
 use Rattle.tt_locks.specs.Table.{LockTable, in_family, is_id, is_same, lock_in, lock_of, new_id, with_lock}
 use Rattle.tt_locks.specs.declared.lock.Deed.{Deed}
 use Rattle.tt_locks.specs.declared.lock.Deed.TheVariants as deed
@@ -87,7 +90,8 @@ given-up Recursive writing holders i rule = (rule.0, remove-all (λ holder. hold
 given-up ReadWrite writing holders i rule = tt
 given-up Condition writing holders i rule = tt
 
-mutex-locks : (lock : Lock) (t : ℕ) (kind : Kind) → lock.kind ≡ kind → is_same family.Mutex (family_of kind) ≡ true → waits_alone lock t ≡ false → HasOneHolder lock → HasOneHolder (locks lock t).lock
+mutex-locks : (lock : Lock) (t : ℕ) (kind : Kind) → lock.kind ≡ kind → is_same family.Mutex (family_of kind) ≡ true → waits_alone lock t ≡ false →
+    HasOneHolder lock → HasOneHolder (locks lock t).lock
 mutex-locks lock t Exclusive e of free rule = go (is_among lock.holders t) refl
   where
     go : (among : Bool) → is_among lock.holders t ≡ among → HasOneHolder (locks lock t).lock
@@ -101,7 +105,8 @@ mutex-locks lock t Recursive e of free rule = go (is_among lock.holders t) refl
 mutex-locks lock t ReadWrite e of free rule = absurd (cc of)
 mutex-locks lock t Condition e of free rule = absurd (cc of)
 
-reads : (lock : Lock) (t : ℕ) (kind : Kind) → lock.kind ≡ kind → is_same family.ReadWrite (family_of kind) ≡ true → HasOneHolder lock → HasOneHolder (read_locks lock t).lock
+reads : (lock : Lock) (t : ℕ) (kind : Kind) → lock.kind ≡ kind → is_same family.ReadWrite (family_of kind) ≡ true → HasOneHolder lock →
+    HasOneHolder (read_locks lock t).lock
 reads lock t Exclusive e of rule = absurd (cc of)
 reads lock t Recursive e of rule = absurd (cc of)
 reads lock t Condition e of rule = absurd (cc of)
@@ -141,7 +146,8 @@ takes-one lock t free = go (has_none lock.holders) refl free
 
 with-one : (table : LockTable) (text : List ℕ) (lock : Lock) → HaveOneHolder table → HasOneHolder lock → HaveOneHolder (with_lock table text lock)
 with-one table [] lock have one = record { first = one; others = have.others }
-with-one table (b ∷ text) lock have one = record { first = have.first; others = All-values-set_value (is_id (b ∷ text)) HasOneHolder table.others lock have.others one }
+with-one table (b ∷ text) lock have one =
+    record { first = have.first; others = All-values-set_value (is_id (b ∷ text)) HasOneHolder table.others lock have.others one }
 
 if-some : (P : Lock → Type 0) (found : Option Lock) (lock : Lock) → IfSome found P → found ≡ Some lock → P lock
 if-some P None lock holds is = absurd (cc is)
@@ -167,22 +173,25 @@ found-in table which text lock is = go (lock_of table text) refl is
         by true of is = let same : other ≡ lock = cc is in record { there = e ∙ is; of = subst (λ one. is_same which (family_of one.kind) ≡ true) same of }
         by false of is = absurd (cc is)
 
--- what is done to a lock that is found, where that keeps the rule
-acts-one : (table : LockTable) (t : ℕ) (which : Deed) (kind : Family) (text : List ℕ) → HaveOneHolder table → ((lock : Lock) → lock_in table kind text ≡ Some lock → HasOneHolder (does which lock t).lock) → HaveOneHolder (acts which table t kind text).table
+-- what is done to a lock that is found, if that keeps the rule
+acts-one : (table : LockTable) (t : ℕ) (which : Deed) (kind : Family) (text : List ℕ) → HaveOneHolder table →
+    ((lock : Lock) → lock_in table kind text ≡ Some lock → HasOneHolder (does which lock t).lock) → HaveOneHolder (acts which table t kind text).table
 acts-one table t which kind text have keeps = go (lock_in table kind text) refl
   where
     go : (found : Option Lock) → lock_in table kind text ≡ found → HaveOneHolder (acts_on (does which) table t kind text found).table
     go None e = have
     go (Some lock) e = with-one table text (does which lock t).lock have (keeps lock e)
 
-not-waiting : (waits_for : Lock → ℕ → Bool) (t : ℕ) (found : Option Lock) (lock : Lock) → found ≡ Some lock → waits_where waits_for t found ≡ false → waits_for lock t ≡ false
+not-waiting : (waits_for : Lock → ℕ → Bool) (t : ℕ) (found : Option Lock) (lock : Lock) → found ≡ Some lock → waits_where waits_for t found ≡ false →
+    waits_for lock t ≡ false
 not-waiting waits_for t None lock is free = absurd (cc is)
 not-waiting waits_for t (Some other) lock is free = let same : other ≡ lock = cc is in subst (λ one. waits_for one t ≡ false) same free
 
 one-in : (table : LockTable) (which : Family) (text : List ℕ) (lock : Lock) → HaveOneHolder table → lock_in table which text ≡ Some lock → HasOneHolder lock
 one-in table which text lock have is = found-one table text lock have (found-in table which text lock is).there
 
-destroys-one : (table : LockTable) (which : Family) (text : List ℕ) (found : Option Lock) → HaveOneHolder table → HaveOneHolder (destroys table which text found).table
+destroys-one : (table : LockTable) (which : Family) (text : List ℕ) (found : Option Lock) → HaveOneHolder table →
+    HaveOneHolder (destroys table which text found).table
 destroys-one table which text None have = have
 destroys-one table which text (Some lock) have = go (has_none lock.holders && has_none lock.waiters) refl
   where
@@ -200,15 +209,19 @@ named-one table which text have = go (is_first which text)
 begins-one : (table : LockTable) (t : ℕ) (condition : List ℕ) → HaveOneHolder table → HaveOneHolder (begins table t condition).table
 begins-one table t condition have = acts-one table t deed.Wait family.Condition condition have (λ lock e. one-in table family.Condition condition lock have e)
 
-gives-up-mutex : (table : LockTable) (t : ℕ) (condition mutex : List ℕ) (found : Option Lock) → lock_in table family.Mutex mutex ≡ found → HaveOneHolder table → HaveOneHolder (gives_up table t condition mutex found).table
+gives-up-mutex : (table : LockTable) (t : ℕ) (condition mutex : List ℕ) (found : Option Lock) → lock_in table family.Mutex mutex ≡ found →
+    HaveOneHolder table → HaveOneHolder (gives_up table t condition mutex found).table
 gives-up-mutex table t condition mutex None e have = have
 gives-up-mutex table t condition mutex (Some lock) e have = go (is_owned lock t) refl
   where
     go : (owned : Bool) → is_owned lock t ≡ owned → HaveOneHolder (gives_up table t condition mutex (Some lock)).table
-    go true is = rw is (begins-one (acts_on (does deed.Free) table t family.Mutex mutex (Some lock)).table t condition (with-one table mutex (unheld lock t) have (gives-up-one lock t (one-in table family.Mutex mutex lock have e))))
+    go true is =
+        rw is (begins-one (acts_on (does deed.Free) table t family.Mutex mutex (Some lock)).table t condition
+        (with-one table mutex (unheld lock t) have (gives-up-one lock t (one-in table family.Mutex mutex lock have e))))
     go false is = rw is have
 
-cond-one : (table : LockTable) (t : ℕ) (condition mutex : List ℕ) (found : Option Lock) → HaveOneHolder table → HaveOneHolder (cond_waits table t condition mutex found).table
+cond-one : (table : LockTable) (t : ℕ) (condition mutex : List ℕ) (found : Option Lock) → HaveOneHolder table →
+    HaveOneHolder (cond_waits table t condition mutex found).table
 cond-one table t condition mutex None have = have
 cond-one table t condition mutex (Some lock) have = gives-up-mutex table t condition mutex (lock_in table family.Mutex mutex) refl have
 
@@ -223,21 +236,33 @@ either true c e = absurd (cc e)
 either false c e = e
 
 act-one : (table : LockTable) (t : ℕ) (call : LockCall) → waits table t call ≡ false → HaveOneHolder table → HaveOneHolder (act table t call).table
-act-one table t (ask.Create kind) free have = record { first = have.first; others = All-values-insert_entry (slice_cmp nat_cmp) (new_id table kind) (Rattle.tt_locks.specs.Lock.free kind) HasOneHolder table.others have.others (free-one kind) }
+act-one table t (ask.Create kind) free have =
+    record {
+      first =
+          have.first;
+      others =
+          All-values-insert_entry (slice_cmp nat_cmp) (new_id table kind) (Rattle.tt_locks.specs.Lock.free kind) HasOneHolder table.others have.others
+          (free-one kind);
+    }
 act-one table t (ask.Destroy which text) free have = named-one table which text have
 act-one table t (ask.Lock text) free have =
-    acts-one table t deed.Lock family.Mutex text have (λ lock e. mutex-locks lock t lock.kind refl (found-in table family.Mutex text lock e).of (not-waiting waits_alone t (lock_in table family.Mutex text) lock e free) (one-in table family.Mutex text lock have e))
+    acts-one table t deed.Lock family.Mutex text have
+    (λ lock e. mutex-locks lock t lock.kind refl (found-in table family.Mutex text lock e).of
+    (not-waiting waits_alone t (lock_in table family.Mutex text) lock e free) (one-in table family.Mutex text lock have e))
 act-one table t (ask.ReadLock text) free have =
-    acts-one table t deed.Read family.ReadWrite text have (λ lock e. reads lock t lock.kind refl (found-in table family.ReadWrite text lock e).of (one-in table family.ReadWrite text lock have e))
+    acts-one table t deed.Read family.ReadWrite text have
+    (λ lock e. reads lock t lock.kind refl (found-in table family.ReadWrite text lock e).of (one-in table family.ReadWrite text lock have e))
 act-one table t (ask.WriteLock text) free have =
-    acts-one table t deed.Write family.ReadWrite text have (λ lock e. writes lock t (not-waiting waits_alone t (lock_in table family.ReadWrite text) lock e free) (one-in table family.ReadWrite text lock have e))
+    acts-one table t deed.Write family.ReadWrite text have
+    (λ lock e. writes lock t (not-waiting waits_alone t (lock_in table family.ReadWrite text) lock e free) (one-in table family.ReadWrite text lock have e))
 act-one table t (ask.Unlock which text) free have =
     acts-one table t deed.Unlock which text have (λ lock e. unlocks-one lock t (one-in table which text lock have e))
 act-one table t (ask.Notify text) free have =
     acts-one table t deed.Notify family.Condition text have (λ lock e. one-in table family.Condition text lock have e)
 act-one table t (ask.CondWait condition mutex) free have = cond-one table t condition mutex (lock_in table family.Condition condition) have
 act-one table t (ask.CondTake condition mutex) free have =
-    acts-one table t deed.Take family.Mutex mutex have (λ lock e. takes-one lock t (not-waiting is_held t (lock_in table family.Mutex mutex) lock e (either _ _ free)))
+    acts-one table t deed.Take family.Mutex mutex have
+    (λ lock e. takes-one lock t (not-waiting is_held t (lock_in table family.Mutex mutex) lock e (either _ _ free)))
 
 pub one_holder : OneHolderLaw
 one_holder = record {
@@ -245,6 +270,7 @@ one_holder = record {
   stays = λ table t call have. after table t call have (waits table t call) refl;
 }
   where
-    after : (table : LockTable) (t : ℕ) (call : LockCall) → HaveOneHolder table → (waiting : Bool) → waits table t call ≡ waiting → HaveOneHolder (table_after table t call)
+    after : (table : LockTable) (t : ℕ) (call : LockCall) → HaveOneHolder table → (waiting : Bool) → waits table t call ≡ waiting →
+        HaveOneHolder (table_after table t call)
     after table t call have true e = rw e have
     after table t call have false e = rw e (act-one table t call e have)

@@ -1,6 +1,7 @@
 ghost use Rattle.std.specs.Prelude.{◌≡◌, IfOk, OnOk};
 ghost use Rattle.tt_calls.specs.declared.reply.Reply.TheVariants.{Refused, Value};
-ghost use Rattle.tt_locks.specs.Calls.{act, acts, begins_wait, destroys_named, in_use, is_first, missing, step_after, table_after};
+ghost use Rattle.tt_locks.specs.Calls.{act, acts, begins_wait, destroys_named, in_use, is_first, missing, step_after};
+ghost use Rattle.tt_locks.specs.Calls.{table_after};
 ghost use Rattle.tt_locks.specs.Table.{new_id, with_new};
 
 use crate::lock::{Deed, refused};

@@ -1,6 +1,7 @@
 ghost use Rattle.std.specs.Prelude.{◌≡◌, IfOk, OnOk};
 ghost use Rattle.tt_calls.specs.declared.reply.Reply.TheVariants.{Go, Refused};
-ghost use Rattle.tt_locks.specs.Lock.{does, family_of, free, held, is_owned, locks, read_locks, unheld, unlocks, waits_alone, waits_to_read, write_locks};
+ghost use Rattle.tt_locks.specs.Lock.{does, family_of, free, held, is_owned, locks, read_locks, unheld, unlocks};
+ghost use Rattle.tt_locks.specs.Lock.{waits_alone, waits_to_read, write_locks};
 
 use crate::Holders;
 use std::alloc::Global;

@@ -1,5 +1,7 @@
 -- Each step keeps the rule.
-use Rattle.std.proofs.Common.{◌≡◌, ◌≢◌, ℕ, zero, suc, ◌+◌, ◌-◌, ◌%◌, ◌<◌, eqb, List, [], ◌∷◌, ◌++◌, length, replicate, get_or, set, sym, refl, ap, ◌∙◌, subst, ⊎_elim, arith, Option, Some, None, slice_get, length-set, get_or-set_same, eq-eqb, ne_eqb}
+use Rattle.std.proofs.Common.{◌≡◌, ◌≢◌, ℕ, zero, suc, ◌+◌, ◌-◌, ◌%◌, ◌<◌, eqb, List, [], ◌∷◌, ◌++◌, length, replicate}
+use Rattle.std.proofs.Common.{get_or, set, sym, refl, ap, ◌∙◌, subst, ⊎_elim, arith, Option, Some, None, slice_get}
+use Rattle.std.proofs.Common.{length-set, get_or-set_same, eq-eqb, ne_eqb}
 use mathlib.Core.Logic.{dite}
 use mathlib.Core.Option.{none, some, some-injective, some-ne-none}
 use native.Mathlib.Decide.{ℕ_discrete}
@@ -11,13 +13,16 @@ use Rattle.atomic_table.specs.Table.{step, keeps, takes, gives, stepped, Allows,
 use Rattle.atomic_table.proofs.Lists.{at_set, set_here, set_else, set_again, at_longer, at_last}
 use Rattle.tt_noted.specs.declared.table.View.{View}
 use Rattle.tt_noted.specs.declared.table.Opening.{Opening}
-use Rattle.tt_noted.specs.inside.Rule.{Board, Sat, view, first_view, rest_of, first_of, both_of, spent, holding, FitsAll, IsFree, Stands, HasPlace, IsKept, took, noted}
+use Rattle.tt_noted.specs.inside.Rule.{Board, Sat, view, first_view, rest_of, first_of, both_of, spent, holding}
+use Rattle.tt_noted.specs.inside.Rule.{FitsAll, IsFree, Stands, HasPlace, IsKept, took, noted}
 use Rattle.tt_noted.proofs.Owners.{given, given_first, given_next, given_other, merged, merged_other, merged_own, merged_rest}
-use Rattle.tt_noted.proofs.Lists.{set_there, at_end, none_get, get_set_same, get_set_other, get_drop, get_take, take_first, get_front, get_behind, numbered_at, get_one, get_append, get_numbered}
+use Rattle.tt_noted.proofs.Lists.{set_there, at_end, none_get, get_set_same, get_set_other, get_drop, get_take}
+use Rattle.tt_noted.proofs.Lists.{take_first, get_front, get_behind, numbered_at, get_one, get_append, get_numbered}
 
 module _ {S N : Type 0} where
-  -- what holds of each note stays where one view changes
-  each_stays : (P : ℕ → ℕ → View S N → ℕ × N → Type 0) (vs : List (View S N)) (id : ℕ) (w : View S N) → ((k : ℕ) (c : ℕ × N) → slice_get w.notes k ≡ Some c → P id k w c)
+  -- what holds of each note stays if one view changes
+  each_stays : (P : ℕ → ℕ → View S N → ℕ × N → Type 0) (vs : List (View S N)) (id : ℕ) (w : View S N) →
+      ((k : ℕ) (c : ℕ × N) → slice_get w.notes k ≡ Some c → P id k w c)
       → ((at k : ℕ) (v : View S N) (c : ℕ × N) → at ≢ id → get_elem? vs at ≡ some v → slice_get v.notes k ≡ Some c → P at k v c)
       → (at k : ℕ) (v : View S N) (c : ℕ × N) → get_elem? (set vs id w) at ≡ some v → slice_get v.notes k ≡ Some c → P at k v c
   each_stays P vs id w mine others at k v c there has = ⊎_elim
@@ -29,25 +34,31 @@ module _ {S N : Type 0} where
   no_turns vs id w mine others at v there = ⊎_elim (λ (t : (at ≡ id) × (w ≡ v)). ap (λ (u : View S N). u.turn) (sym t.1) ∙ mine)
       (λ (t : (at ≢ id) × (get_elem? vs at ≡ some v)). others at v t.0 t.1) (at_set vs id at w v there)
 
-  -- the same where one view may have a turn
-  no_turns_but : (vs : List (View S N)) (id holder : ℕ) (w : View S N) → w.turn ≡ None → ((at : ℕ) (v : View S N) → at ≢ holder → get_elem? vs at ≡ some v → v.turn ≡ None)
+  -- the same if one view may have a turn
+  no_turns_but : (vs : List (View S N)) (id holder : ℕ) (w : View S N) → w.turn ≡ None →
+      ((at : ℕ) (v : View S N) → at ≢ holder → get_elem? vs at ≡ some v → v.turn ≡ None)
       → (at : ℕ) (v : View S N) → at ≢ holder → get_elem? (set vs id w) at ≡ some v → v.turn ≡ None
   no_turns_but vs id holder w mine others at v but there = ⊎_elim (λ (t : (at ≡ id) × (w ≡ v)). ap (λ (u : View S N). u.turn) (sym t.1) ∙ mine)
       (λ (t : (at ≢ id) × (get_elem? vs at ≡ some v)). others at v but t.1) (at_set vs id at w v there)
 
-  turn_at : (s : Board S N) (v : View S N) (holder id : ℕ) (own : View S N) (state : S) → holder ≡ id → get_elem? s.views holder ≡ some own → get_elem? s.views id ≡ some v → own.turn ≡ Some state → v.turn ≡ Some state
-  turn_at s v holder id own state same has at turn = ap (λ (u : View S N). u.turn) (some-injective v own (sym at ∙ (ap (λ (k : ℕ). get_elem? s.views k) (sym same) ∙ has))) ∙ turn
+  turn_at : (s : Board S N) (v : View S N) (holder id : ℕ) (own : View S N) (state : S) → holder ≡ id → get_elem? s.views holder ≡ some own →
+      get_elem? s.views id ≡ some v → own.turn ≡ Some state → v.turn ≡ Some state
+  turn_at s v holder id own state same has at turn =
+      ap (λ (u : View S N). u.turn) (some-injective v own (sym at ∙ (ap (λ (k : ℕ). get_elem? s.views k) (sym same) ∙ has))) ∙ turn
 
   only : (v : View S N) (at : ℕ) (u : View S N) → get_elem? (v ∷ []) at ≡ some u → (at ≡ 0) × (v ≡ u)
   only v zero u e = (refl, some-injective v u e)
   only v (suc k) u e = absurd (some-ne-none u (sym e))
 
-  placed : (vs : List (View S N)) (owner : ℕ → ℕ × ℕ) (place : ℕ) (x : ℕ × ℕ) (own : View S N) (note : N) → owner place ≡ x → get_elem? vs x.0 ≡ some own → slice_get own.notes x.1 ≡ Some (place, note) → HasPlace vs owner place
-  placed vs owner place x own note is has at = record { own = own; note = note; has = ap (λ (y : ℕ × ℕ). get_elem? vs y.0) is ∙ has; at = ap (λ (y : ℕ × ℕ). slice_get own.notes y.1) is ∙ at }
+  placed : (vs : List (View S N)) (owner : ℕ → ℕ × ℕ) (place : ℕ) (x : ℕ × ℕ) (own : View S N) (note : N) → owner place ≡ x → get_elem? vs x.0 ≡ some own →
+      slice_get own.notes x.1 ≡ Some (place, note) → HasPlace vs owner place
+  placed vs owner place x own note is has at =
+      record { own = own; note = note; has = ap (λ (y : ℕ × ℕ). get_elem? vs y.0) is ∙ has; at = ap (λ (y : ℕ × ℕ). slice_get own.notes y.1) is ∙ at }
 
-  -- a place stays a view's where one view changes and keeps its places
+  -- a place stays a view's if one view changes and keeps its places
   place_stays : (vs : List (View S N)) (owner : ℕ → ℕ × ℕ) (id : ℕ) (v w : View S N) (place : ℕ) → get_elem? vs id ≡ some v
-      → ((k : ℕ) (note : N) → slice_get v.notes k ≡ Some (place, note) → (new : N) × (slice_get w.notes k ≡ Some (place, new))) → HasPlace vs owner place → HasPlace (set vs id w) owner place
+      → ((k : ℕ) (note : N) → slice_get v.notes k ≡ Some (place, note) → (new : N) × (slice_get w.notes k ≡ Some (place, new))) → HasPlace vs owner place →
+      HasPlace (set vs id w) owner place
   place_stays vs owner id v w place at same h = dite (ℕ_discrete (owner place).0 id)
       (λ mine. let is : h.own ≡ v = some-injective h.own v (sym h.has ∙ (ap (λ (k : ℕ). get_elem? vs k) mine ∙ at)) in
       let t = same (owner place).1 h.note (ap (λ (u : View S N). slice_get u.notes (owner place).1) (sym is) ∙ h.at) in
@@ -68,10 +79,14 @@ module _ {S N : Type 0} (fits : S → List N → Type 0) (count : ℕ) where
   abbrev Rule : Board S N → Type 0
   Rule = IsKept fits count
 
-  unmoved : (s : Board S N) → Rule s → (id : ℕ) (v : View S N) → get_elem? s.views id ≡ some v → Rule record { words = set s.words 0 (get_or s.words 0 0); homes = s.homes; views = set s.views id v }
-  unmoved s r id v at = subst (λ (x : List ℕ × List (View S N)). Rule record { words = x.0; homes = s.homes; views = x.1 }) (λ i. (sym (set-get_or s.words 0 0) i, sym (set_again s.views id v at) i)) r
+  unmoved : (s : Board S N) → Rule s → (id : ℕ) (v : View S N) → get_elem? s.views id ≡ some v →
+      Rule record { words = set s.words 0 (get_or s.words 0 0); homes = s.homes; views = set s.views id v }
+  unmoved s r id v at =
+      subst (λ (x : List ℕ × List (View S N)). Rule record { words = x.0; homes = s.homes; views = x.1 })
+      (λ i. (sym (set-get_or s.words 0 0) i, sym (set_again s.views id v at) i)) r
 
-  taken : (s : Board S N) (r : Rule s) (id old : ℕ) (v : View S N) (c : ℕ × N) → get_elem? s.views id ≡ some v → slice_get v.notes 0 ≡ Some c → old % 2 ≡ 0 → (f : IsFree fits r.notes s)
+  taken : (s : Board S N) (r : Rule s) (id old : ℕ) (v : View S N) (c : ℕ × N) → get_elem? s.views id ≡ some v → slice_get v.notes 0 ≡ Some c →
+      old % 2 ≡ 0 → (f : IsFree fits r.notes s)
       → Rule record { words = set s.words 0 (old + 1); homes = set s.homes 0 none; views = set s.views id (holding v f.state) }
   taken s r id old v c at has even f = let w : View S N = holding v f.state in let one = r.one_word in let now = get_or-set_same s.words 0 (old + 1) 0 (omega arith) in record {
     notes = r.notes;
@@ -103,9 +118,20 @@ module _ {S N : Type 0} (fits : S → List N → Type 0) (count : ℕ) where
         w,
         takes 0 (Some f.state),
         f.home,
-        subst (λ b. Rule (stepped s 0 (either b (old + 1) n) id me.1 w (takes 0 (Some f.state)))) (sym (eq-eqb n old hit)) (taken s r id old me.0 c at has even f),
+        subst (λ b. Rule (stepped s 0 (either b (old + 1) n) id me.1 w (takes 0 (Some f.state)))) (sym (eq-eqb n old hit))
+            (taken s r id old me.0 c at has even f),
         (
-          (λ _. (f.state, refl, (r.notes, r.all ∙ sym (r.each_note id 0 me.0 c at has).counted, (λ k place note there. (r.each_note id k me.0 (place, note) at there).stands), f.fit))),
+          (λ _. (
+            f.state,
+            refl,
+            (
+              r.notes,
+              r.all
+                  ∙ sym (r.each_note id 0 me.0 c at has).counted,
+              (λ k place note there. (r.each_note id k me.0 (place, note) at there).stands),
+              f.fit,
+            ),
+          )),
           λ miss. absurd (miss hit),
         ),
       ))
@@ -117,7 +143,7 @@ module _ {S N : Type 0} (fits : S → List N → Type 0) (count : ℕ) where
         ((λ hit. absurd (miss hit)), λ _. refl),
       ))
 
-  -- the note step of the seat that has the turn, where the state that it put fits with the new note
+  -- the note step of the seat that has the turn, if the state that it put fits with the new note
   noted_to : (s : Board S N) (r : Rule s) (id place x : ℕ) (old note : N) (n : ℕ) (entered state : S) → 0 < length s.homes
       → get_elem? s.views id ≡ some (view n ((place, old) ∷ []) (Some entered)) → x % 2 ≡ 0 → fits state (set r.notes place note)
       → ((at : ℕ) (v : View S N) → at ≢ id → get_elem? s.views at ≡ some v → v.turn ≡ None)
@@ -134,7 +160,8 @@ module _ {S N : Type 0} (fits : S → List N → Type 0) (count : ℕ) where
             record { counted = mine.counted; stands = get_set_same r.notes place old note mine.stands; owned = mine.owned })
             (λ at' k u c other there has. let st = r.each_note at' k u c there has in record {
               counted = st.counted;
-              stands = get_set_other r.notes place c.0 note (λ same. other (ap (λ (y : ℕ × ℕ). y.0) (sym st.owned ∙ (ap r.owner same ∙ mine.owned)))) ∙ st.stands;
+              stands = get_set_other r.notes place c.0 note
+                  (λ same. other (ap (λ (y : ℕ × ℕ). y.0) (sym st.owned ∙ (ap r.owner same ∙ mine.owned)))) ∙ st.stands;
               owned = st.owned;
             });
         each_place = λ p inside. place_stays s.views r.owner id (view n ((place, old) ∷ []) (Some entered)) w p at
@@ -146,7 +173,8 @@ module _ {S N : Type 0} (fits : S → List N → Type 0) (count : ℕ) where
 
   note_steps : (slots id n place more : ℕ) (old note : N) (entered state : S) → 0 < slots → more % 2 ≡ 1
       → ((all : List N) → length all ≡ n → slice_get all place ≡ Some old → fits entered all → fits state (set all place note))
-      → Allows Rule slots id (view n ((place, old) ∷ []) (Some entered), (0, Some state) ∷ []) 0 (λ x. (x + more) % 18446744073709551616) (noted (Some note) (step slots 0 more 0 none) (view n ((place, old) ∷ []) (Some entered), (0, Some state) ∷ []))
+      → Allows Rule slots id (view n ((place, old) ∷ []) (Some entered), (0, Some state) ∷ []) 0 (λ x. (x + more) % 18446744073709551616)
+      (noted (Some note) (step slots 0 more 0 none) (view n ((place, old) ∷ []) (Some entered), (0, Some state) ∷ []))
   note_steps slots id n place more old note entered state some_slot odd_more keeps_fit s r deep at small = let v : View S N = view n ((place, old) ∷ []) (Some entered) in let x : ℕ = get_or s.words 0 0 in
       let odd : x % 2 ≡ 1 = dite (ℕ_discrete (x % 2) 0) (λ even. absurd (no_both v.turn entered ((r.free even).no_turn id v at) refl)) (λ ne. omega arith) in
       let h = r.held odd in
@@ -168,7 +196,8 @@ module _ {S N : Type 0} (fits : S → List N → Type 0) (count : ℕ) where
       → ((all : List N) → length all ≡ me.0.count → slice_get all place ≡ Some old → fits entered all → fits state (set all place note))
       → Allows Rule slots id me 0 (λ x. (x + more) % 18446744073709551616) (noted (Some note) (step slots 0 more 0 none) me)
   note_keeps slots id place more me old note entered state some_slot odd_more notes turn held keeps_fit =
-      subst (λ (m : Sat S N). Allows Rule slots id m 0 (λ x. (x + more) % 18446744073709551616) (noted (Some note) (step slots 0 more 0 none) m)) (λ i. (view me.0.count (sym notes i) (sym turn i), sym held i))
+      subst (λ (m : Sat S N). Allows Rule slots id m 0 (λ x. (x + more) % 18446744073709551616) (noted (Some note) (step slots 0 more 0 none) m))
+      (λ i. (view me.0.count (sym notes i) (sym turn i), sym held i))
       (note_steps slots id me.0.count place more old note entered state some_slot odd_more keeps_fit)
 
   pub split_keeps : (id : ℕ) (v : View S N) → v.turn ≡ None → Splits Rule id v (rest_of v) (first_of v)
@@ -185,22 +214,32 @@ module _ {S N : Type 0} (fits : S → List N → Type 0) (count : ℕ) where
             at' k u c in_old has)
             (λ (last : (at' ≡ length vs) × (first_of v ≡ u)).
             let got = get_take v.notes k c (ap (λ (w : View S N). slice_get w.notes k) last.1 ∙ has) in let st = r.each_note id 0 v c at got.1 in
-            record { counted = ap (λ (w : View S N). w.count) (sym last.1) ∙ st.counted; stands = st.stands; owned = given_first id new _ st.owned ∙ (λ i. (sym (last.0 ∙ long) i, sym got.0 i)) })
+            record {
+              counted =
+                  ap (λ (w : View S N). w.count) (sym last.1) ∙ st.counted;
+              stands =
+                  st.stands;
+              owned = given_first id new _ st.owned ∙ (λ i. (sym (last.0 ∙ long) i, sym got.0 i));
+            })
             (at_end vs (first_of v) u at' there);
         each_place = λ place inside. let h = r.each_place place inside in let x : ℕ × ℕ = r.owner place in let all : List (View S N) = vs ++ first_of v ∷ [] in dite (ℕ_discrete x.0 id)
             (λ mine. let is : h.own ≡ v = some-injective h.own v (sym h.has ∙ (ap (λ (k : ℕ). get_elem? s.views k) mine ∙ at)) in
             let here : slice_get v.notes x.1 ≡ Some (place, h.note) = ap (λ (u : View S N). slice_get u.notes x.1) (sym is) ∙ h.at in dite (ℕ_discrete x.1 0)
-            (λ none_before. placed all owner place (new, 0) (first_of v) h.note (given_first id new x (λ i. (mine i, none_before i))) (at_last vs (first_of v) new long)
+            (λ none_before. placed all owner place (new, 0) (first_of v) h.note (given_first id new x (λ i. (mine i, none_before i)))
+            (at_last vs (first_of v) new long)
             (take_first v.notes (place, h.note) (ap (λ (k : ℕ). slice_get v.notes k) (sym none_before) ∙ here)))
             (λ some_before. let k : ℕ = x.1 - 1 in let next : x.1 ≡ suc k = omega arith in
-            placed all owner place (id, k) (rest_of v) h.note (given_next id new k x (λ i. (mine i, next i))) (at_longer vs (first_of v ∷ []) id (rest_of v) (set_there s.views id v (rest_of v) at))
+            placed all owner place (id, k) (rest_of v) h.note (given_next id new k x (λ i. (mine i, next i)))
+            (at_longer vs (first_of v ∷ []) id (rest_of v) (set_there s.views id v (rest_of v) at))
             (get_drop v.notes k ∙ (ap (λ (j : ℕ). slice_get v.notes j) (sym next) ∙ here))))
-            (λ else. placed all owner place x h.own h.note (given_other id new x.0 x.1 x else refl) (at_longer vs (first_of v ∷ []) x.0 h.own (set_else s.views id x.0 (rest_of v) else ∙ h.has)) h.at);
+            (λ else. placed all owner place x h.own h.note (given_other id new x.0 x.1 x else refl)
+            (at_longer vs (first_of v ∷ []) x.0 h.own (set_else s.views id x.0 (rest_of v) else ∙ h.has)) h.at);
         free = λ even. let f = r.free even in record {
           state = f.state;
           home = f.home;
           fit = f.fit;
-          no_turn = λ at' u there. ⊎_elim (λ (in_old : get_elem? vs at' ≡ some u). no_turns s.views id (rest_of v) no_turn (λ j w _ there'. f.no_turn j w there') at' u in_old)
+          no_turn = λ at' u there. ⊎_elim
+              (λ (in_old : get_elem? vs at' ≡ some u). no_turns s.views id (rest_of v) no_turn (λ j w _ there'. f.no_turn j w there') at' u in_old)
               (λ (last : (at' ≡ length vs) × (first_of v ≡ u)). ap (λ (w : View S N). w.turn) (sym last.1)) (at_end vs (first_of v) u at' there);
         };
         held = λ odd. let h = r.held odd in let apart : h.holder ≢ id = λ e. no_both v.turn h.state no_turn (turn_at s v h.holder id h.own h.state e h.has at h.turn) in record {
@@ -213,12 +252,14 @@ module _ {S N : Type 0} (fits : S → List N → Type 0) (count : ℕ) where
           has_note = h.has_note;
           fit = h.fit;
           no_other = λ at' u other there. ⊎_elim
-              (λ (in_old : get_elem? vs at' ≡ some u). no_turns_but s.views id h.holder (rest_of v) no_turn (λ j w other' there'. h.no_other j w other' there') at' u other in_old)
+              (λ (in_old : get_elem? vs at' ≡ some u). no_turns_but s.views id h.holder (rest_of v) no_turn
+              (λ j w other' there'. h.no_other j w other' there') at' u other in_old)
               (λ (last : (at' ≡ length vs) × (first_of v ≡ u)). ap (λ (w : View S N). w.turn) (sym last.1)) (at_end vs (first_of v) u at' there);
         };
       }
 
-  pub join_keeps : (id : ℕ) (v : View S N) (other : ℕ) (w : View S N) (c : ℕ × N) → slice_get v.notes 0 ≡ Some c → v.turn ≡ None → w.turn ≡ None → Joins Rule id v other w (both_of v w) spent
+  pub join_keeps : (id : ℕ) (v : View S N) (other : ℕ) (w : View S N) (c : ℕ × N) → slice_get v.notes 0 ≡ Some c → v.turn ≡ None → w.turn ≡ None →
+      Joins Rule id v other w (both_of v w) spent
   join_keeps id v other w c has no_turn no_turn' s r at apart there =
       let both : View S N = both_of v w in let vs : List (View S N) = set s.views id both in let n : ℕ = length w.notes in let owner : ℕ → ℕ × ℕ = λ p. merged id other n (r.owner p) in
       let was : get_elem? s.views other ≡ some w = at_other s.views id other both w apart there in let P = Stands r.notes owner count in let counted = (r.each_note id 0 v c at has).counted in record {
@@ -236,7 +277,8 @@ module _ {S N : Type 0} (fits : S → List N → Type 0) (count : ℕ) where
             (get_append w.notes v.notes k d (ap (λ (y : View S N). slice_get y.notes k) is ∙ here))))
             (λ else. let st = r.each_note j k u d (at_other s.views id j both u else there') here in record { counted = st.counted; stands = st.stands; owned = merged_rest id other n j k _ apart' else st.owned }));
         each_place = λ place inside. let h = r.each_place place inside in let x : ℕ × ℕ = r.owner place in let after : List (View S N) = set vs other spent in
-            let stays : get_elem? after id ≡ some both = set_else vs other id spent (λ e. apart (sym e)) ∙ set_there s.views id v both at in dite (ℕ_discrete x.0 other)
+            let stays : get_elem? after id ≡ some both =
+            set_else vs other id spent (λ e. apart (sym e)) ∙ set_there s.views id v both at in dite (ℕ_discrete x.0 other)
             (λ theirs. let is : h.own ≡ w = some-injective h.own w (sym h.has ∙ (ap (λ (k : ℕ). get_elem? s.views k) theirs ∙ was)) in
             placed after owner place (id, x.1) both h.note (merged_other id other n x.1 x (λ i. (theirs i, x.1))) stays
             (get_front w.notes v.notes x.1 (place, h.note) (ap (λ (u : View S N). slice_get u.notes x.1) (sym is) ∙ h.at)))
@@ -262,11 +304,13 @@ module _ {S N : Type 0} (fits : S → List N → Type 0) (count : ℕ) where
               note = h.note;
               has_note = h.has_note;
               fit = h.fit;
-              no_other = no_turns_but vs other h.holder spent refl (λ j u but there'. no_turns_but s.views id h.holder both no_turn (λ i x but' here. h.no_other i x but' here) j u but there');
+              no_other = no_turns_but vs other h.holder spent refl
+                  (λ j u but there'. no_turns_but s.views id h.holder both no_turn (λ i x but' here. h.no_other i x but' here) j u but there');
             };
       }
 
-  first_stands : (o : Opening N) → o.count ≡ count → (at k : ℕ) (v : View S N) (c : ℕ × N) → get_elem? (first_view o ∷ []) at ≡ some v → slice_get v.notes k ≡ Some c
+  first_stands : (o : Opening N) → o.count ≡ count → (at k : ℕ) (v : View S N) (c : ℕ × N) → get_elem? (first_view o ∷ []) at ≡ some v →
+      slice_get v.notes k ≡ Some c
       → Stands (replicate o.count o.note.value) (λ p. (0, p)) count at k v c
   first_stands o is at k v c there has = let here = only (first_view o) at v there in
       let t = get_numbered o.count 0 k o.note.value c (ap (λ (u : View S N). slice_get u.notes k) here.1 ∙ has) in let place : c.0 ≡ k = ap (λ (y : ℕ × N). y.0) t.0 ∙ omega arith in record {
@@ -275,7 +319,8 @@ module _ {S N : Type 0} (fits : S → List N → Type 0) (count : ℕ) where
         owned = λ i. (sym here.0 i, place i);
       }
 
-  pub opening_holds : (o : Opening N) (state : S) → o.count ≡ count → fits state (replicate count o.note.value) → Rule (opening (0 ∷ []) (Some state ∷ []) (first_view o))
+  pub opening_holds : (o : Opening N) (state : S) → o.count ≡ count → fits state (replicate count o.note.value) →
+      Rule (opening (0 ∷ []) (Some state ∷ []) (first_view o))
   opening_holds o state is fit = let notes : List N = replicate o.count o.note.value in record {
     notes = notes;
     owner = λ p. (0, p);
@@ -283,7 +328,14 @@ module _ {S N : Type 0} (fits : S → List N → Type 0) (count : ℕ) where
     all = length-replicate o.count o.note.value ∙ is;
     each_note = λ at k v c there has. first_stands o is at k v c there has;
     each_place = λ place inside. let here : 0 + place ≡ place = omega arith in
-        record { own = first_view o; note = o.note.value; has = refl; at = numbered_at o.count 0 place o.note.value (omega arith) ∙ ap (λ (j : ℕ). Some (j, o.note.value)) here };
+        record {
+          own =
+              first_view o;
+          note =
+              o.note.value;
+          has = refl;
+          at = numbered_at o.count 0 place o.note.value (omega arith) ∙ ap (λ (j : ℕ). Some (j, o.note.value)) here;
+        };
     free = λ _. record {
       state = state;
       home = refl;
@@ -305,4 +357,5 @@ module _ {S N : Type 0} (fits : S → List N → Type 0) (count : ℕ) where
       let same : h.holder ≡ id = ap (λ (y : ℕ × ℕ). y.0) (sym st.owned ∙ st'.owned) in
       absurd (no_both v.turn h.state no_turn (turn_at s v h.holder id h.own h.state same h.has at h.turn)))
       (λ ne. omega arith) in
-      let f = r.free even in (f.state, last.4 0 (Some f.state) f.home, (r.notes, r.all, (λ k place note has. (r.each_note id k v (place, note) at has).stands), f.fit))
+      let f = r.free even in
+      (f.state, last.4 0 (Some f.state) f.home, (r.notes, r.all, (λ k place note has. (r.each_note id k v (place, note) at has).stands), f.fit))

@@ -1,5 +1,6 @@
 -- Lists read by `slice_get` and `get_elem?`, after an edit.
-use Rattle.std.proofs.Common.{◌≡◌, ◌≢◌, ◌⊎◌, ℕ, zero, suc, ◌+◌, ◌-◌, ◌<◌, List, [], ◌∷◌, ◌++◌, length, replicate, set, take, drop, sym, refl, ap, ◌∙◌, inl, inr, ⊎_elim, arith, Some, slice_get}
+use Rattle.std.proofs.Common.{◌≡◌, ◌≢◌, ◌⊎◌, ℕ, zero, suc, ◌+◌, ◌-◌, ◌<◌, List, [], ◌∷◌, ◌++◌, length, replicate, set}
+use Rattle.std.proofs.Common.{take, drop, sym, refl, ap, ◌∙◌, inl, inr, ⊎_elim, arith, Some, slice_get}
 use Rattle.std.specs.List.{enumerate_from}
 use mathlib.Core.Option.{some, some-injective, some-ne-none}
 use lib.ListN.{get_elem?}
@@ -55,7 +56,8 @@ module _ {A : Type 0} where
   last_one (x ∷ []) a b e = absurd (cc)
   last_one (x ∷ y ∷ ys) a b e = absurd (cc)
 
-  pub get_append : (l m : List A) (k : ℕ) (a : A) → slice_get (l ++ m) k ≡ Some a → (slice_get l k ≡ Some a) ⊎ ((j : ℕ) × (k ≡ length l + j) × (slice_get m j ≡ Some a))
+  pub get_append : (l m : List A) (k : ℕ) (a : A) → slice_get (l ++ m) k ≡ Some a →
+      (slice_get l k ≡ Some a) ⊎ ((j : ℕ) × (k ≡ length l + j) × (slice_get m j ≡ Some a))
   get_append [] m k a e = inr (k, omega arith, e)
   get_append (x ∷ xs) m zero a e = inl e
   get_append (x ∷ xs) m (suc k) a e = ⊎_elim inl (λ t. inr (t.0, omega (arith, t.1), t.2)) (get_append xs m k a e)
@@ -82,7 +84,8 @@ module _ {A : Type 0} where
   numbered_next n k a h = let next : n - k ≡ suc (n - (k + 1)) = omega arith in ap (λ (m : ℕ). enumerate_from k (replicate m a)) next
 
   -- the elements of a list of one element, each with its place
-  pub get_numbered : (n i k : ℕ) (a : A) (c : ℕ × A) → slice_get (enumerate_from i (replicate n a)) k ≡ Some c → (c ≡ (i + k, a)) × (slice_get (replicate n a) k ≡ Some a)
+  pub get_numbered : (n i k : ℕ) (a : A) (c : ℕ × A) → slice_get (enumerate_from i (replicate n a)) k ≡ Some c → (c ≡ (i + k, a))
+      × (slice_get (replicate n a) k ≡ Some a)
   get_numbered zero i k a c e = absurd (none_get k c e)
   get_numbered (suc n) i zero a c e = let h : c ≡ (i, a) = cc in let here : i ≡ i + 0 = omega arith in (h ∙ (λ j. (here j, a)), refl)
   get_numbered (suc n) i (suc k) a c e = let t = get_numbered n (i + 1) k a c e in let next : (i + 1) + k ≡ i + suc k = omega arith in (t.0 ∙ (λ j. (next j, a)), t.1)

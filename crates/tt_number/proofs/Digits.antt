@@ -1,5 +1,6 @@
 -- Digits read from the left, with a number that stops at the greatest of 64 bits.
-use Rattle.std.proofs.Common.{◌≡◌, ℕ, zero, suc, ◌+◌, ◌-◌, ◌*◌, ◌^◌, ◌<◌, ◌≤◌, min, Bool, true, false, ◌==◌, List, [], ◌∷◌, length, get_or, take, Option, Some, None, Err, inl, inr, sym, ap, ◌∙◌, arith}
+use Rattle.std.proofs.Common.{◌≡◌, ℕ, zero, suc, ◌+◌, ◌-◌, ◌*◌, ◌^◌, ◌<◌, ◌≤◌, min, Bool, true, false, ◌==◌, List, []}
+use Rattle.std.proofs.Common.{◌∷◌, length, get_or, take, Option, Some, None, Err, inl, inr, sym, ap, ◌∙◌, arith}
 use Rattle.std.specs.Option.{option_map}
 use Rattle.std.specs.Char.{digit_value}
 use Rattle.std.specs.Str.Parse.{digits_value, digits_value_after}
@@ -20,7 +21,8 @@ digits_after b n (c ∷ cs) = rw (pow-suc b (length cs)) (omega (arith, digits_a
 pub digit_sum_is : (b : ℕ) (ds : List ℕ) → digits_value b ds ≡ digit_sum b ds
 digit_sum_is b ds = omega (arith, digits_after b 0 ds)
 
-pub all_more : (base : ℕ) (xs : List ℕ) (i : ℕ) → i < length xs → all_digits base (take i xs) ≡ true → digit_value (get_or xs i 0) < base → all_digits base (take (i + 1) xs) ≡ true
+pub all_more : (base : ℕ) (xs : List ℕ) (i : ℕ) → i < length xs → all_digits base (take i xs) ≡ true → digit_value (get_or xs i 0) < base →
+    all_digits base (take (i + 1) xs) ≡ true
 all_more base xs i within so_far digit = list_all_more _ xs i 0 within ∙ rw (so_far, lt-ltb _ _ digit)
 
 -- a step of a number that stops at the limit stops where the number itself is past it
@@ -31,10 +33,13 @@ capped_step n b d limit some =
       | inr p ↦ (let e : min n limit ≡ limit = omega arith in rw e (omega (arith, mul-le-mul_right b p, le-mul_of_pos_right limit some)))
     ]
 
-pub number_more : (base : ℕ) (xs : List ℕ) (i : ℕ) → i < length xs → 1 ≤ base → min (min (min (digits_value base (take i xs)) (2 ^ 64 - 1) * base) (2 ^ 64 - 1) + digit_value (get_or xs i 0)) (2 ^ 64 - 1) ≡ min (digits_value base (take (i + 1) xs)) (2 ^ 64 - 1)
+pub number_more : (base : ℕ) (xs : List ℕ) (i : ℕ) → i < length xs → 1 ≤ base →
+    min (min (min (digits_value base (take i xs)) (2 ^ 64 - 1) * base) (2 ^ 64 - 1) + digit_value (get_or xs i 0)) (2 ^ 64 - 1) ≡ min
+    (digits_value base (take (i + 1) xs)) (2 ^ 64 - 1)
 number_more base xs i within some = capped_step _ base _ (2 ^ 64 - 1) some ∙ ap (λ n. min n (2 ^ 64 - 1)) (sym (digits_value_more base xs i within))
 
-pub whole_number : (base : ℕ) (xs : List ℕ) (i n : ℕ) → false ≡ (length xs == 0) → length xs ≤ i → i ≤ length xs → all_digits base (take i xs) ≡ true → n ≡ min (digits_value base (take i xs)) (2 ^ 64 - 1) → Some n ≡ option_map (λ n. min n (2 ^ 64 - 1)) (number_of (base, xs))
+pub whole_number : (base : ℕ) (xs : List ℕ) (i n : ℕ) → false ≡ (length xs == 0) → length xs ≤ i → i ≤ length xs → all_digits base (take i xs) ≡ true →
+    n ≡ min (digits_value base (take i xs)) (2 ^ 64 - 1) → Some n ≡ option_map (λ n. min n (2 ^ 64 - 1)) (number_of (base, xs))
 whole_number base xs i n some low high digits value =
     let all : take i xs ≡ xs = take_all i xs low in
     let filled : 0 < length xs = grind (arith, nat_tests) in
@@ -55,6 +60,7 @@ cut_capped negative n m e =
       | inr p ↦ past negative m (omega arith) ∙ sym (past negative n (omega arith))
     ]
 
-pub read_capped : (negative : Bool) (unsigned : List ℕ) (m : ℕ) (number : Option ℕ) → Some m ≡ option_map (λ n. min n (2 ^ 64 - 1)) number → cut negative m ≡ read_as negative unsigned number
+pub read_capped : (negative : Bool) (unsigned : List ℕ) (m : ℕ) (number : Option ℕ) → Some m ≡ option_map (λ n. min n (2 ^ 64 - 1)) number →
+    cut negative m ≡ read_as negative unsigned number
 read_capped negative unsigned m (Some n) e = cut_capped negative n m cc
 read_capped negative unsigned m None e = cc

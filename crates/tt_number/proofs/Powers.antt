@@ -1,5 +1,6 @@
 -- Powers and shifts past 64 bits.
-use Rattle.std.proofs.Common.{inl, inr, ◌<ℤ◌, ◌≤ℤ◌, ◌≡◌, ℕ, zero, suc, ◌^◌, ◌<◌, ◌≤◌, ◌/◌, ◌%◌, true, false, cond, eqb, min, ◌≢◌, ℤ, pos, negsuc, ◌*ℤ◌, neg_ℤ, Err, Ok, refl, sym, ◌∙◌, arith}
+use Rattle.std.proofs.Common.{inl, inr, ◌<ℤ◌, ◌≤ℤ◌, ◌≡◌, ℕ, zero, suc, ◌^◌, ◌<◌, ◌≤◌, ◌/◌, ◌%◌, true, false, cond, eqb}
+use Rattle.std.proofs.Common.{min, ◌≢◌, ℤ, pos, negsuc, ◌*ℤ◌, neg_ℤ, Err, Ok, refl, sym, ◌∙◌, arith}
 use Rattle.std.proofs.lemmas.Bool.{cases_lt}
 use Rattle.std.proofs.lemmas.Bool.Decides.{nat_tests}
 use Rattle.std.proofs.lemmas.Int.{ints, unsigned_abs-mul}
@@ -20,7 +21,8 @@ abs-neg (suc n) = refl
 
 pub abs-pow : (z : ℤ) (e : ℕ) → unsigned_abs (int_pow z e) ≡ unsigned_abs z ^ e
 abs-pow (pos a) e = refl
-abs-pow (negsuc a) e = elim (eqb (e % 2) 0) as (λ t. unsigned_abs (cond t (pos (suc a ^ e)) (neg_ℤ (pos (suc a ^ e)))) ≡ suc a ^ e) [ true ↦ refl | false ↦ abs-neg (suc a ^ e) ]
+abs-pow (negsuc a) e =
+    elim (eqb (e % 2) 0) as (λ t. unsigned_abs (cond t (pos (suc a ^ e)) (neg_ℤ (pos (suc a ^ e)))) ≡ suc a ^ e) [ true ↦ refl | false ↦ abs-neg (suc a ^ e) ]
 
 -- a base of two or more at an exponent of 64 or more
 pub long_power : (base : ℤ) (e : ℕ) → 64 ≤ e → 2 ≤ unsigned_abs base → Err Overflow ≡ fitted (int_pow base e)
@@ -36,7 +38,8 @@ pow_of_zero (suc e) h = omega (arith, pow-suc 0 e)
 
 -- a shift of 64 places or more
 pub long_shift : (a : ℤ) (k : ℕ) → 64 ≤ k → 1 ≤ unsigned_abs a → Err Overflow ≡ fitted (a *ℤ pos (2 ^ k))
-long_shift a k h one = overflows (a *ℤ pos (2 ^ k)) (omega (arith, unsigned_abs-mul a (pos (2 ^ k)), mul-le-mul_right (2 ^ k) one, pow-le-pow_right {n = 2} (omega arith) h))
+long_shift a k h one =
+    overflows (a *ℤ pos (2 ^ k)) (omega (arith, unsigned_abs-mul a (pos (2 ^ k)), mul-le-mul_right (2 ^ k) one, pow-le-pow_right {n = 2} (omega arith) h))
 
 -- 0 and 1 at an exponent above 0
 pub idle_power : (base : ℤ) (e : ℕ) → 64 ≤ e → pos 0 ≤ℤ base → unsigned_abs base ≤ 1 → Ok base ≡ fitted (int_pow base e)

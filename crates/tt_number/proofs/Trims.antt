@@ -32,7 +32,8 @@ last_split xs h =
     let whole : length xs - 1 + 1 ≡ length xs = omega arith in
     sym (take-length xs) ∙ (rw whole at more)
 
-pub white_end : (xs : List ℕ) → 0 < length xs → is_white_space (get_or xs (length xs - 1) 0) ≡ true → without_white_back (take (length xs - 1) xs) ≡ without_white_back xs
+pub white_end : (xs : List ℕ) → 0 < length xs → is_white_space (get_or xs (length xs - 1) 0) ≡ true →
+    without_white_back (take (length xs - 1) xs) ≡ without_white_back xs
 white_end xs some h = sym (ap without_white_back (last_split xs some) ∙ white_last (take (length xs - 1) xs) _ h)
 
 pub kept_end : (xs : List ℕ) → 0 < length xs → is_white_space (get_or xs (length xs - 1) 0) ≡ false → xs ≡ without_white_back xs

@@ -1,11 +1,11 @@
--- How a text that is no whole number, and an operator that has no answer, are told (expr(n), OPERANDS, OPERATORS).
+-- How a text that is no whole number, and an operator that has no answer, are reported (expr(n), OPERANDS, OPERATORS).
 use Rattle.std.specs.Prelude.{ℕ, List, ◌++◌, codes}
 use Rattle.tt_number.specs.declared.numeral.NumberFault.{NumberFault}
 use Rattle.tt_number.specs.declared.numeral.NumberFault.TheVariants.{NotWhole, TooLarge, Float}
 use Rattle.tt_number.specs.declared.operators.ArithFault.{ArithFault}
 use Rattle.tt_number.specs.declared.operators.ArithFault.TheVariants.{Overflow, DivideByZero, NegativeShift, ZeroPower}
 
--- why a text is no whole number, where one is needed
+-- why a text is no whole number, if one is needed
 abbrev pub number_message : NumberFault → List ℕ → List ℕ
 number_message NotWhole text = codes "expected integer but got \"" ++ (text ++ codes "\"")
 number_message TooLarge text = codes "integer overflow"

@@ -56,7 +56,7 @@ pub data IsUnsigned : List ℕ → ℕ → List ℕ → Type 0 where
   leading_zero : {digits : List ℕ} →
       IsTrue (is_numeral 8 digits) →
       IsUnsigned (48 ∷ digits) 8 digits
-  -- decimal digits, of which the first is no `0` where others follow
+  -- decimal digits, of which the first is no `0` if others follow
   decimal : {digit : ℕ} {digits : List ℕ} →
       IsTrue (is_numeral 10 (digit ∷ digits)) →
       (digit ≡ 48 → digits ≡ []) →
@@ -196,7 +196,7 @@ cut negative size =
     let number = if negative then neg_ℤ (pos size) else pos size in
     if fits number then Ok number else Err TooLarge
 
--- what a sign and what follows it are read as, where those digits write a number or none
+-- what a sign and what follows it are read as, if those digits write a number or none
 abbrev pub read_as : Bool → List ℕ → Option ℕ → Result ℤ NumberFault
 read_as negative unsigned (Some size) = cut negative size
 read_as negative unsigned None = if is_float unsigned then Err Float else Err NotWhole

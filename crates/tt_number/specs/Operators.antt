@@ -18,7 +18,7 @@ abbrev pub fits : ℤ → Bool
 fits (pos n) = nat_lt n (2 ^ 63)
 fits (negsuc n) = nat_lt n (2 ^ 63)
 
--- the number, where it does
+-- the number, if it does
 abbrev pub fitted : ℤ → Result ℤ ArithFault
 fitted n = if fits n then Ok n else Err Overflow
 

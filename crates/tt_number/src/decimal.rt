@@ -7,7 +7,7 @@ use tt_text::{NoMemory, Text};
 
 /// The number in decimal, with `-` before a negative one, as expr(n) writes its results.
 ///
-/// `NoMemory` where the memory for the text is refused.
+/// `NoMemory` if the memory for the text is refused.
 pub fn whole_text(alloc: Global, number: i64) -> Result<Text, NoMemory>
     ensures written { IfOk result (λ text. text ≡ signed_decimal number) }
 {

@@ -10,7 +10,7 @@ impl NumberFault {
     /// The text of the error that a command gives for a word that has to be a whole number and isn't
     /// (expr(n), OPERANDS).
     ///
-    /// `NoMemory` where the memory for it is refused.
+    /// `NoMemory` if the memory for it is refused.
     pub fn message(self, alloc: Global, text: &[u8]) -> Result<Text, NoMemory>
         ensures told { IfOk result (λ message. message ≡ number_message self text.now) }
     {

@@ -26,8 +26,8 @@ pub enum NumberFault {
 /// White space around is ignored. After an optional sign come `0x`, `0o` or `0b`, in either case, with
 /// digits of base 16, 8 or 2; or `0` with octal digits; or decimal digits.
 ///
-/// - `TooLarge` where such a number does not lie in signed 64 bits.
-/// - `Float` where the text is an optional sign and digits with a point, an exponent or both.
+/// - `TooLarge` if such a number does not lie in signed 64 bits.
+/// - `Float` if the text is an optional sign and digits with a point, an exponent or both.
 /// - `NotWhole` for every other text, `08` among them.
 #[tactic(auto, unfolding(crate::specs::Numerals::whole_of))]
 pub fn read_whole(text: &[u8]) -> Result<i64, NumberFault>
@@ -92,9 +92,9 @@ fn number_of(unsigned: &[u8]) -> Option<u64>
     }
 }
 
-/// The number that digits of this base write, or the greatest `u64` where it is past that (expr(n), OPERANDS).
+/// The number that digits of this base write, or the greatest `u64` if it is past that (expr(n), OPERANDS).
 ///
-/// `None` where there are none or one is no digit of the base.
+/// `None` if there are none or one is no digit of the base.
 pub fn digits_of(base: u32, digits: &[u8]) -> Option<u64>
     requires least { 2 ≤ base }
     requires most { base ≤ 16 }

@@ -53,10 +53,10 @@ pub enum OneOp {
 /// `/` rounds down and the remainder of `%` has the divisor's sign. A shift multiplies or divides,
 /// rounding down, by a power of two. A negative exponent of `**` answers 0 but at the bases 1 and -1.
 ///
-/// - `Overflow` where the result does not lie in signed 64 bits.
-/// - `DivideByZero` where `/` or `%` has the divisor 0.
-/// - `NegativeShift` where a shift has less than 0 places.
-/// - `ZeroPower` where `**` has the base 0 and a negative exponent.
+/// - `Overflow` if the result does not lie in signed 64 bits.
+/// - `DivideByZero` if `/` or `%` has the divisor 0.
+/// - `NegativeShift` if a shift has less than 0 places.
+/// - `ZeroPower` if `**` has the base 0 and a negative exponent.
 #[tactic(auto, unfolding(crate::specs::Operators::binary_of))]
 pub fn binary(op: NumOp, a: i64, b: i64) -> Result<i64, ArithFault>
     ensures answer { result ≡ binary_of op a b }
@@ -78,7 +78,7 @@ pub fn binary(op: NumOp, a: i64, b: i64) -> Result<i64, ArithFault>
 
 /// What the operator answers on one number, by expr(n).
 ///
-/// `Overflow` where the result does not lie in signed 64 bits: `-` and `abs` of the least number.
+/// `Overflow` if the result does not lie in signed 64 bits: `-` and `abs` of the least number.
 #[tactic(auto, unfolding(crate::specs::Operators::unary_of))]
 pub fn unary(op: OneOp, a: i64) -> Result<i64, ArithFault>
     ensures answer { result ≡ unary_of op a }

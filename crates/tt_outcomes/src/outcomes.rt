@@ -37,7 +37,7 @@ impl Ending {
     }
 
     /// The code that a return keeps (return(n)).
-    pub fn kept(&self) -> Code
+    pub fn kept_code(&self) -> Code
         ensures kept { result ≡ kept_of self.now }
     {
         match self {
@@ -53,7 +53,7 @@ impl Ending {
         ensures outcome { IfOk result (λ outcome. outcome ≡ outcome_of self) }
     {
         let code = self.code();
-        let kept = self.kept();
+        let kept = self.kept_code();
         let trace = self.trace(alloc)?;
         Ok(Outcome {
             code,

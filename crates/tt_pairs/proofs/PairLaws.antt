@@ -1,5 +1,6 @@
 -- What holds of the keys of dictionaries, of their values and of their texts.
-use Rattle.std.proofs.Common.{◌≡◌, ◌∙◌, ℕ, Bool, true, false, cond, bytes_eq, List, [], ◌∷◌, ◌++◌, Option, Some, None, Ok, refl, sym, ap, subst, append-nil, append_assoc, unwrap_or, if◌then◌else◌, rules}
+use Rattle.std.proofs.Common.{◌≡◌, ◌∙◌, ℕ, Bool, true, false, cond, bytes_eq, List, [], ◌∷◌, ◌++◌, Option, Some, None}
+use Rattle.std.proofs.Common.{Ok, refl, sym, ap, subst, append-nil, append_assoc, unwrap_or, if◌then◌else◌, rules}
 use Rattle.std.specs.Cmp.{IsEquivalence}
 use Rattle.std.proofs.lemmas.Cmp.{nat_list_eq_equiv}
 use Rattle.std.proofs.lemmas.Map.{lookup-remove_entry}
@@ -12,7 +13,7 @@ use Rattle.tt_lists.proofs.Joining.{splits_back}
 use Rattle.tt_lists.specs.declared.items.Split.{Split}
 use Rattle.tt_lists.specs.declared.items.Split.TheVariants.{Items, Bad}
 use Rattle.tt_lists.specs.Reading.{split_of}
-use Rattle.tt_pairs.specs.Laws.{KeysDiffer, KeysLaw, OtherValuesLaw, ReadsBackLaw}
+use Rattle.tt_pairs.specs.PairLaws.{KeysDiffer, KeysLaw, OtherValuesLaw, ReadsBackLaw}
 use Rattle.tt_pairs.specs.Pairs.{Pairs, items_of, joined, value_of, with_pair, without_key}
 use Rattle.tt_pairs.specs.Reading.{pairs_of, reading_by, whole, with_items}
 

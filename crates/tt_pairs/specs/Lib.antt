@@ -1,5 +1,5 @@
-pub mod Laws
 pub mod Loops
+pub mod PairLaws
 pub mod Pairs
 pub mod Reading
 pub mod inside

@@ -1,5 +1,5 @@
 //! Laws about the definitions, each proved as the contract of a function that does nothing.
-ghost use Rattle.tt_pairs.specs.Laws.{KeysLaw, OtherValuesLaw, ReadsBackLaw};
+ghost use Rattle.tt_pairs.specs.PairLaws.{KeysLaw, OtherValuesLaw, ReadsBackLaw};
 
 /// The keys of a dictionary differ: of one that was read, and after each change.
 pub fn keys_differ()

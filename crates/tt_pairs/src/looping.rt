@@ -31,7 +31,8 @@ pub fn read_loop(
     dictionary: &[u8],
     body: &Text,
 ) -> Result<Result<Looping, Text>, NoMemory>
-    ensures looping { IfOk result (λ looping. looping ≡ loops.looping_of names.now (reading_of dictionary.now) body.now) }
+    ensures looping { IfOk result (λ looping.
+        looping ≡ loops.looping_of names.now (reading_of dictionary.now) body.now) }
 {
     match split(alloc, names)? {
         Split::Items(names) => by_names(alloc, names.as_slice(), dictionary, body),

@@ -9,7 +9,7 @@ use std::alloc::Global;
 use tt_lists::{Split, split};
 use tt_text::{NoMemory, Text};
 
-/// Reads a text as a dictionary (dict(n)): the pairs that its list has, where of equal keys the first has the place and
+/// Reads a text as a dictionary (dict(n)): the pairs that its list has, if of equal keys the first has the place and
 /// the last the value.
 ///
 /// `Err` has the message if the text is no list, or its last key has no value. `NoMemory` if memory is refused.

@@ -1,5 +1,6 @@
 -- What calls on pools do, and when they wait: a case each (tpool(n)).
-use Rattle.std.specs.Prelude.{ℕ, ◌+◌, ◌-◌, Bool, true, false, ◌&&◌, ◌||◌, not, nat_lt, List, [], ◌++◌, codes, Option, Some, None, if◌then◌else◌, ℤ, pos, negsuc, ◌+ℤ◌, ◌==◌}
+use Rattle.std.specs.Prelude.{ℕ, ◌+◌, ◌-◌, Bool, true, false, ◌&&◌, ◌||◌, not, nat_lt, List, [], ◌++◌, codes, Option}
+use Rattle.std.specs.Prelude.{Some, None, if◌then◌else◌, ℤ, pos, negsuc, ◌+ℤ◌, ◌==◌}
 use Rattle.std.specs.Fmt.{decimal, signed_decimal}
 use Rattle.std.specs.List.{filter, list_any}
 use Rattle.tt_calls.specs.declared.outcome.Outcome.{Outcome}
@@ -9,8 +10,10 @@ use Rattle.tt_calls.specs.declared.reply.Reply.{Reply}
 use Rattle.tt_calls.specs.declared.reply.Reply.TheVariants.{Go, Value, Refused, Answer, Job, JobStop, Lists}
 use Rattle.tt_calls.specs.declared.reply.Step.TheVariants as step
 use Rattle.tt_lists.specs.Spelling.{list_of}
-use Rattle.tt_pools.specs.Jobs.{Cancelled, JobTable, begins, cancels, fails, finishes, at, has_none, is_done, is_job, is_pending, oldest, outcome_of, posted, unfinished, without_outcome}
-use Rattle.tt_pools.specs.Pools.{PoolTable, is_allowed, new_id, new_pool, pool_ids, pool_of, with_new, with_pool, without_pool, worker_of}
+use Rattle.tt_pools.specs.Jobs.{Cancelled, JobTable, begins, cancels, fails, finishes, at, has_none, is_done, is_job}
+use Rattle.tt_pools.specs.Jobs.{is_pending, oldest, outcome_of, posted, unfinished, without_outcome}
+use Rattle.tt_pools.specs.Pools.{PoolTable, is_allowed, new_id, new_pool, pool_ids, pool_of, with_new, with_pool}
+use Rattle.tt_pools.specs.Pools.{without_pool, worker_of}
 use Rattle.tt_pools.specs.declared.calls.Hold.{Hold}
 use Rattle.tt_pools.specs.declared.calls.Hold.TheVariants.{Taken, GivenUp}
 use Rattle.tt_pools.specs.declared.jobs.Queued.{Queued}

@@ -1,5 +1,6 @@
 -- The jobs of a pool (tpool(n)). They are numbered from 1; a text names the one whose number it writes.
-use Rattle.std.specs.Prelude.{ℕ, ◌+◌, Bool, true, false, ◌&&◌, ◌||◌, ◌==◌, not, List, [], ◌∷◌, ◌++◌, length, codes, Option, Some, None, is_some, option_and_then, if◌then◌else◌}
+use Rattle.std.specs.Prelude.{ℕ, ◌+◌, Bool, true, false, ◌&&◌, ◌||◌, ◌==◌, not, List, [], ◌∷◌, ◌++◌, length, codes}
+use Rattle.std.specs.Prelude.{Option, Some, None, is_some, option_and_then, if◌then◌else◌}
 use Rattle.indexmap.specs.IndexSet.{insert_key}
 use Rattle.std.specs.BTreeMap.{insert_entry, is_at}
 use Rattle.std.specs.List.{fold, list_any}
@@ -111,7 +112,7 @@ abbrev pub has_none : {X : Type 0} → List (ℕ × X) → Bool
 has_none [] = true
 has_none (entry ∷ entries) = false
 
--- what a job came to, which is told once
+-- what a job came to, which is reported once
 abbrev pub outcome_of : JobTable → List ℕ → Option Outcome
 outcome_of jobs text = option_and_then (at jobs.done) (number_named text)
 

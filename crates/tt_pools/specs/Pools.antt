@@ -1,5 +1,6 @@
 -- The pools (tpool(n)). They are numbered from 1.
-use Rattle.std.specs.Prelude.{ℕ, ◌+◌, Bool, false, ◌&&◌, nat_lt, nat_le, List, [], map, Option, Some, None, option_and_then, pos}
+use Rattle.std.specs.Prelude.{ℕ, ◌+◌, Bool, false, ◌&&◌, nat_lt, nat_le, List, [], map, Option, Some, None}
+use Rattle.std.specs.Prelude.{option_and_then, pos}
 use Rattle.std.specs.BTreeMap.{insert_entry, is_at}
 use Rattle.std.specs.Map.{lookup, remove_entry, set_value}
 use Rattle.std.specs.Ordering.{nat_cmp}

@@ -2,7 +2,9 @@ ghost use Rattle.std.specs.Prelude.{◌≡◌, IfOk, OnOk, negsuc, pos};
 ghost use Rattle.std.specs.Option.{option_copied};
 ghost use Rattle.tt_calls.specs.declared.reply.Reply.TheVariants.{Refused, Value};
 ghost use Rattle.tt_lists.specs.Spelling.{list_of};
-ghost use Rattle.tt_pools.specs.Calls.{act, act_or_wait, cancelled, counts, creates, ends_in, in_pool, is_unheld, looks, missing, posts_in, releases, replies, suspends, table_after_end, takes_from, takes_outcome};
+ghost use Rattle.tt_pools.specs.Calls.{act, act_or_wait, cancelled, counts, creates, ends_in, in_pool, is_unheld};
+ghost use Rattle.tt_pools.specs.Calls.{looks, missing, posts_in, releases, replies, suspends, table_after_end};
+ghost use Rattle.tt_pools.specs.Calls.{takes_from, takes_outcome};
 ghost use Rattle.tt_pools.specs.Pools.{pool_ids, pool_of, without_pool};
 
 use crate::calls::Hold;
@@ -259,7 +261,7 @@ impl Pools {
         }
     }
 
-    /// The end of a thread: where it was a worker of a pool that is open, that has one worker less, and the job that it
+    /// The end of a thread: if it was a worker of a pool that is open, that has one worker less, and the job that it
     /// has begun has failed. `worker_of` is the id of that pool, and `None` for any other thread.
     ///
     /// `NoMemory` if memory for the failure is refused.

@@ -1,7 +1,8 @@
 ghost use Rattle.std.specs.Prelude.{◌≡◌, [], IfOk, OnOk, if◌then◌else◌};
 ghost use Rattle.std.specs.Fmt.{decimal};
 ghost use Rattle.tt_calls.specs.declared.reply.Reply.TheVariants.{Value};
-ghost use Rattle.tt_pools.specs.Calls.{begins_job, counts, ends_job, grows, loses, more, posts, takes_outcome, workers_made};
+ghost use Rattle.tt_pools.specs.Calls.{begins_job, counts, ends_job, grows, loses, more, posts, takes_outcome};
+ghost use Rattle.tt_pools.specs.Calls.{workers_made};
 ghost use Rattle.tt_pools.specs.Pools.{worker_of};
 
 use crate::telling::{no_outcome, refused};
@@ -163,7 +164,7 @@ impl Pool {
     }
 }
 
-// The number of a new job, which a detached one isn't told.
+// The number of a new job, which a detached one doesn't get.
 fn job_reply(alloc: Global, number: u64, detached: bool) -> Result<Reply, NoMemory>
     ensures { IfOk result (λ reply. reply ≡ Value (if detached then [] else decimal number)) }
 {

@@ -2,7 +2,9 @@ ghost use Rattle.std.specs.Prelude.{◌≡◌, ◌↔◌, IsTrue, IfNone, IfOk, 
 ghost use Rattle.tt_calls.specs.Outcomes.{failed};
 ghost use Rattle.std.specs.List.{list_any};
 ghost use Rattle.std.specs.Map.{values_of};
-ghost use Rattle.tt_pools.specs.Jobs.{at, begins, fails, finishes, has_none, is_begun, is_done, is_job, is_own_begun, is_pending, is_queued, no_jobs, oldest, outcome_of, posted, unfinished, with_outcome, without_outcome, without_queued};
+ghost use Rattle.tt_pools.specs.Jobs.{at, begins, fails, finishes, has_none, is_begun, is_done, is_job, is_own_begun};
+ghost use Rattle.tt_pools.specs.Jobs.{is_pending, is_queued, no_jobs, oldest, outcome_of, posted, unfinished};
+ghost use Rattle.tt_pools.specs.Jobs.{with_outcome, without_outcome, without_queued};
 
 use std::alloc::Global;
 use std::collections::BTreeMap;
@@ -139,7 +141,7 @@ impl Jobs {
         }
     }
 
-    // What a job came to, which is told once.
+    // What a job came to, which is reported once.
     pub(crate) fn take_outcome(&mut self, job: &Text) -> Option<Outcome>
         ensures outcome { result ≡ outcome_of self.old job.now }
         ensures taken { self.new ≡ without_outcome self.old job.now }

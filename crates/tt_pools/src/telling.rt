@@ -25,7 +25,7 @@ pub(crate) fn missing(alloc: Global, id: &Text) -> Result<Reply, NoMemory>
     named(alloc, b"can not find threadpool \"", id, b"\"")
 }
 
-// Why a job's outcome can't be told.
+// Why a job's outcome can't be reported.
 pub(crate) fn no_outcome(alloc: Global, jobs: &Jobs, job: &Text) -> Result<Reply, NoMemory>
     ensures { IfOk result (λ reply. reply ≡ Refused (no_outcome job.now jobs.now)) }
 {

@@ -1,4 +1,4 @@
--- The call of a procedure: the values of its parameters, and how its usage is told (proc(n)).
+-- The call of a procedure: the values of its parameters, and how its usage is reported (proc(n)).
 use Rattle.std.specs.Prelude.{ℕ, Bool, true, false, bytes_eq, List, [], ◌∷◌, ◌++◌, codes, drop, Option, Some, None}
 use Rattle.std.specs.Option.{option_map}
 use Rattle.tt_calls.specs.Outcomes.{failed}
@@ -41,7 +41,7 @@ arguments_of (parameter ∷ later) words =
       | None ↦ None
     ]
 
--- how a parameter is told in a usage
+-- how a parameter reads in a usage
 abbrev pub optional : (name : List ℕ) → List ℕ
 optional name = codes "?" ++ (name ++ codes "?")
 

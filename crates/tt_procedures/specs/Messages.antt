@@ -1,4 +1,4 @@
--- How errors are told (proc(n), info(n)).
+-- How errors are reported (proc(n), info(n)).
 use Rattle.std.specs.Prelude.{ℕ, List, ◌++◌, codes}
 
 -- that a text is no parameter

@@ -32,7 +32,7 @@ parameter_by (Bad fault) = None
 abbrev pub parameter_of : (text : List ℕ) → Option Parameter
 parameter_of text = parameter_by (split_of text)
 
--- the parameters of texts after those that were read, or what is told of the first bad one
+-- the parameters of texts after those that were read, or what is reported of the first bad one
 abbrev pub read_from : (read : List Parameter) → (texts : List (List ℕ)) → Result (List Parameter) (List ℕ)
 read_from read [] = Ok read
 read_from read (text ∷ texts) =

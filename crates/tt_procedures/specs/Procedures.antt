@@ -25,7 +25,7 @@ Table = List (List ℕ × Procedure)
 abbrev pub named_by : (word : List ℕ) → Table → Option Procedure
 named_by word table = lookup (bytes_eq (plain_name word)) table
 
--- the table where the name is this procedure: in the place of an older one, or last
+-- the table if the name is this procedure: in the place of an older one, or last
 abbrev pub with_procedure : Table → (name : List ℕ) → Procedure → Table
 with_procedure table name procedure = insert_entry bytes_eq table name procedure
 
@@ -33,7 +33,7 @@ with_procedure table name procedure = insert_entry bytes_eq table name procedure
 abbrev pub Fails : (message : List ℕ) → (old : Table) → Outcome → (new : Table) → Type 0
 Fails message old outcome new = (outcome ≡ failed message) × (new ≡ old)
 
--- a procedure is defined, where its parameters could be read
+-- a procedure is defined, if its parameters could be read
 abbrev pub DefinesBy :
     Result (List Parameter) (List ℕ) →
     (word body : List ℕ) →

@@ -73,7 +73,7 @@ impl Arguments {
 pub enum Called {
     /// Its body is to be evaluated, with these values of its parameters.
     Body { arguments: Arguments, body: Text },
-    /// The words don't fit its parameters: the error that tells its usage.
+    /// The words don't fit its parameters: the error with its usage.
     Wrong(Outcome),
 }
 

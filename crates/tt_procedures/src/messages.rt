@@ -1,4 +1,4 @@
-//! Errors, as they are told.
+//! Errors, as they read.
 ghost use Rattle.std.specs.Prelude.{◌≡◌, IfOk};
 ghost use Rattle.tt_procedures.specs.Messages as messages;
 

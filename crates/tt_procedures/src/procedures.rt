@@ -94,7 +94,7 @@ impl Procedures {
     }
 
     /// What a command, its name first, comes to as the call of a procedure (proc(n)). None if no procedure has that
-    /// name, without one leading `::`, and where there are no words.
+    /// name, without one leading `::`, and if there are no words.
     ///
     /// `NoMemory` if memory is refused.
     pub fn call(&self, words: &[Text]) -> Result<Option<Called>, NoMemory>

@@ -1,8 +1,8 @@
--- A row of a table of commands: a name, a usage, and a meaning, which tells the right answers to words.
+-- A row of a table of commands: a name, a usage, and a meaning, which gives the right answers to words.
 use Rattle.std.specs.Prelude.{◌≡◌, ℕ, List}
 use Rattle.tt_lists.specs.declared.answer.ListAnswer.{ListAnswer}
 
--- whether an answer is the right one to words, where another is the one to a wrong number of them
+-- whether an answer is the right one to words, if another is the one to a wrong number of them
 abbrev pub Meaning : Type 1
 Meaning = (wrong : ListAnswer) → (words : List (List ℕ)) → ListAnswer → Type 0
 

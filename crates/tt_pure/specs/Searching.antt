@@ -26,7 +26,7 @@ with_flag how Inline = record how { inline = true }
 with_flag how Not = record how { not = true }
 with_flag how flag = how
 
--- with several, of which the later counts; none where a word is no option
+-- with several, of which the later counts; none if a word is no option
 abbrev pub with_flags : Search → (words : List (List ℕ)) → Option Search
 with_flags how [] = Some how
 with_flags how (word ∷ words) =
@@ -35,7 +35,7 @@ with_flags how (word ∷ words) =
       | None ↦ None
     ]
 
--- the answer, where all words are options
+-- the answer, if all words are options
 abbrev pub IsSearchWith : (wrong : ListAnswer) → Option Search → (list pattern : List ℕ) → ListAnswer → Type 0
 IsSearchWith wrong (Some how) list pattern answer = answer ≡ search_answer how list pattern
 IsSearchWith wrong None list pattern answer = answer ≡ wrong

@@ -25,7 +25,7 @@ with_flag how Decreasing = record how { decreasing = true }
 with_flag how Unique = record how { unique = true }
 with_flag how flag = how
 
--- with several, of which the later counts; none where a word is no option
+-- with several, of which the later counts; none if a word is no option
 abbrev pub with_flags : Sorting → (words : List (List ℕ)) → Option Sorting
 with_flags how [] = Some how
 with_flags how (word ∷ words) =
@@ -34,7 +34,7 @@ with_flags how (word ∷ words) =
       | None ↦ None
     ]
 
--- the answer, where all words are options
+-- the answer, if all words are options
 abbrev pub IsSortWith : (wrong : ListAnswer) → Option Sorting → (list : List ℕ) → ListAnswer → Type 0
 IsSortWith wrong (Some how) list answer = IsSortAnswer how list answer
 IsSortWith wrong None list answer = answer ≡ wrong

@@ -80,7 +80,7 @@ IsMatchAnswer wrong (pattern ∷ text ∷ []) answer =
     × (answer ≡ Made (truth matches))
 IsMatchAnswer wrong words answer = answer ≡ wrong
 
--- a place, and -1 where there is none
+-- a place, and -1 if there is none
 abbrev pub place_text : Option ℕ → List ℕ
 place_text None = codes "-1"
 place_text (Some place) = decimal place
@@ -120,7 +120,7 @@ IsRepeatAnswer wrong words answer = answer ≡ wrong
 abbrev pub is_paired : List (List ℕ) → Bool
 is_paired items = length items % 2 == 0
 
--- a text mapped by pairs, where items are pairs
+-- a text mapped by pairs, if items are pairs
 abbrev pub IsMappedIf : Bool → (pairs : List (List ℕ)) → (text : List ℕ) → ListAnswer → Type 0
 IsMappedIf true pairs text answer =
     (made : List ℕ) × IsMapped pairs (characters text) made × (answer ≡ Made made)

@@ -1,4 +1,4 @@
--- The pure commands: for each its name, its usage, and its meaning, which tells its answer to words.
+-- The pure commands: for each its name, its usage, and its meaning, which gives its answer to words.
 use Rattle.std.specs.Prelude.{◌≡◌, ℕ, Bool, bytes_eq, List, [], ◌∷◌, codes, Option, Some, None}
 use Rattle.std.specs.List.{find}
 use Rattle.std.specs.Option.{is_some}

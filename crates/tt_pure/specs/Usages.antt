@@ -1,4 +1,4 @@
--- How words that a command doesn't take are told, and what becomes of an answer.
+-- How words that a command doesn't take are reported, and what becomes of an answer.
 use Rattle.std.specs.Prelude.{ℕ, List}
 use Rattle.tt_calls.specs.Outcomes.{failed, fine}
 use Rattle.tt_calls.specs.Usages as usages

@@ -21,7 +21,7 @@ pub record Ground (S K E : Type 0) : Type 0 where
   pub devices : Devices S K E
   pub kept : Option StepFault
 
--- what standard input still has, if it tells that
+-- what standard input still has, if it shows that
 abbrev pub unread : {S K E : Type 0} → (held : S → Option (List ℕ)) → Devices S K E → Option (List ℕ)
 unread held devices = prepend_known devices.ahead (held devices.input)
 

@@ -1,4 +1,5 @@
-ghost use Rattle.std.specs.Prelude.{◌≡◌, ◌≢◌, ◌⊎◌, ◌<◌, ◌≤◌, [], true, None, Some, Err, IsTrue, IsFalse, IsSome, IfOk, IfErr, IfSome, IsErrOf, OnOk, length, option_map};
+ghost use Rattle.std.specs.Prelude.{◌≡◌, ◌≢◌, ◌⊎◌, ◌<◌, ◌≤◌, [], true, None, Some, Err, IsTrue, IsFalse, IsSome, IfOk};
+ghost use Rattle.std.specs.Prelude.{IfErr, IfSome, IsErrOf, OnOk, length, option_map};
 ghost use Rattle.tt_run.specs.Acting.{Happens, IsAnswer, ReadsNothing, Writes};
 ghost use Rattle.tt_run.specs.Desk.{can_act};
 ghost use Rattle.tt_devices.specs.Faults.{Rises};
@@ -78,7 +79,8 @@ impl<S: Source, K: Sink, E: Sink> Desk<S, K, E> {
           devices = record { input = input; ahead = []; output = output; errors = errors };
           kept = None;
         }) }
-        ensures handed_back { IfErr result (λ fault. fault ≡ record { input = input; output = output; errors = errors }) }
+        ensures handed_back { IfErr result (λ fault.
+            fault ≡ record { input = input; output = output; errors = errors }) }
     {
         let Ok(shared) = Shared::new(alloc, main) else {
             return Err(NewFault {
@@ -110,16 +112,17 @@ impl<S: Source, K: Sink, E: Sink> Desk<S, K, E> {
     /// puts what the request writes.
     ///
     /// `NotEnabled` exactly if the thread can't be answered this request and no fault is kept; then nothing changes.
-    /// `ReadFault` only if the request reads a line, none was read ahead, and the source's count of faults rose; then no
-    /// byte of standard input is lost and all else stays. `WriteFault` only if a sink's count of faults rose; then the
-    /// request was answered, the entry added, and first parts of the pieces were put. `NoMemory` if memory is refused; then
-    /// no entry was added and nothing was put. After these three the desk does nothing more, and each later action answers
-    /// the same.
+    /// `ReadFault` only if the request reads a line, none was read ahead, and the source's count of faults rose; then
+    /// no byte of standard input is lost and all else stays. `WriteFault` only if a sink's count of faults rose; then
+    /// the request was answered, the entry added, and first parts of the pieces were put. `NoMemory` if memory is
+    /// refused; then no entry was added and nothing was put. After these three the desk does nothing more, and each
+    /// later action answers the same.
     pub fn act(&mut self, thread: u32, request: &Request) -> Result<Acted, StepFault>
         requires room { length self.old.schedule < most_steps }
 
         ensures able { OnOk result (IsTrue (can_act self.old thread request.now)) }
-        ensures acts { IfOk result (λ acted. (line : Line) × Happens S.held K.got E.got Grows self.old thread request.now line self.new
+        ensures acts { IfOk result (λ acted. (line : Line)
+            × Happens S.held K.got E.got Grows self.old thread request.now line self.new
             × IsAnswer acted (act self.old.shared thread request.now line).gives) }
         ensures goes_on { OnOk result (self.new.kept ≡ None) }
         ensures not_enabled { IsErrOf result StepFault.NotEnabled →
@@ -175,7 +178,8 @@ impl<S: Source, K: Sink, E: Sink> Desk<S, K, E> {
     fn answer(&mut self, thread: u32, request: &Request) -> Result<Acted, StepFault>
         requires room { length self.old.schedule < most_steps }
         requires able { IsTrue (can_act self.old thread request.now) }
-        ensures acts { IfOk result (λ acted. (line : Line) × Happens S.held K.got E.got Grows self.old thread request.now line self.new
+        ensures acts { IfOk result (λ acted. (line : Line)
+            × Happens S.held K.got E.got Grows self.old thread request.now line self.new
             × IsAnswer acted (act self.old.shared thread request.now line).gives) }
         ensures kept { self.new.kept ≡ self.old.kept }
         ensures known { result ≢ Err StepFault.NotEnabled }
@@ -228,7 +232,7 @@ impl<S: Source, K: Sink, E: Sink> Desk<S, K, E> {
     }
 
     /// The fault or the want of memory that was met. It takes no memory.
-    pub fn kept(&self) -> Option<StepFault>
+    pub fn kept_fault(&self) -> Option<StepFault>
         ensures kept { result ≡ self.now.kept }
         ensures known { result ≢ Some StepFault.NotEnabled }
     {
@@ -250,10 +254,10 @@ impl<S: Source, K: Sink, E: Sink> Desk<S, K, E> {
     }
 
     /// How many threads were made, those that have ended among them. It takes no memory.
-    pub fn made(&self) -> u32
+    pub fn thread_count(&self) -> u32
         ensures made { result ≡ length self.now.shared.rows }
     {
-        self.shared.made()
+        self.shared.thread_count()
     }
 
     /// What a thread that was made begins with. It takes no memory.
@@ -274,7 +278,8 @@ impl<S: Source, K: Sink, E: Sink> Desk<S, K, E> {
     /// Gives the schedule and the devices back.
     pub fn finish(self) -> (Schedule, S, K, E)
         ensures schedule { result.0.threads ≡ self.schedule }
-        ensures devices { (result.1 ≡ self.devices.input) × (result.2 ≡ self.devices.output) × (result.3 ≡ self.devices.errors) }
+        ensures devices { (result.1 ≡ self.devices.input) × (result.2 ≡ self.devices.output)
+            × (result.3 ≡ self.devices.errors) }
     {
         let Desk {
             shared: _,

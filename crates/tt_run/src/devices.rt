@@ -54,8 +54,10 @@ impl<S: Source, K: Sink, E: Sink> Devices<S, K, E> {
         ensures line { IfOk result (λ line. ReadsBy (reads_line request.now) S.held self.old self.new line) }
         ensures cause { IsErrOf result StepFault.ReadFault →
             Rises (S.fault_count self.old.input) (S.fault_count self.new.input) × (reads_line request.now ≡ true) }
-        ensures nothing_lost { IsErrOf result StepFault.ReadFault → Keeps (unread S.held self.old) (unread S.held self.new) }
-        ensures steady { (result ≢ Err StepFault.ReadFault) → S.fault_count self.new.input ≡ S.fault_count self.old.input }
+        ensures nothing_lost { IsErrOf result StepFault.ReadFault →
+            Keeps (unread S.held self.old) (unread S.held self.new) }
+        ensures steady { (result ≢ Err StepFault.ReadFault) →
+            S.fault_count self.new.input ≡ S.fault_count self.old.input }
         ensures others { (self.new.output ≡ self.old.output) × (self.new.errors ≡ self.old.errors) }
         ensures faults { IfErr result (λ fault. (fault ≡ StepFault.ReadFault) ⊎ (fault ≡ StepFault.NoMemory)) }
         ensures taken { LosesPart (S.held self.old.input) (S.held self.new.input) }
@@ -78,7 +80,8 @@ impl<S: Source, K: Sink, E: Sink> Devices<S, K, E> {
         ensures err { OnOk result (Grows (E.got self.old.errors) (E.got self.new.errors) err.now) }
         ensures part_of_out { OnErr result (GrowsByPart (K.got self.old.output) (K.got self.new.output) out.now) }
         ensures part_of_err { OnErr result (GrowsByPart (E.got self.old.errors) (E.got self.new.errors) err.now) }
-        ensures in_order { OnErr result ((self.new.errors ≡ self.old.errors) ⊎ Grows (K.got self.old.output) (K.got self.new.output) out.now) }
+        ensures in_order { OnErr result ((self.new.errors
+            ≡ self.old.errors) ⊎ Grows (K.got self.old.output) (K.got self.new.output) out.now) }
         ensures writes { OnErr result ((out.now ≢ []) ⊎ (err.now ≢ [])) }
         ensures cause { OnErr result (Rises (K.fault_count self.old.output) (K.fault_count self.new.output)
             ⊎ Rises (E.fault_count self.old.errors) (E.fault_count self.new.errors)) }

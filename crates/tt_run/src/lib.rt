@@ -1,4 +1,5 @@
-//! What a run stands on between its steps: what its threads share, its schedule, its devices, and the fault that it met.
+//! What a run stands on between its steps: what its threads share, its schedule, its devices, and the fault that it
+//! met.
 #![tactic(auto)]
 
 mod desk;

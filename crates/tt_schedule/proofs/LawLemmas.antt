@@ -1,4 +1,5 @@
-use Rattle.std.proofs.Common.{◌≡◌, ◌≢◌, ◌≤◌, ℕ, zero, suc, List, [], ◌∷◌, ◌++◌, length, drop, refl, sym, ap, ◌∙◌, subst, arith, append-nil, append_assoc, inl, inr, length-append}
+use Rattle.std.proofs.Common.{◌≡◌, ◌≢◌, ◌≤◌, ℕ, zero, suc, List, [], ◌∷◌, ◌++◌, length, drop, refl, sym, ap, ◌∙◌, subst}
+use Rattle.std.proofs.Common.{arith, append-nil, append_assoc, inl, inr, length-append}
 use lib.ListN.{replicate}
 use Rattle.std.specs.List.{flat_map, AllByRecursion}
 use Rattle.std.proofs.lemmas.List.{length-replicate}
@@ -35,7 +36,7 @@ differ-rest : (line : Line) (lines : List Line) → NeighboursDiffer (line ∷ l
 differ-rest line [] differ = tt
 differ-rest line (next ∷ lines) differ = differ.1
 
--- a row of steps ends where another thread's step comes
+-- a row of steps ends if another thread's step comes
 row-once : (n m thread : ℕ) (x y : List ℕ) → NotFirst thread x → NotFirst thread y → replicate n thread ++ x ≡ replicate m thread ++ y → (n ≡ m) × (x ≡ y)
 row-once zero zero thread x y p q e = (refl, e)
 row-once zero (suc m) thread x y p q e = absurd (let h : thread ≢ thread = subst (NotFirst thread) e p in h refl)
@@ -56,7 +57,8 @@ some-steps line x is e =
     omega (arith, is.steps.0, length-append (replicate line.steps line.thread) x, length-replicate line.steps line.thread)
 
 -- one list of steps, one list of lines
-lines-from-steps : (xs ys : List Line) → AllByRecursion IsLine xs → AllByRecursion IsLine ys → NeighboursDiffer xs → NeighboursDiffer ys → steps_of xs ≡ steps_of ys → xs ≡ ys
+lines-from-steps : (xs ys : List Line) → AllByRecursion IsLine xs → AllByRecursion IsLine ys → NeighboursDiffer xs → NeighboursDiffer ys →
+    steps_of xs ≡ steps_of ys → xs ≡ ys
 lines-from-steps [] [] p q d f e = refl
 lines-from-steps [] (b ∷ ys) p q d f e = absurd (some-steps b (steps_of ys) q.0 (sym e))
 lines-from-steps (a ∷ xs) [] p q d f e = absurd (some-steps a (steps_of xs) p.0 e)
@@ -108,17 +110,21 @@ none-then done ys y p rest are none e =
     none y rest one e
 
 -- what is left after the good lines is one text
-same-rest : (done xs ys : List Line) (p q : List ℕ) → AreLines (done ++ xs) → AreLines (done ++ ys) → NoneFollows (done ++ xs) p → NoneFollows (done ++ ys) q → flat_map line_text xs ++ p ≡ flat_map line_text ys ++ q → p ≡ q
+same-rest : (done xs ys : List Line) (p q : List ℕ) → AreLines (done ++ xs) → AreLines (done ++ ys) → NoneFollows (done ++ xs) p →
+    NoneFollows (done ++ ys) q → flat_map line_text xs ++ p ≡ flat_map line_text ys ++ q → p ≡ q
 same-rest done [] [] p q a b np nq e = e
-same-rest done [] (y ∷ ys) p q a b np nq e = absurd (none-then done ys y p (flat_map line_text ys ++ q) b np (e ∙ append_assoc (line_text y) (flat_map line_text ys) q))
-same-rest done (x ∷ xs) [] p q a b np nq e = absurd (none-then done xs x q (flat_map line_text xs ++ p) a nq (sym e ∙ append_assoc (line_text x) (flat_map line_text xs) p))
+same-rest done [] (y ∷ ys) p q a b np nq e =
+    absurd (none-then done ys y p (flat_map line_text ys ++ q) b np (e ∙ append_assoc (line_text y) (flat_map line_text ys) q))
+same-rest done (x ∷ xs) [] p q a b np nq e =
+    absurd (none-then done xs x q (flat_map line_text xs ++ p) a nq (sym e ∙ append_assoc (line_text x) (flat_map line_text xs) p))
 same-rest done (x ∷ xs) (y ∷ ys) p q a b np nq e =
     let cut = sym (append_assoc (line_text x) (flat_map line_text xs) p) ∙ (e ∙ append_assoc (line_text y) (flat_map line_text ys) q) in
     let both : IsLine x × IsLine y = (line-at done xs x a, line-at done ys y b) in
     let once = one-line x y (flat_map line_text xs ++ p) (flat_map line_text ys ++ q) both.0 both.1 cut in
     let same : done ++ y ∷ ys ≡ (done ++ x ∷ []) ++ ys = ap (λ (l : Line). done ++ l ∷ ys) (sym once.0) ∙ sym (append_assoc done (x ∷ []) ys) in
     let moved : done ++ x ∷ xs ≡ (done ++ x ∷ []) ++ xs = sym (append_assoc done (x ∷ []) xs) in
-    same-rest (done ++ x ∷ []) xs ys p q (subst AreLines moved a) (subst AreLines same b) (subst (λ (l : List Line). NoneFollows l p) moved np) (subst (λ (l : List Line). NoneFollows l q) same nq) once.1
+    same-rest (done ++ x ∷ []) xs ys p q (subst AreLines moved a) (subst AreLines same b) (subst (λ (l : List Line). NoneFollows l p) moved np)
+    (subst (λ (l : List Line). NoneFollows l q) same nq) once.1
   where
     line-at : (done more : List Line) (line : Line) → AreLines (done ++ line ∷ more) → IsLine line
     line-at done more line are = (each-split done (line ∷ more) are.each).0

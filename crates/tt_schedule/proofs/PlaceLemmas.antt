@@ -32,7 +32,9 @@ end_of-last start (run ∷ next ∷ runs) d h =
     rw place (end_of-last run.end (next ∷ runs) d (omega arith))
 
 -- the step at a place is of the run that it falls in
-pub step-at : (start : ℕ) (runs : List Run) (k place : ℕ) (d : Run) → AreRuns start runs → start ≤ place → k < length runs → place < (get_or runs k d).end → ((j : ℕ) → j < k → (get_or runs j d).end ≤ place) → get_or (steps_of (lines_from start runs)) (place - start) 0 ≡ (get_or runs k d).thread
+pub step-at : (start : ℕ) (runs : List Run) (k place : ℕ) (d : Run) → AreRuns start runs → start ≤ place → k < length runs →
+    place < (get_or runs k d).end → ((j : ℕ) → j < k → (get_or runs j d).end ≤ place) →
+    get_or (steps_of (lines_from start runs)) (place - start) 0 ≡ (get_or runs k d).thread
 step-at start [] k place d are low h inside before = absurd (omega arith)
 step-at start (run ∷ runs) zero place d are low h inside before =
     let short : place - start < run.end - start = omega arith in
@@ -42,7 +44,8 @@ step-at start (run ∷ runs) zero place d are low h inside before =
 step-at start (run ∷ runs) (suc k) place d are low h inside before =
     let passed : run.end ≤ place = before 0 (omega arith) in
     let some = are.0.some in
-    let later : place - start ≡ length (replicate (run.end - start) run.thread) + (place - run.end) = omega (arith, length-replicate (run.end - start) run.thread) in
+    let later : place - start ≡ length (replicate (run.end - start) run.thread) + (place - run.end) =
+    omega (arith, length-replicate (run.end - start) run.thread) in
     rw (later, get_or-append-add (replicate (run.end - start) run.thread) (steps_of (lines_from run.end runs)) (place - run.end) 0)
     (step-at run.end runs k place d are.2 passed (omega arith) inside (λ j less. before (suc j) (omega arith)))
 
@@ -76,7 +79,8 @@ around-all runs place h =
       after = λ d. rw (end_of-last 0 runs d some) h;
     }
 
-pub around-after : (runs : List Run) (place low middle high : ℕ) (d : Run) → AreRuns 0 runs → IsAround runs place low high → low ≤ middle → middle < high → (get_or runs middle d).end ≤ place → IsAround runs place (middle + 1) high
+pub around-after : (runs : List Run) (place low middle high : ℕ) (d : Run) → AreRuns 0 runs → IsAround runs place low high → low ≤ middle → middle < high →
+    (get_or runs middle d).end ≤ place → IsAround runs place (middle + 1) high
 around-after runs place low middle high d are around above below passed =
     let within = around.within in
     record {

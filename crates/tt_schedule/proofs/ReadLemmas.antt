@@ -16,7 +16,8 @@ use Rattle.tt_schedule.proofs.RunLemmas.{are_lines, length-steps}
 pub record IsReadSoFar (text : List ℕ) (so_far : List Run) (rest : List ℕ) : Type 0 where
   pub runs : AreRuns 0 so_far
   pub cut : text ≡ flat_map line_text (lines_from 0 so_far) ++ rest
-  pub only : (lines : List Line) → AreLines lines → text ≡ flat_map line_text lines → (more : List Line) × (lines ≡ lines_from 0 so_far ++ more) × (rest ≡ flat_map line_text more)
+  pub only : (lines : List Line) → AreLines lines → text ≡ flat_map line_text lines → (more : List Line) × (lines ≡ lines_from 0 so_far ++ more)
+      × (rest ≡ flat_map line_text more)
 
 pub read-none : (text : List ℕ) → IsReadSoFar text [] text
 read-none text = record { runs = tt; cut = refl; only = λ lines are e. (lines, refl, e) }
@@ -49,45 +50,73 @@ each-split [] more each = each
 each-split (line ∷ lines) more each = each-split lines more each.1
 
 -- the lines that the rest has begin with the one that is read
-next_line : (more : List Line) (line : Line) (rest after : List ℕ) → AllByRecursion IsLine more → IsLine line → rest ≡ line_text line ++ after → rest ≡ flat_map line_text more → (others : List Line) × (more ≡ line ∷ others) × (after ≡ flat_map line_text others)
+next_line : (more : List Line) (line : Line) (rest after : List ℕ) → AllByRecursion IsLine more → IsLine line → rest ≡ line_text line ++ after →
+    rest ≡ flat_map line_text more → (others : List Line) × (more ≡ line ∷ others) × (after ≡ flat_map line_text others)
 next_line [] line rest after each is e f = absurd (line-some line after (sym e ∙ f))
 next_line (first ∷ others) line rest after each is e f =
     let once = one-line line first after (flat_map line_text others) is each.0 (sym e ∙ f) in
     (others, ap (λ (l : Line). l ∷ others) (sym once.0), once.1)
 
-pub read-more : (text : List ℕ) (runs new : List Run) (rest after : List ℕ) (line : Line) → IsReadSoFar text runs rest → IsLine line → rest ≡ line_text line ++ after → AreRuns 0 new → lines_from 0 new ≡ lines_from 0 runs ++ line ∷ [] → IsReadSoFar text new after
+pub read-more : (text : List ℕ) (runs new : List Run) (rest after : List ℕ) (line : Line) → IsReadSoFar text runs rest → IsLine line →
+    rest ≡ line_text line ++ after → AreRuns 0 new → lines_from 0 new ≡ lines_from 0 runs ++ line ∷ [] → IsReadSoFar text new after
 read-more text runs new rest after line so_far is e are lines = record {
   runs = are;
-  cut = rw (lines, flat_map-append line_text (lines_from 0 runs) (line ∷ []), append-nil (line_text line), append_assoc (flat_map line_text (lines_from 0 runs)) (line_text line) after, ← e) so_far.cut;
+  cut = rw (
+    lines,
+    flat_map-append line_text (lines_from 0 runs) (line ∷ []),
+    append-nil (line_text line),
+    append_assoc
+        (flat_map line_text (lines_from 0 runs)) (line_text line) after,
+    ← e,
+  ) so_far.cut;
   only = λ all good f.
       let old = so_far.only all good f in
       let each = each-split (lines_from 0 runs) old.0 (rw old.1 at good.each) in
-      let next = next_line old.0 line rest after each is e old.2 in
-      (next.0, rw lines (old.1 ∙ (ap (λ (more : List Line). lines_from 0 runs ++ more) next.1 ∙ sym (append_assoc (lines_from 0 runs) (line ∷ []) next.0))), next.2);
+      let next = next_line old.0 line rest after each is e old.2 in (
+        next.0,
+        rw lines
+            (old.1 ∙ (ap (λ (more : List Line). lines_from 0 runs ++ more) next.1 ∙ sym (append_assoc (lines_from 0 runs) (line ∷ []) next.0))),
+        next.2,
+      );
 }
 
 -- no line is at the front of the rest
-pub read-wrong : (text : List ℕ) (runs : List Run) (rest : List ℕ) → IsReadSoFar text runs rest → rest ≢ [] → ((line : Line) (after : List ℕ) → IsLine line → rest ≢ line_text line ++ after) → (lines : List Line) → AreLines lines → text ≢ flat_map line_text lines
+pub read-wrong : (text : List ℕ) (runs : List Run) (rest : List ℕ) → IsReadSoFar text runs rest → rest ≢ [] →
+    ((line : Line) (after : List ℕ) → IsLine line → rest ≢ line_text line ++ after) → (lines : List Line) → AreLines lines → text ≢ flat_map line_text lines
 read-wrong text runs rest so_far some none lines are e =
     let old = so_far.only lines are e in
     no_more old.0 rest some none (each-split (lines_from 0 runs) old.0 (rw old.1 at are.each)) old.2
   where
-    no_more : (more : List Line) (rest : List ℕ) → rest ≢ [] → ((line : Line) (after : List ℕ) → IsLine line → rest ≢ line_text line ++ after) → AllByRecursion IsLine more → rest ≡ flat_map line_text more → ⊥
+    no_more : (more : List Line) (rest : List ℕ) → rest ≢ [] → ((line : Line) (after : List ℕ) → IsLine line → rest ≢ line_text line ++ after) →
+        AllByRecursion IsLine more → rest ≡ flat_map line_text more → ⊥
     no_more [] rest some none each f = some f
     no_more (first ∷ others) rest some none each f = none first (flat_map line_text others) each.0 f
 
-differs-at : (start : ℕ) (runs : List Run) (line : Line) (more : List Line) → NeighboursDiffer (lines_from start runs ++ line ∷ more) → LastDiffers runs line.thread
+differs-at : (start : ℕ) (runs : List Run) (line : Line) (more : List Line) → NeighboursDiffer (lines_from start runs ++ line ∷ more) →
+    LastDiffers runs line.thread
 differs-at start [] line more differ = tt
 differs-at start (run ∷ []) line more differ = differ.0
 differs-at start (run ∷ next ∷ runs) line more differ = differs-at run.end (next ∷ runs) line more differ.1
 
-few-at : (runs : List Run) (line : Line) (more : List Line) → AreRuns 0 runs → length (steps_of (lines_from 0 runs ++ line ∷ more)) ≤ most_steps → end_of 0 runs + line.steps ≤ most_steps
+few-at : (runs : List Run) (line : Line) (more : List Line) → AreRuns 0 runs → length (steps_of (lines_from 0 runs ++ line ∷ more)) ≤ most_steps →
+    end_of 0 runs + line.steps ≤ most_steps
 few-at runs line more are few =
     let parts = flat_map-append (λ (l : Line). replicate l.steps l.thread) (lines_from 0 runs) (line ∷ more) in
-    omega (arith, length-steps 0 runs are, ap length parts, length-append (steps_of (lines_from 0 runs)) (replicate line.steps line.thread ++ steps_of more), length-append (replicate line.steps line.thread) (steps_of more), length-replicate line.steps line.thread)
+    omega (
+      arith,
+      length-steps 0 runs are,
+      ap length parts,
+      length-append (steps_of (lines_from 0 runs))
+          (replicate line.steps line.thread ++ steps_of more),
+      length-append (replicate line.steps line.thread)
+          (steps_of more),
+      length-replicate line.steps line.thread,
+    )
 
 -- the line at the front of the rest may not follow the runs
-pub read-refused : (text : List ℕ) (runs : List Run) (rest after : List ℕ) (line : Line) → IsReadSoFar text runs rest → IsLine line → rest ≡ line_text line ++ after → (LastDiffers runs line.thread × (end_of 0 runs + line.steps ≤ most_steps) → ⊥) → (lines : List Line) → AreLines lines → text ≢ flat_map line_text lines
+pub read-refused : (text : List ℕ) (runs : List Run) (rest after : List ℕ) (line : Line) → IsReadSoFar text runs rest → IsLine line →
+    rest ≡ line_text line ++ after → (LastDiffers runs line.thread × (end_of 0 runs + line.steps ≤ most_steps) → ⊥) → (lines : List Line) →
+    AreLines lines → text ≢ flat_map line_text lines
 read-refused text runs rest after line so_far is e refused lines are f =
     let old = so_far.only lines are f in
     let each = each-split (lines_from 0 runs) old.0 (rw old.1 at are.each) in
@@ -95,17 +124,19 @@ read-refused text runs rest after line so_far is e refused lines are f =
     let whole : lines ≡ lines_from 0 runs ++ line ∷ next.0 = old.1 ∙ ap (λ (more : List Line). lines_from 0 runs ++ more) next.1 in
     refused (differs-at 0 runs line next.0 (rw whole at are.differ), few-at runs line next.0 so_far.runs (rw whole at are.few))
 
--- where no line is next, or the next one may not follow, the lines so far are all
+-- if no line is next, or the next one may not follow, the lines so far are all
 pub none-next : (lines : List Line) (rest : List ℕ) → ((line : Line) (after : List ℕ) → IsLine line → rest ≢ line_text line ++ after) → NoneFollows lines rest
 none-next lines rest none line after good e = none line after (each-split lines (line ∷ []) good.each).0 e
 
-pub none-may : (runs : List Run) (rest after : List ℕ) (line : Line) → AreRuns 0 runs → IsLine line → rest ≡ line_text line ++ after → (LastDiffers runs line.thread × (end_of 0 runs + line.steps ≤ most_steps) → ⊥) → NoneFollows (lines_from 0 runs) rest
+pub none-may : (runs : List Run) (rest after : List ℕ) (line : Line) → AreRuns 0 runs → IsLine line → rest ≡ line_text line ++ after →
+    (LastDiffers runs line.thread × (end_of 0 runs + line.steps ≤ most_steps) → ⊥) → NoneFollows (lines_from 0 runs) rest
 none-may runs rest after line are is e refused other x good f =
     let once = one-line line other after x is (each-split (lines_from 0 runs) (other ∷ []) good.each).0 (sym e ∙ f) in
     let same : AreLines (lines_from 0 runs ++ line ∷ []) = rw once.0 good in
     refused (differs-at 0 runs line [] same.differ, few-at runs line [] are same.few)
 
-pub stops-before : (text : List ℕ) (runs : List Run) (rest : List ℕ) → IsReadSoFar text runs rest → rest ≢ [] → NoneFollows (lines_from 0 runs) rest → StopsBefore text (length rest)
+pub stops-before : (text : List ℕ) (runs : List Run) (rest : List ℕ) → IsReadSoFar text runs rest → rest ≢ [] → NoneFollows (lines_from 0 runs) rest →
+    StopsBefore text (length rest)
 stops-before text runs rest so_far some wrong = record {
   lines = lines_from 0 runs;
   rest = rest;

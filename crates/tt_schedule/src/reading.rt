@@ -11,7 +11,7 @@ use tt_text::NoMemory;
 /// The first line of every schedule's text.
 pub(crate) const HEADING: &[u8] = b"schedule 1\n";
 
-/// Where a text stops being a schedule's: the offset of its first wrong line, in bytes.
+/// If a text stops being a schedule's: the offset of its first wrong line, in bytes.
 #[derive(Clone, Copy, Debug, PartialEq, Eq)]
 pub struct ScheduleFault {
     /// The offset, in bytes.

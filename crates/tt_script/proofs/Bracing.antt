@@ -1,5 +1,7 @@
 -- One step of the search for a brace that closes.
-use Rattle.std.proofs.Common.{◌≡◌, ◌≢◌, ℕ, zero, suc, ◌+◌, ◌-◌, ◌<◌, ◌≤◌, Bool, true, false, not, ◌==◌, List, [], ◌∷◌, length, get_or, drop, take, min, Option, Some, None, refl, ap, sym, ◌∙◌, arith, ◌⊎◌, inl, inr}
+use Rattle.std.proofs.Common.{◌≡◌, ◌≢◌, ℕ, zero, suc, ◌+◌, ◌-◌, ◌<◌, ◌≤◌, Bool, true, false, not, ◌==◌, List, [], ◌∷◌}
+use Rattle.std.proofs.Common.{length, get_or, drop, take, min, Option, Some, None, refl, ap, sym, ◌∙◌, arith, ◌⊎◌, inl}
+use Rattle.std.proofs.Common.{inr}
 use Rattle.std.proofs.lemmas.List.{drop_more, drop-drop, drop_all, length-take}
 use Rattle.std.proofs.lemmas.List.Sums.{prefix_len-le-length}
 use Rattle.std.proofs.lemmas.Bool.{cases_lt}
@@ -38,32 +40,41 @@ escapes b (suc depth) text e = rw e
 mark_of-letter : (b : ℕ) → (b == 123) ≡ false → (b == 125) ≡ false → (b == 92) ≡ false → mark_of b ≡ Letter
 mark_of-letter b e f g = rw (e, f, g)
 
-letter : (b depth : ℕ) (text : List ℕ) → (b == 123) ≡ false → (b == 125) ≡ false → (b == 92) ≡ false → closing_brace false depth (b ∷ text) ≡ further 1 (closing_brace false depth text)
+letter : (b depth : ℕ) (text : List ℕ) → (b == 123) ≡ false → (b == 125) ≡ false → (b == 92) ≡ false →
+    closing_brace false depth (b ∷ text) ≡ further 1 (closing_brace false depth text)
 letter b zero text e f g = rw (mark_of-letter b e f g, closing_brace)
 letter b (suc depth) text e f g = rw (mark_of-letter b e f g, closing_brace)
 
--- ---- a byte at a place, whose depth after it and whose next place are told ----
+-- ---- a byte at a place, whose depth after it and whose next place are given ----
 
 runs : (bs : List ℕ) (o : Option ℕ) → all (λ b a. further 1 a) bs o ≡ further (length bs) o
 runs [] o = sym (further-zero o)
 runs (b ∷ bs) o = ap (further 1) (runs bs o) ∙ further-further 1 (length bs) o ∙ ap (λ n. further n o) (omega arith)
 
 -- bytes up to the next brace or backslash
-pub closing-run : (text : List ℕ) (i stop depth : ℕ) → i ≤ length text → stop ≡ next_brace text i → further i (closing_brace false depth (drop i text)) ≡ further stop (closing_brace false depth (drop stop text))
+pub closing-run : (text : List ℕ) (i stop depth : ℕ) → i ≤ length text → stop ≡ next_brace text i →
+    further i (closing_brace false depth (drop i text)) ≡ further stop (closing_brace false depth (drop stop text))
 closing-run text i stop depth h e =
     let p : ℕ → Bool = λ b. not (is_brace_or_backslash b) in
     let n : ℕ = prefix_len p (drop i text) in
     let F : List ℕ → Option ℕ = closing_brace false depth in
-    let run = passes p F (λ b a. further 1 a) (λ b rest is. letter b depth rest (unlike is_brace_or_backslash b 123 is refl) (unlike is_brace_or_backslash b 125 is refl) (unlike is_brace_or_backslash b 92 is refl)) n (drop i text) (omega arith) in
+    let run = passes p F (λ b a. further 1 a)
+    (λ b rest is. letter b depth rest (unlike is_brace_or_backslash b 123 is refl) (unlike is_brace_or_backslash b 125 is refl)
+    (unlike is_brace_or_backslash b 92 is refl)) n (drop i text) (omega arith) in
     let rest : drop n (drop i text) ≡ drop stop text = drop-drop n i text ∙ ap (λ k. drop k text) (sym e) in
     let size : length (take n (drop i text)) ≡ n = omega (arith, length-take n (drop i text), prefix_len-le-length p (drop i text)) in
-    let read : F (drop i text) ≡ further n (F (drop stop text)) = run ∙ runs (take n (drop i text)) (F (drop n (drop i text))) ∙ ap (λ k. further k (F (drop n (drop i text)))) size ∙ ap (λ r. further n (F r)) rest in
+    let read : F (drop i text) ≡ further n (F (drop stop text)) =
+    run ∙ runs (take n (drop i text)) (F (drop n (drop i text))) ∙ ap (λ k. further k (F (drop n (drop i text)))) size
+    ∙ ap (λ r. further n (F r)) rest in
     ap (further i) read ∙ further-further i n (F (drop stop text)) ∙ ap (λ k. further k (F (drop stop text))) (sym e)
 
 module _ (text : List ℕ) (i : ℕ) (h : i < length text) where
-  one_on : (depth inner : ℕ) (after : Bool) → closing_brace false depth (get_or text i 0 ∷ drop (i + 1) text) ≡ further 1 (closing_brace after inner (drop (i + 1) text)) → further i (closing_brace false depth (drop i text)) ≡ further (i + 1) (closing_brace after inner (drop (i + 1) text))
+  one_on : (depth inner : ℕ) (after : Bool) →
+      closing_brace false depth (get_or text i 0 ∷ drop (i + 1) text) ≡ further 1 (closing_brace after inner (drop (i + 1) text)) →
+      further i (closing_brace false depth (drop i text)) ≡ further (i + 1) (closing_brace after inner (drop (i + 1) text))
   one_on depth inner after e =
-      ap (λ rest. further i (closing_brace false depth rest)) (drop_more text i 0 h) ∙ ap (further i) e ∙ further-further i 1 (closing_brace after inner (drop (i + 1) text))
+      ap (λ rest. further i (closing_brace false depth rest)) (drop_more text i 0 h) ∙ ap (further i) e
+      ∙ further-further i 1 (closing_brace after inner (drop (i + 1) text))
 
   -- the byte that a backslash escapes is passed over
   escaped_on : (depth : ℕ) → further i (closing_brace true depth (drop i text)) ≡ further (i + 1) (closing_brace false depth (drop (i + 1) text))
@@ -99,16 +110,19 @@ Is b c = (((b == c) ≡ true) × (b ≡ c)) ⊎ (((b == c) ≡ false) × (b ≢ 
 closes_at : (b depth : ℕ) → Deepens b depth None → (b ≡ 125) × (depth ≡ 0)
 closes_at b depth d = go (eqb_tells b 123) (eqb_tells b 125) depth refl
   where
-    go : (((b == 123) ≡ true) × (b ≡ 123)) ⊎ (((b == 123) ≡ false) × (b ≢ 123)) → (((b == 125) ≡ true) × (b ≡ 125)) ⊎ (((b == 125) ≡ false) × (b ≢ 125)) → (n : ℕ) → depth ≡ n → (b ≡ 125) × (depth ≡ 0)
+    go : (((b == 123) ≡ true) × (b ≡ 123)) ⊎ (((b == 123) ≡ false) × (b ≢ 123)) → (((b == 125) ≡ true) × (b ≡ 125)) ⊎ (((b == 125) ≡ false) × (b ≢ 125)) →
+        (n : ℕ) → depth ≡ n → (b ≡ 125) × (depth ≡ 0)
     go (inl (_, is)) second n same = let two = d.opens is in cc
     go (inr (_, unlike_opening)) (inr (_, unlike_closing)) n same = let two = d.other unlike_opening unlike_closing in cc
     go (inr (_, unlike_opening)) (inl (_, is)) zero same = (is, same)
     go (inr (_, unlike_opening)) (inl (_, is)) (suc n) same = let two = d.closes_inner is (omega arith) in cc
 
-pub closing_at-outer : (text : List ℕ) (i depth : ℕ) → i < length text → Deepens (get_or text i 0) depth None → further i (closing_brace false depth (drop i text)) ≡ Some i
+pub closing_at-outer : (text : List ℕ) (i depth : ℕ) → i < length text → Deepens (get_or text i 0) depth None →
+    further i (closing_brace false depth (drop i text)) ≡ Some i
 closing_at-outer text i depth h d =
     let found = closes_at (get_or text i 0) depth d in
-    ap (λ k. further i (closing_brace false k (drop i text))) found.1 ∙ ap (λ rest. further i (closing_brace false 0 rest)) (drop_more text i 0 h) ∙ ap (further i) (closes-outer _ (drop (i + 1) text) found.0) ∙ ap Some (omega arith)
+    ap (λ k. further i (closing_brace false k (drop i text))) found.1 ∙ ap (λ rest. further i (closing_brace false 0 rest)) (drop_more text i 0 h)
+    ∙ ap (further i) (closes-outer _ (drop (i + 1) text) found.0) ∙ ap Some (omega arith)
 
 -- the byte leaves the outer brace open
 pub record Passed (text : List ℕ) (i depth next inner : ℕ) : Type 0 where
@@ -118,9 +132,12 @@ pub record Passed (text : List ℕ) (i depth next inner : ℕ) : Type 0 where
   pub later : i ≤ next
 
 module _ (text : List ℕ) (i depth next inner : ℕ) (h : i < length text) (low : depth ≤ i) (escaped : get_or text i 0 ≡ 92 → next ≡ min (i + 2) (length text)) (single : get_or text i 0 ≢ 92 → next ≡ i + 1) (d : Deepens (get_or text i 0) depth (Some inner)) where
-  one_passed : (k : ℕ) → next ≡ i + 1 → inner ≡ k → closing_brace false depth (get_or text i 0 ∷ drop (i + 1) text) ≡ further 1 (closing_brace false k (drop (i + 1) text)) → k ≤ i + 1 → Passed text i depth next inner
+  one_passed : (k : ℕ) → next ≡ i + 1 → inner ≡ k →
+      closing_brace false depth (get_or text i 0 ∷ drop (i + 1) text) ≡ further 1 (closing_brace false k (drop (i + 1) text)) → k ≤ i + 1 →
+      Passed text i depth next inner
   one_passed k e f step most = record {
-    place = one_on text i h depth k false step ∙ ap (λ j. further j (closing_brace false k (drop j text))) (sym e) ∙ ap (λ j. further next (closing_brace false j (drop next text))) (sym f);
+    place = one_on text i h depth k false step ∙ ap (λ j. further j (closing_brace false k (drop j text))) (sym e)
+        ∙ ap (λ j. further next (closing_brace false j (drop next text))) (sym f);
     within = omega arith;
     low = omega arith;
     later = omega arith;
@@ -136,7 +153,8 @@ module _ (text : List ℕ) (i depth next inner : ℕ) (h : i < length text) (low
       go (inl room) =
           let two : i + 1 + 1 ≡ next = omega arith in
           record {
-            place = first ∙ escaped_on text (i + 1) room depth ∙ ap (λ j. further j (closing_brace false depth (drop j text))) two ∙ ap (λ j. further next (closing_brace false j (drop next text))) (sym f);
+            place = first ∙ escaped_on text (i + 1) room depth ∙ ap (λ j. further j (closing_brace false depth (drop j text))) two
+                ∙ ap (λ j. further next (closing_brace false j (drop next text))) (sym f);
             within = omega arith;
             low = omega arith;
             later = omega arith;
@@ -154,7 +172,8 @@ module _ (text : List ℕ) (i depth next inner : ℕ) (h : i < length text) (low
   inner_passed : next ≡ i + 1 → get_or text i 0 ≡ 125 → (n : ℕ) → depth ≡ n → Passed text i depth next inner
   inner_passed e is zero same = let none = d.closes_outer is same in cc
   inner_passed e is (suc n) same =
-      one_passed n e (some_same _ _ (d.closes_inner is (omega arith)) ∙ omega arith) (ap (λ k. closing_brace false k (get_or text i 0 ∷ drop (i + 1) text)) same ∙ closes-inner _ n (drop (i + 1) text) is) (omega arith)
+      one_passed n e (some_same _ _ (d.closes_inner is (omega arith)) ∙ omega arith)
+      (ap (λ k. closing_brace false k (get_or text i 0 ∷ drop (i + 1) text)) same ∙ closes-inner _ n (drop (i + 1) text) is) (omega arith)
 
   pub closing_at-passed : Passed text i depth next inner
   closing_at-passed = go (eqb_tells b 92) (eqb_tells b 123) (eqb_tells b 125)
@@ -162,7 +181,8 @@ module _ (text : List ℕ) (i depth next inner : ℕ) (h : i < length text) (low
       b : ℕ
       b = get_or text i 0
 
-      go : (((b == 92) ≡ true) × (b ≡ 92)) ⊎ (((b == 92) ≡ false) × (b ≢ 92)) → (((b == 123) ≡ true) × (b ≡ 123)) ⊎ (((b == 123) ≡ false) × (b ≢ 123)) → (((b == 125) ≡ true) × (b ≡ 125)) ⊎ (((b == 125) ≡ false) × (b ≢ 125)) → Passed text i depth next inner
+      go : (((b == 92) ≡ true) × (b ≡ 92)) ⊎ (((b == 92) ≡ false) × (b ≢ 92)) → (((b == 123) ≡ true) × (b ≡ 123)) ⊎ (((b == 123) ≡ false) × (b ≢ 123)) →
+          (((b == 125) ≡ true) × (b ≡ 125)) ⊎ (((b == 125) ≡ false) × (b ≢ 125)) → Passed text i depth next inner
       go (inl (_, is)) (inl (_, is')) r = absurd (omega arith)
       go (inl (_, is)) (inr q) (inl (_, is')) = absurd (omega arith)
       go (inl (_, is)) (inr (_, q)) (inr (_, r)) = two_passed (escaped is) (some_same _ _ (d.other q r)) is

@@ -38,7 +38,8 @@ apart-none [] = refl
 apart-none (b ∷ bs) = refl
 
 -- letters before parts that begin with no letters
-apart-more : (bs : List ℕ) (part : PlainPart) (rest : PlainParts) → ((text : List ℕ) → part ≡ letters text → ⊥) → with_letters bs (with_part part rest) ≡ apart bs (more part rest)
+apart-more : (bs : List ℕ) (part : PlainPart) (rest : PlainParts) → ((text : List ℕ) → part ≡ letters text → ⊥) →
+    with_letters bs (with_part part rest) ≡ apart bs (more part rest)
 apart-more bs (letters text) rest h = absurd (h text refl)
 apart-more [] (variable name) rest h = refl
 apart-more [] (element name index) rest h = refl
@@ -58,7 +59,8 @@ with_letters-++ (x ∷ xs) (y ∷ ys) (more (element name index) rest) = refl
 with_letters-++ (x ∷ xs) (y ∷ ys) (more (script text) rest) = refl
 
 -- a part that is no letters
-pub other_part : (part : Part) → ((text : List ℕ) → part ≡ Letters text → ⊥) → (bs : List ℕ) (rest : PlainParts) → with_letters bs (with_part (plain_part part) rest) ≡ apart bs (more (plain_part part) rest)
+pub other_part : (part : Part) → ((text : List ℕ) → part ≡ Letters text → ⊥) → (bs : List ℕ) (rest : PlainParts) →
+    with_letters bs (with_part (plain_part part) rest) ≡ apart bs (more (plain_part part) rest)
 other_part part h bs rest = apart-more bs (plain_part part) rest (different (out-Part part) (roll-out-Part part))
   where
     different : (layer : Part-F Part) → roll-Part layer ≡ part → (text : List ℕ) → plain_part part ≡ letters text → ⊥

@@ -1,5 +1,6 @@
 -- A name is split as commands read it.
-use Rattle.std.proofs.Common.{◌≡◌, ℕ, ◌+◌, ◌-◌, ◌<◌, Bool, true, false, cond, ◌==◌, List, [], ◌∷◌, ◌++◌, length, get_or, take, drop, Option, Some, None, refl, ap, sym, subst, ◌∙◌, arith}
+use Rattle.std.proofs.Common.{◌≡◌, ℕ, ◌+◌, ◌-◌, ◌<◌, Bool, true, false, cond, ◌==◌, List, [], ◌∷◌, ◌++◌, length, get_or}
+use Rattle.std.proofs.Common.{take, drop, Option, Some, None, refl, ap, sym, subst, ◌∙◌, arith}
 use Rattle.std.specs.Prelude.{nat_lt, position, slice_range, if◌then◌else◌}
 use Rattle.std.specs.List.{position_or_len}
 use Rattle.std.specs.Option.{option_map}
@@ -20,10 +21,12 @@ abbrev cut_at : List ℕ → ℕ → List ℕ × List ℕ
 cut_at name start = (take start name, slice_range name (start + 1) (length name - 1))
 
 -- what an index between parentheses says of the name
-closes_of : (name : List ℕ) (start : ℕ) → index_start name ≡ Some start → (begins 41 (drop (length name - 1) name) ≡ true) × (position is_opening name ≡ Some start)
+closes_of : (name : List ℕ) (start : ℕ) → index_start name ≡ Some start → (begins 41 (drop (length name - 1) name) ≡ true)
+    × (position is_opening name ≡ Some start)
 closes_of name start e = go (begins 41 (drop (length name - 1) name)) refl e
   where
-    go : (c : Bool) → begins 41 (drop (length name - 1) name) ≡ c → (if c then position is_opening name else None) ≡ Some start → (begins 41 (drop (length name - 1) name) ≡ true) × (position is_opening name ≡ Some start)
+    go : (c : Bool) → begins 41 (drop (length name - 1) name) ≡ c → (if c then position is_opening name else None) ≡ Some start →
+        (begins 41 (drop (length name - 1) name) ≡ true) × (position is_opening name ≡ Some start)
     go false last found = cc
     go true last found = (last, found)
 
@@ -45,7 +48,8 @@ split_so name start e =
     let size : length (take start name) ≡ start = length-take-le start name (omega arith) in
     record {
       spelled = sym (take-append-drop start name) ∙ ap (λ r. take start name ++ r) rest;
-      first = position_or_len_is is_opening (take start name) (length (take start name)) 0 (omega arith) (λ k low. ap is_opening (get_or-take start name k 0 (omega arith)) ∙ here.2 k (omega arith)) (λ low. absurd (omega arith));
+      first = position_or_len_is is_opening (take start name) (length (take start name)) 0 (omega arith)
+          (λ k low. ap is_opening (get_or-take start name k 0 (omega arith)) ∙ here.2 k (omega arith)) (λ low. absurd (omega arith));
     }
 
 joined_so : (name array index : List ℕ) → IsElementName name array index → element_of name ≡ Some (array, index)

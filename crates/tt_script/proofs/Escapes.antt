@@ -5,7 +5,8 @@ use Rattle.std.specs.List.{take_while, prefix_len}
 use Rattle.std.specs.Prelude.{nat_le}
 use Rattle.std.specs.Char.{is_digit}
 use Rattle.std.specs.Str.Parse.{digits_value}
-use Rattle.tt_text.specs.Backslash.{backslash, is_space_or_tab, octal_digits, leading_digits, sequence, hexadecimal_sequence, kind_of, Kind, Control, Newline, Octal, Hexadecimal, Itself}
+use Rattle.tt_text.specs.Backslash.{backslash, is_space_or_tab, octal_digits, leading_digits, sequence}
+use Rattle.tt_text.specs.Backslash.{hexadecimal_sequence, kind_of, Kind, Control, Newline, Octal, Hexadecimal, Itself}
 
 shorter : (n : ℕ) (text : List ℕ) → length (take n text) ≤ length text
 shorter n text = omega (arith, length-take n text)

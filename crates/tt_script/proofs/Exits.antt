@@ -11,19 +11,23 @@ use Rattle.tt_script.specs.declared.command.ParseFault.{ParseFault}
 use Rattle.tt_script.specs.declared.stop.Stop.{Stop}
 use Rattle.tt_script.specs.declared.stop.Stop.TheVariants.{NoMemory, Fault}
 
-pub answers_exit : {X A : Type 0} (mode : Mode) (view : X → A) (r : Result (X × ℕ) Stop) (e : Stop) (read : Read A) → IsErrAnd r (λ y. y ≡ e) → Refuses e read → Answers mode view r read
+pub answers_exit : {X A : Type 0} (mode : Mode) (view : X → A) (r : Result (X × ℕ) Stop) (e : Stop) (read : Read A) → IsErrAnd r (λ y. y ≡ e) →
+    Refuses e read → Answers mode view r read
 answers_exit mode view (Ok x) e read h k = absurd h
 answers_exit mode view (Err y) e read h k = subst (λ stop. Refuses stop read) (sym h) k
 
-pub adds_exit : (level : Level) (ending : Ending) (text : List ℕ) (old new : Builder) (r : Result ℕ Stop) (e : Stop) (at : ℕ) → IsErrAnd r (λ y. y ≡ e) → Refuses e (after at (parts level ending 0 (drop at text))) → Adds level ending text old new r at
+pub adds_exit : (level : Level) (ending : Ending) (text : List ℕ) (old new : Builder) (r : Result ℕ Stop) (e : Stop) (at : ℕ) → IsErrAnd r (λ y. y ≡ e) →
+    Refuses e (after at (parts level ending 0 (drop at text))) → Adds level ending text old new r at
 adds_exit level ending text old new (Ok next) e at h k = absurd h
 adds_exit level ending text old new (Err y) e at h k = subst (λ stop. Refuses stop (after at (parts level ending 0 (drop at text)))) (sym h) k
 
-pub ends_exit : (level : Level) (ending : Ending) (text : List ℕ) (old new : Builder) (r : Result ℕ Stop) (e : Stop) (from : ℕ) → IsErrAnd r (λ y. y ≡ e) → Refuses e (after from (parts level ending 0 (drop from text))) → Ends level ending text old new r from
+pub ends_exit : (level : Level) (ending : Ending) (text : List ℕ) (old new : Builder) (r : Result ℕ Stop) (e : Stop) (from : ℕ) → IsErrAnd r (λ y. y ≡ e) →
+    Refuses e (after from (parts level ending 0 (drop from text))) → Ends level ending text old new r from
 ends_exit level ending text old new (Ok end) e from h k = absurd h
 ends_exit level ending text old new (Err y) e from h k = subst (λ stop. Refuses stop (after from (parts level ending 0 (drop from text)))) (sym h) k
 
-pub continues_exit : {A : Type 0} (from : ℕ → Read A) (r : Result ℕ Stop) (e : Stop) (read : Read A) → IsErrAnd r (λ y. y ≡ e) → Refuses e read → Continues r from read
+pub continues_exit : {A : Type 0} (from : ℕ → Read A) (r : Result ℕ Stop) (e : Stop) (read : Read A) → IsErrAnd r (λ y. y ≡ e) → Refuses e read →
+    Continues r from read
 continues_exit from (Ok x) e read h k = absurd h
 continues_exit from (Err y) e read h k = subst (λ stop. Refuses stop read) (sym h) k
 

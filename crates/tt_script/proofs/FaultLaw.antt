@@ -14,7 +14,8 @@ use Rattle.tt_script.proofs.FirstSteps.{at-nothing, at-command, at-fault, first-
 use Rattle.tt_script.proofs.FromFaults.{words_fail, words_fault_some}
 use Rattle.tt_script.proofs.IntoFaults.{words_faulty}
 
-fault_read : (start : ℕ) (text : List ℕ) (fault : ParseFault) → 0 < length text → words places.Script (level most_open) 0 text ≡ fails fault → command_at start text ≡ bad fault start
+fault_read : (start : ℕ) (text : List ℕ) (fault : ParseFault) → 0 < length text → words places.Script (level most_open) 0 text ≡ fails fault →
+    command_at start text ≡ bad fault start
 fault_read start [] fault h e = absurd (omega arith)
 fault_read start (b ∷ text) fault h e = at-fault start b text fault e
 
@@ -45,7 +46,8 @@ fault_is text fault place r = go (drop (skipped 0 text) text) refl
     here : (xs : List ℕ) → drop (skipped 0 text) text ≡ xs → command_at (skipped 0 text) xs ≡ bad fault place
     here xs e = ap (command_at (skipped 0 text)) (sym e) ∙ sym (first-on text) ∙ r
 
-    words_so : (b : ℕ) (xs : List ℕ) → drop (skipped 0 text) text ≡ b ∷ xs → (q : Read (List PlainWord)) → words places.Script (level most_open) 0 (b ∷ xs) ≡ q → IsFirstFault text fault place
+    words_so : (b : ℕ) (xs : List ℕ) → drop (skipped 0 text) text ≡ b ∷ xs → (q : Read (List PlainWord)) →
+        words places.Script (level most_open) 0 (b ∷ xs) ≡ q → IsFirstFault text fault place
     words_so b xs e (takes ws n) f = absurd (no_command (sym (at-command (skipped 0 text) b xs ws n f) ∙ here (b ∷ xs) e))
     words_so b xs e (fails other) f =
         let answer = sym (at-fault (skipped 0 text) b xs other f) ∙ here (b ∷ xs) e in

@@ -14,7 +14,8 @@ use Rattle.tt_script.proofs.FromGrammar.{words_read}
 use Rattle.tt_script.proofs.IntoGrammar.{words_stand, script_begins, takes-count}
 use Rattle.tt_script.proofs.FirstSteps.{at-nothing, at-command, at-fault, first-on, same_command as same_numbers}
 
-words_ended : {depth : ℕ} {place : Place} {text rest : List ℕ} {ws : List PlainWord} → IsWords depth place text ws rest → ends_command place (drop (gap 0 rest) rest) ≡ true
+words_ended : {depth : ℕ} {place : Place} {text rest : List ℕ} {ws : List PlainWord} → IsWords depth place text ws rest →
+    ends_command place (drop (gap 0 rest) rest) ≡ true
 words_ended (last_word {place = place} w g e) = ap (ends_command place) (gap_cut g).place ∙ e
 words_ended (next_word w g e ws) = words_ended ws
 
@@ -30,7 +31,8 @@ same_command e = cc
 no_nothing : {fault : ParseFault} {place : ℕ} → nothing ≡ bad fault place → ⊥
 no_nothing e = cc
 
-command_read : (start : ℕ) (text : List ℕ) (ws : List PlainWord) (n : ℕ) → 0 < length text → words places.Script (level most_open) 0 text ≡ takes ws n → command_at start text ≡ command (record { words = ws; start = start; text_end = start + n; next = start + n + terminator_length (drop n text) })
+command_read : (start : ℕ) (text : List ℕ) (ws : List PlainWord) (n : ℕ) → 0 < length text → words places.Script (level most_open) 0 text ≡ takes ws n →
+    command_at start text ≡ command (record { words = ws; start = start; text_end = start + n; next = start + n + terminator_length (drop n text) })
 command_read start [] ws n h e = absurd (omega arith)
 command_read start (b ∷ text) ws n h e = at-command start b text ws n e
 
@@ -44,10 +46,13 @@ first_read text c h =
     let tail : terminator_length (drop n h.begun) ≡ terminator_length h.after = ap terminator_length ws.0.cut.place in
     first-on text ∙ ap (command_at (skipped 0 text)) skip.place
     ∙ command_read (skipped 0 text) h.begun c.words n (omega (arith, ws.1, ws.0.cut.size)) ws.0.read
-    ∙ same_numbers c.words _ _ _ c.start c.text_end c.next (omega (arith, skip.size, h.start)) (omega (arith, skip.size, ws.0.cut.size, h.text_end)) (omega (arith, skip.size, ws.0.cut.size, h.text_end, gaps.size, tail, h.next, length-drop 1 h.terminator))
+    ∙ same_numbers c.words _ _ _ c.start c.text_end c.next (omega (arith, skip.size, h.start)) (omega (arith, skip.size, ws.0.cut.size, h.text_end))
+    (omega (arith, skip.size, ws.0.cut.size, h.text_end, gaps.size, tail, h.next, length-drop 1 h.terminator))
 
 -- what is read stands in the grammar
-stands : (text xs : List ℕ) (ws : List PlainWord) (n : ℕ) → drop (skipped 0 text) text ≡ xs → 0 < length xs → words places.Script (level most_open) 0 xs ≡ takes ws n → IsFirst text (record { words = ws; start = skipped 0 text; text_end = skipped 0 text + n; next = skipped 0 text + n + terminator_length (drop n xs) })
+stands : (text xs : List ℕ) (ws : List PlainWord) (n : ℕ) → drop (skipped 0 text) text ≡ xs → 0 < length xs →
+    words places.Script (level most_open) 0 xs ≡ takes ws n →
+    IsFirst text (record { words = ws; start = skipped 0 text; text_end = skipped 0 text + n; next = skipped 0 text + n + terminator_length (drop n xs) })
 stands text xs ws n e h r =
     let skip : IsSkipped text xs = subst (IsSkipped text) e (skipped_is 0 text) in
     let cut = skipped_cut skip in
@@ -80,7 +85,8 @@ begins_so text = go (drop (skipped 0 text) text) refl
     here : (xs : List ℕ) → drop (skipped 0 text) text ≡ xs → first text ≡ command_at (skipped 0 text) xs
     here xs e = first-on text ∙ ap (command_at (skipped 0 text)) e
 
-    words_so : (b : ℕ) (xs : List ℕ) → drop (skipped 0 text) text ≡ b ∷ xs → (q : Read (List PlainWord)) → words places.Script (level most_open) 0 (b ∷ xs) ≡ q → Begins text
+    words_so : (b : ℕ) (xs : List ℕ) → drop (skipped 0 text) text ≡ b ∷ xs → (q : Read (List PlainWord)) →
+        words places.Script (level most_open) 0 (b ∷ xs) ≡ q → Begins text
     words_so b xs e (fails fault) r = faulty fault (skipped 0 text) (here (b ∷ xs) e ∙ at-fault (skipped 0 text) b xs fault r)
     words_so b xs e (takes ws n) r = begun_by _ (here (b ∷ xs) e ∙ at-command (skipped 0 text) b xs ws n r) (stands text (b ∷ xs) ws n e (omega arith) r)
 
@@ -112,7 +118,11 @@ nothing_law text = (λ e. go e (begins_so text), nothing_left text)
     go e (begun_by c g h) = absurd (no_command (sym e ∙ g))
 
 pub fault_law : FaultLaw
-fault_law text = (λ (fault, place, e). (λ c h. no_fault (sym e ∙ first_read text c h), λ h. no_nothing (sym (nothing_left text h) ∙ e)), λ (no_first, no_skip). go no_first no_skip (begins_so text))
+fault_law text = (
+  λ (fault, place, e). (λ c h. no_fault (sym e ∙ first_read text c h), λ h. no_nothing (sym (nothing_left text h) ∙ e)),
+  λ
+      (no_first, no_skip). go no_first no_skip (begins_so text),
+)
   where
     go : ((c : PlainCommand) → IsFirst text c → ⊥) → (IsSkipped text [] → ⊥) → Begins text → (fault : ParseFault) × (place : ℕ) × (first text ≡ bad fault place)
     go no_first no_skip (whole f g) = absurd (no_skip (subst (IsSkipped text) f (skipped_is 0 text)))

@@ -27,7 +27,8 @@ Gathered place level text mode gathered from at =
     × (mode ≡ Keep → (rest : List PlainWord) → plain_words gathered ++ rest ≡ add rest)
 
 -- a word more
-pub gathered-word : (gathered more : List Word) (word : Word) (value : PlainWord) (rest : List PlainWord) → more ≡ gathered ++ word ∷ [] → plain_word word ≡ value → plain_words more ++ rest ≡ plain_words gathered ++ (value ∷ rest)
+pub gathered-word : (gathered more : List Word) (word : Word) (value : PlainWord) (rest : List PlainWord) → more ≡ gathered ++ word ∷ [] →
+    plain_word word ≡ value → plain_words more ++ rest ≡ plain_words gathered ++ (value ∷ rest)
 gathered-word gathered more word value rest pushed is =
     ap (λ ws. plain_words ws ++ rest) pushed
     ∙ ap (λ ws. ws ++ rest) (plain_words-push gathered word)

@@ -56,12 +56,14 @@ colons_are : (text : List ℕ) → IsColons text (drop (prefix_len (λ c. c == 5
 colons_are [] = colons_end refl
 colons_are (b ∷ text) = go (b == 58) refl (colons_are text)
   where
-    go : (v : Bool) → (b == 58) ≡ v → IsColons text (drop (prefix_len (λ c. c == 58) text) text) → IsColons (b ∷ text) (drop (prefix_len (λ c. c == 58) (b ∷ text)) (b ∷ text))
+    go : (v : Bool) → (b == 58) ≡ v → IsColons text (drop (prefix_len (λ c. c == 58) text) text) →
+        IsColons (b ∷ text) (drop (prefix_len (λ c. c == 58) (b ∷ text)) (b ∷ text))
     go true e next = subst (λ n. IsColons (b ∷ text) (drop n (b ∷ text))) (sym (one_more b text (eqb-true b 58 e))) (colons_more (eqb-true b 58 e) next)
     go false e next = subst (λ n. IsColons (b ∷ text) (drop n (b ∷ text))) (sym (prefix_len-no (λ c. c == 58) b text e)) (colons_end e)
 
 -- two colons, all that follow, and the rest of the name
-colons_on : (b : ℕ) (text rest : List ℕ) → (b == 58) && begins 58 text ≡ true → IsName (drop (prefix_len (λ c. c == 58) text) text) rest → IsName (b ∷ text) rest
+colons_on : (b : ℕ) (text rest : List ℕ) → (b == 58) && begins 58 text ≡ true → IsName (drop (prefix_len (λ c. c == 58) text) text) rest →
+    IsName (b ∷ text) rest
 colons_on b [] rest e n = let none = (and_both (b == 58) false e).1 in cc
 colons_on b (c ∷ text) rest e n =
     let both = and_both (b == 58) (c == 58) e in
@@ -84,9 +86,11 @@ name_is zero (b ∷ text) = go (is_name_byte b) ((b == 58) && begins 58 text) re
     k : ℕ
     k = prefix_len (λ c. c == 58) text
 
-    go : (v w : Bool) → is_name_byte b ≡ v → (b == 58) && begins 58 text ≡ w → IsName text (drop (name_length 0 text) text) → IsName (drop k text) (drop (name_length k text) text) → IsName (b ∷ text) (drop (name_length 0 (b ∷ text)) (b ∷ text))
+    go : (v w : Bool) → is_name_byte b ≡ v → (b == 58) && begins 58 text ≡ w → IsName text (drop (name_length 0 text) text) →
+        IsName (drop k text) (drop (name_length k text) text) → IsName (b ∷ text) (drop (name_length 0 (b ∷ text)) (b ∷ text))
     go true w e f one two = subst (λ n. IsName (b ∷ text) (drop n (b ∷ text))) (sym (name-letter b text e)) (name_byte e one)
-    go false true e f one two = subst (λ n. IsName (b ∷ text) (drop n (b ∷ text))) (sym (name-colons b text e f)) (colons_on b text (drop (name_length k text) text) f two)
+    go false true e f one two =
+        subst (λ n. IsName (b ∷ text) (drop n (b ∷ text))) (sym (name-colons b text e f)) (colons_on b text (drop (name_length k text) text) f two)
     go false false e f one two = subst (λ n. IsName (b ∷ text) (drop n (b ∷ text))) (sym (name-none b text e f)) (name_ends (or_both _ _ e f))
 
 pub named-none : (text : List ℕ) → name_length 0 text ≡ 0 → begins_name text ≡ false

@@ -16,7 +16,8 @@ refused e fault read is h = let at_fault : after 0 read ≡ fails fault = subst 
 pub variable-part : (level : Level) (text : List ℕ) (r : Read PlainPart) → after 0 (dollar level text) ≡ r → part level 36 text ≡ r
 variable-part level text r e = part-dollar level 36 text refl ∙ sym (after-zero (dollar level text)) ∙ e
 
-pub script-part : (level : Level) (text inside : List ℕ) (n : ℕ) → after 0 (level.brackets text) ≡ takes inside n → part level 91 text ≡ takes (script inside) (n + 1)
+pub script-part : (level : Level) (text inside : List ℕ) (n : ℕ) → after 0 (level.brackets text) ≡ takes inside n →
+    part level 91 text ≡ takes (script inside) (n + 1)
 script-part level text inside n e =
     part-brackets level 91 text refl refl
     ∙ ap (λ r. and_then r (λ inside n. takes (script inside) (n + 1))) (sym (after-zero (level.brackets text)) ∙ e)

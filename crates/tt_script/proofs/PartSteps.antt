@@ -1,12 +1,15 @@
 -- One step of reading parts.
-use Rattle.std.proofs.Common.{◌≡◌, ◌≢◌, ℕ, zero, suc, ◌+◌, ◌-◌, ◌<◌, ◌≤◌, Bool, true, false, not, ◌==◌, ◌&&◌, ◌||◌, List, [], ◌∷◌, length, get_or, drop, take, refl, ap, sym, ◌∙◌, arith, ◌⊎◌, inl, inr}
+use Rattle.std.proofs.Common.{◌≡◌, ◌≢◌, ℕ, zero, suc, ◌+◌, ◌-◌, ◌<◌, ◌≤◌, Bool, true, false, not, ◌==◌, ◌&&◌, ◌||◌}
+use Rattle.std.proofs.Common.{List, [], ◌∷◌, length, get_or, drop, take, refl, ap, sym, ◌∙◌, arith, ◌⊎◌, inl, inr}
 use Rattle.std.proofs.lemmas.List.{drop_more, drop-drop, drop_all, length-drop, length-take}
 use Rattle.std.proofs.lemmas.Bool.{eq-eqb, ne_eqb, lt-ltb, cases_lt}
 use Rattle.std.specs.Prelude.{nat_lt, if◌then◌else◌}
 use Rattle.std.specs.List.{prefix_len, position_or_len}
 use Rattle.tt_text.specs.Backslash.{backslash}
 use Rattle.tt_script.specs.Words.{PlainPart, letters, variable, element, script, PlainParts, none, with_letters, with_part}
-use Rattle.tt_script.specs.Reading.{Read, takes, fails, after, mapped, and_then, begins, Level, level, part, parts, parts_at_end, ends_parts, separates, is_terminator, continues_line, dollar, named_variable, braced_variable, named, name_length, letters_of}
+use Rattle.tt_script.specs.Reading.{Read, takes, fails, after, mapped, and_then, begins, Level, level, part, parts}
+use Rattle.tt_script.specs.Reading.{parts_at_end, ends_parts, separates, is_terminator, continues_line, dollar}
+use Rattle.tt_script.specs.Reading.{named_variable, braced_variable, named, name_length, letters_of}
 use Rattle.tt_lanes.specs.Classes.{is_special, is_special_in_quotes, is_special_in_index}
 use Rattle.tt_script.specs.inside.Scanning.{ends_run, is_letter}
 use Rattle.tt_script.specs.declared.command.ParseFault.{ParseFault}
@@ -52,7 +55,8 @@ module _ (level : Level) (text : List ℕ) where
   unfolding dollar
   dollar-itself e f = rw (e, dollar, f)
 
-  pub named-element : (n : ℕ) → begins 40 (drop n text) ≡ true → named_variable level n text ≡ and_then (after (n + 1) (level.index (drop (n + 1) text))) (λ index m. takes (element (take n text) index) (m + 1))
+  pub named-element : (n : ℕ) → begins 40 (drop n text) ≡ true →
+      named_variable level n text ≡ and_then (after (n + 1) (level.index (drop (n + 1) text))) (λ index m. takes (element (take n text) index) (m + 1))
   unfolding named_variable
   named-element n e = rw (e, named_variable)
 
@@ -66,15 +70,18 @@ pub part-dollar : (level : Level) (b : ℕ) (text : List ℕ) → (b == 36) ≡ 
 unfolding part
 part-dollar level b text e = rw (e, part)
 
-pub part-brackets : (level : Level) (b : ℕ) (text : List ℕ) → (b == 36) ≡ false → (b == 91) ≡ true → part level b text ≡ and_then (level.brackets text) (λ inside n. takes (script inside) (n + 1))
+pub part-brackets : (level : Level) (b : ℕ) (text : List ℕ) → (b == 36) ≡ false → (b == 91) ≡ true →
+    part level b text ≡ and_then (level.brackets text) (λ inside n. takes (script inside) (n + 1))
 unfolding part
 part-brackets level b text e f = rw (e, part, f)
 
-pub part-escape : (level : Level) (b : ℕ) (text : List ℕ) → (b == 36) ≡ false → (b == 91) ≡ false → (b == 92) ≡ true → part level b text ≡ takes (letters (backslash text).value) (backslash text).takes
+pub part-escape : (level : Level) (b : ℕ) (text : List ℕ) → (b == 36) ≡ false → (b == 91) ≡ false → (b == 92) ≡ true →
+    part level b text ≡ takes (letters (backslash text).value) (backslash text).takes
 unfolding part
 part-escape level b text e f g = rw (e, part, f, g)
 
-pub part-letter : (level : Level) (b : ℕ) (text : List ℕ) → (b == 36) ≡ false → (b == 91) ≡ false → (b == 92) ≡ false → part level b text ≡ takes (letters (b ∷ [])) 0
+pub part-letter : (level : Level) (b : ℕ) (text : List ℕ) → (b == 36) ≡ false → (b == 91) ≡ false → (b == 92) ≡ false →
+    part level b text ≡ takes (letters (b ∷ [])) 0
 unfolding part
 part-letter level b text e f g = rw (e, part, f, g)
 
@@ -85,25 +92,33 @@ module _ (level : Level) (ending : Ending) where
   unfolding parts
   parts_passes zero text = sym (after-zero (parts level ending 0 text))
   parts_passes (suc k) [] = sym (after-after (suc k) 0 (parts_at_end ending) ∙ ap (λ n. after n (parts_at_end ending)) (omega arith))
-  parts_passes (suc k) (b ∷ text) = ap (after 1) (parts_passes k text) ∙ after-after 1 k (parts level ending 0 (drop k text)) ∙ ap (λ n. after n (parts level ending 0 (drop k text))) (omega arith)
+  parts_passes (suc k) (b ∷ text) =
+      ap (after 1) (parts_passes k text) ∙ after-after 1 k (parts level ending 0 (drop k text))
+      ∙ ap (λ n. after n (parts level ending 0 (drop k text))) (omega arith)
 
   pub parts-end : (b : ℕ) (text : List ℕ) → ends_parts ending (b ∷ text) ≡ true → parts level ending 0 (b ∷ text) ≡ takes none 0
   unfolding parts
   parts-end b text e = rw (e, parts)
 
-  pub parts-part : (b : ℕ) (text : List ℕ) (first : PlainPart) (n : ℕ) → ends_parts ending (b ∷ text) ≡ false → part level b text ≡ takes first n → parts level ending 0 (b ∷ text) ≡ after 1 (mapped (with_part first) (parts level ending n text))
+  pub parts-part : (b : ℕ) (text : List ℕ) (first : PlainPart) (n : ℕ) → ends_parts ending (b ∷ text) ≡ false → part level b text ≡ takes first n →
+      parts level ending 0 (b ∷ text) ≡ after 1 (mapped (with_part first) (parts level ending n text))
   unfolding parts
   parts-part b text first n e f = rw (e, parts, f)
 
-  pub parts-fault : (b : ℕ) (text : List ℕ) (fault : ParseFault) → ends_parts ending (b ∷ text) ≡ false → part level b text ≡ fails fault → parts level ending 0 (b ∷ text) ≡ fails fault
+  pub parts-fault : (b : ℕ) (text : List ℕ) (fault : ParseFault) → ends_parts ending (b ∷ text) ≡ false → part level b text ≡ fails fault →
+      parts level ending 0 (b ∷ text) ≡ fails fault
   unfolding parts
   parts-fault b text fault e f = rw (e, parts, f)
 
   -- a part, and the parts after it
-  parts-on : (b : ℕ) (text : List ℕ) (i : ℕ) → ends_parts ending (b ∷ text) ≡ false → after i (parts level ending 0 (b ∷ text)) ≡ and_then (after (i + 1) (part level b text)) (λ first n. mapped (with_part first) (after n (parts level ending 0 (drop (n - (i + 1)) text))))
+  parts-on : (b : ℕ) (text : List ℕ) (i : ℕ) → ends_parts ending (b ∷ text) ≡ false →
+      after i (parts level ending 0 (b ∷ text)) ≡ and_then (after (i + 1) (part level b text))
+      (λ first n. mapped (with_part first) (after n (parts level ending 0 (drop (n - (i + 1)) text))))
   parts-on b text i e = go (part level b text) refl
     where
-      go : (r : Read PlainPart) → part level b text ≡ r → after i (parts level ending 0 (b ∷ text)) ≡ and_then (after (i + 1) r) (λ first n. mapped (with_part first) (after n (parts level ending 0 (drop (n - (i + 1)) text))))
+      go : (r : Read PlainPart) → part level b text ≡ r →
+          after i (parts level ending 0 (b ∷ text)) ≡ and_then (after (i + 1) r)
+          (λ first n. mapped (with_part first) (after n (parts level ending 0 (drop (n - (i + 1)) text))))
       go (fails fault) f = ap (after i) (parts-fault b text fault e f)
       go (takes first n) f =
           let rest : ℕ → Read PlainParts = λ k. parts level ending 0 (drop k text) in
@@ -115,27 +130,34 @@ module _ (level : Level) (ending : Ending) where
           ∙ ap (mapped (with_part first)) (after-after (i + 1) n (rest n))
           ∙ ap (λ k. mapped (with_part first) (after (i + 1 + n) (rest k))) (sym same)
 
-  parts_at : (text : List ℕ) (i : ℕ) → i < length text → ends_parts ending (drop i text) ≡ false → after i (parts level ending 0 (drop i text)) ≡ and_then (after (i + 1) (part level (get_or text i 0) (drop (i + 1) text))) (λ first n. mapped (with_part first) (after n (parts level ending 0 (drop (n - (i + 1)) (drop (i + 1) text)))))
+  parts_at : (text : List ℕ) (i : ℕ) → i < length text → ends_parts ending (drop i text) ≡ false →
+      after i (parts level ending 0 (drop i text)) ≡ and_then (after (i + 1) (part level (get_or text i 0) (drop (i + 1) text)))
+      (λ first n. mapped (with_part first) (after n (parts level ending 0 (drop (n - (i + 1)) (drop (i + 1) text)))))
   parts_at text i h e =
       let front = drop_more text i 0 h in
       ap (λ rest. after i (parts level ending 0 rest)) front ∙ parts-on (get_or text i 0) (drop (i + 1) text) i (ap (ends_parts ending) (sym front) ∙ e)
 
   -- a part that is read, up to a place
-  pub parts_at-part : (text : List ℕ) (i next : ℕ) (first : PlainPart) → i < length text → ends_parts ending (drop i text) ≡ false → after (i + 1) (part level (get_or text i 0) (drop (i + 1) text)) ≡ takes first next → i < next → after i (parts level ending 0 (drop i text)) ≡ mapped (with_part first) (after next (parts level ending 0 (drop next text)))
+  pub parts_at-part : (text : List ℕ) (i next : ℕ) (first : PlainPart) → i < length text → ends_parts ending (drop i text) ≡ false →
+      after (i + 1) (part level (get_or text i 0) (drop (i + 1) text)) ≡ takes first next → i < next →
+      after i (parts level ending 0 (drop i text)) ≡ mapped (with_part first) (after next (parts level ending 0 (drop next text)))
   parts_at-part text i next first h e f later =
       let same : i + 1 + (next - (i + 1)) ≡ next = omega arith in
       parts_at text i h e
       ∙ ap (λ r. and_then r (λ v n. mapped (with_part v) (after n (parts level ending 0 (drop (n - (i + 1)) (drop (i + 1) text)))))) f
       ∙ ap (λ rest. mapped (with_part first) (after next (parts level ending 0 rest))) (drop-drop (next - (i + 1)) (i + 1) text ∙ ap (λ k. drop k text) same)
 
-  pub parts_at-fault : (text : List ℕ) (i : ℕ) (fault : ParseFault) → i < length text → ends_parts ending (drop i text) ≡ false → after (i + 1) (part level (get_or text i 0) (drop (i + 1) text)) ≡ fails fault → after i (parts level ending 0 (drop i text)) ≡ fails fault
+  pub parts_at-fault : (text : List ℕ) (i : ℕ) (fault : ParseFault) → i < length text → ends_parts ending (drop i text) ≡ false →
+      after (i + 1) (part level (get_or text i 0) (drop (i + 1) text)) ≡ fails fault → after i (parts level ending 0 (drop i text)) ≡ fails fault
   parts_at-fault text i fault h e f =
       parts_at text i h e ∙ ap (λ r. and_then r (λ v n. mapped (with_part v) (after n (parts level ending 0 (drop (n - (i + 1)) (drop (i + 1) text)))))) f
 
-  pub parts_at-end : (text : List ℕ) (i : ℕ) → i < length text → ends_parts ending (drop i text) ≡ true → after i (parts level ending 0 (drop i text)) ≡ takes none i
+  pub parts_at-end : (text : List ℕ) (i : ℕ) → i < length text → ends_parts ending (drop i text) ≡ true →
+      after i (parts level ending 0 (drop i text)) ≡ takes none i
   parts_at-end text i h e =
       let front = drop_more text i 0 h in
-      ap (λ rest. after i (parts level ending 0 rest)) front ∙ ap (after i) (parts-end (get_or text i 0) (drop (i + 1) text) (ap (ends_parts ending) (sym front) ∙ e)) ∙ ap (takes none) (omega arith)
+      ap (λ rest. after i (parts level ending 0 rest)) front
+      ∙ ap (after i) (parts-end (get_or text i 0) (drop (i + 1) text) (ap (ends_parts ending) (sym front) ∙ e)) ∙ ap (takes none) (omega arith)
 
   pub parts_at-all : (text : List ℕ) (i : ℕ) → i ≡ length text → after i (parts level ending 0 (drop i text)) ≡ after i (parts_at_end ending)
   unfolding parts
@@ -176,7 +198,9 @@ no_separator place b text e = join (is_white_space b) (is_terminator place b) (c
 
     terminator : (place : Place) → is_terminator place b ≡ false
     terminator places.Script = ap (λ p. p || b == 59) (unlike is_special b 10 e refl) ∙ unlike is_special b 59 e refl
-    terminator places.Brackets = ap (λ p. (p || b == 59) || b == 93) (unlike is_special b 10 e refl) ∙ ap (λ p. p || b == 93) (unlike is_special b 59 e refl) ∙ unlike is_special b 93 e refl
+    terminator places.Brackets =
+        ap (λ p. (p || b == 59) || b == 93) (unlike is_special b 10 e refl) ∙ ap (λ p. p || b == 93) (unlike is_special b 59 e refl)
+        ∙ unlike is_special b 93 e refl
 
 -- a byte that begins a substitution ends each run of letters
 ends_each : (ending : Ending) → (ends_run ending 36 ≡ true) × (ends_run ending 91 ≡ true) × (ends_run ending 92 ≡ true)
@@ -200,7 +224,8 @@ module _ (level : Level) (ending : Ending) where
   letter_step b text e =
       let ends = ends_each ending in
       let p : ℕ → Bool = ends_run ending in
-      parts-part level ending b text (letters (b ∷ [])) 0 (letter-on ending b text e) (part-letter level b text (unlike p b 36 e ends.0) (unlike p b 91 e ends.1) (unlike p b 92 e ends.2))
+      parts-part level ending b text (letters (b ∷ [])) 0 (letter-on ending b text e)
+      (part-letter level b text (unlike p b 36 e ends.0) (unlike p b 91 e ends.1) (unlike p b 92 e ends.2))
 
   letters_all : (bs : List ℕ) (r : Read PlainParts) → all one_letter bs r ≡ after (length bs) (mapped (with_letters bs) r)
   unfolding one_letter
@@ -210,11 +235,13 @@ module _ (level : Level) (ending : Ending) where
       ap (one_letter b) (letters_all bs r)
       ∙ ap (after 1) (sym (after-mapped (length bs) (with_letters (b ∷ [])) (mapped (with_letters bs) r)))
       ∙ after-after 1 (length bs) (mapped (with_letters (b ∷ [])) (mapped (with_letters bs) r))
-      ∙ ap (after (1 + length bs)) (mapped-mapped (with_letters (b ∷ [])) (with_letters bs) r ∙ mapped-same _ (with_letters (b ∷ bs)) (λ ps. sym (with_letters-++ (b ∷ []) bs ps)) r)
+      ∙ ap (after (1 + length bs))
+      (mapped-mapped (with_letters (b ∷ [])) (with_letters bs) r ∙ mapped-same _ (with_letters (b ∷ bs)) (λ ps. sym (with_letters-++ (b ∷ []) bs ps)) r)
       ∙ ap (λ n. after n (mapped (with_letters (b ∷ bs)) r)) (omega arith)
 
   -- a run of letters from one place to another
-  letters_run : (text : List ℕ) (i stop : ℕ) → i ≤ stop → stop ≤ length text → stop ≤ i + prefix_len (is_letter ending) (drop i text) → after i (parts level ending 0 (drop i text)) ≡ mapped (with_letters (take (stop - i) (drop i text))) (after stop (parts level ending 0 (drop stop text)))
+  letters_run : (text : List ℕ) (i stop : ℕ) → i ≤ stop → stop ≤ length text → stop ≤ i + prefix_len (is_letter ending) (drop i text) →
+      after i (parts level ending 0 (drop i text)) ≡ mapped (with_letters (take (stop - i) (drop i text))) (after stop (parts level ending 0 (drop stop text)))
   letters_run text i stop order room run =
       let n : ℕ = stop - i in
       let bs : List ℕ = take n (drop i text) in
@@ -251,8 +278,10 @@ module _ (ending : Ending) (text : List ℕ) (end : ℕ) (within : end ≤ lengt
       go endings.Parenthesis same = begins_at 41 text end (ap (λ e. ends_parts e (drop end text)) (sym same) ∙ ends)
 
 -- letters alone, up to what ends them
-pub plain_parts_at : (level : Level) (ending : Ending) (text : List ℕ) (from end : ℕ) → from ≤ end → end ≤ length text → end ≤ from + prefix_len (is_letter ending) (drop from text)
-    → ends_parts ending (drop end text) ≡ true → after from (parts level ending 0 (drop from text)) ≡ takes (letters_of (take (end - from) (drop from text))) end
+pub plain_parts_at : (level : Level) (ending : Ending) (text : List ℕ) (from end : ℕ) → from ≤ end → end ≤ length text →
+    end ≤ from + prefix_len (is_letter ending) (drop from text)
+    → ends_parts ending (drop end text) ≡ true →
+    after from (parts level ending 0 (drop from text)) ≡ takes (letters_of (take (end - from) (drop from text))) end
 plain_parts_at level ending text from end order within run ends =
     letters_run level ending text from end order within run
     ∙ ap (mapped (with_letters (take (end - from) (drop from text)))) (ended_at ending text end within ends level)
@@ -265,18 +294,22 @@ none_below n e = ap (nat_lt 0) e
 some_below : (n : ℕ) → 0 < n → nat_lt 0 n ≡ true
 some_below n h = lt-ltb 0 n h
 
-and_then-on : {A B : Type 0} (m n : ℕ) (f : A → B) (r : Read A) → after m (and_then (after n r) (λ v k. takes (f v) (k + 1))) ≡ and_then (after (m + n) r) (λ v k. takes (f v) (k + 1))
+and_then-on : {A B : Type 0} (m n : ℕ) (f : A → B) (r : Read A) →
+    after m (and_then (after n r) (λ v k. takes (f v) (k + 1))) ≡ and_then (after (m + n) r) (λ v k. takes (f v) (k + 1))
 and_then-on m n f (takes value k) = ap (takes (f value)) (omega arith)
 and_then-on m n f (fails fault) = refl
 
 module _ (level : Level) (text : List ℕ) (from : ℕ) where
-  pub dollar_at-braced : begins 123 (drop from text) ≡ true → after from (dollar level (drop from text)) ≡ after (from + 1) (braced_variable (drop (from + 1) text))
+  pub dollar_at-braced : begins 123 (drop from text) ≡ true →
+      after from (dollar level (drop from text)) ≡ after (from + 1) (braced_variable (drop (from + 1) text))
   dollar_at-braced e =
       ap (after from) (dollar-braced level (drop from text) e) ∙ after-after from 1 (braced_variable (drop 1 (drop from text)))
       ∙ ap (λ rest. after (from + 1) (braced_variable rest)) (drop-drop 1 from text)
 
-  pub dollar_at-itself : (end : ℕ) → begins 123 (drop from text) ≡ false → end ≡ from + name_length 0 (drop from text) → end ≡ from → after from (dollar level (drop from text)) ≡ takes (letters (36 ∷ [])) from
-  dollar_at-itself end e f same = ap (after from) (dollar-itself level (drop from text) e (none_below _ (omega arith))) ∙ ap (takes (letters (36 ∷ []))) (omega arith)
+  pub dollar_at-itself : (end : ℕ) → begins 123 (drop from text) ≡ false → end ≡ from + name_length 0 (drop from text) → end ≡ from →
+      after from (dollar level (drop from text)) ≡ takes (letters (36 ∷ [])) from
+  dollar_at-itself end e f same =
+      ap (after from) (dollar-itself level (drop from text) e (none_below _ (omega arith))) ∙ ap (takes (letters (36 ∷ []))) (omega arith)
 
   module _ (end : ℕ) (e : begins 123 (drop from text) ≡ false) (f : end ≡ from + name_length 0 (drop from text)) (differ : end ≢ from) where
     named_on : after from (dollar level (drop from text)) ≡ after from (named_variable level (end - from) (drop from text))
@@ -287,28 +320,36 @@ module _ (level : Level) (text : List ℕ) (from : ℕ) where
     after_name : drop (end - from) (drop from text) ≡ drop end text
     after_name = let same : from + (end - from) ≡ end = omega arith in drop-drop (end - from) from text ∙ ap (λ k. drop k text) same
 
-    pub dollar_at-variable : begins 40 (drop end text) ≡ false → after from (dollar level (drop from text)) ≡ takes (variable (take (end - from) (drop from text))) end
+    pub dollar_at-variable : begins 40 (drop end text) ≡ false →
+        after from (dollar level (drop from text)) ≡ takes (variable (take (end - from) (drop from text))) end
     dollar_at-variable g =
         let same : from + (end - from) ≡ end = omega arith in
-        named_on ∙ ap (after from) (named-variable level (drop from text) (end - from) (ap (begins 40) after_name ∙ g)) ∙ ap (takes (variable (take (end - from) (drop from text)))) same
+        named_on ∙ ap (after from) (named-variable level (drop from text) (end - from) (ap (begins 40) after_name ∙ g))
+        ∙ ap (takes (variable (take (end - from) (drop from text)))) same
 
-    pub dollar_at-element : begins 40 (drop end text) ≡ true → after from (dollar level (drop from text)) ≡ and_then (after (end + 1) (level.index (drop (end + 1) text))) (λ index m. takes (element (take (end - from) (drop from text)) index) (m + 1))
+    pub dollar_at-element : begins 40 (drop end text) ≡ true →
+        after from (dollar level (drop from text)) ≡ and_then (after (end + 1) (level.index (drop (end + 1) text)))
+        (λ index m. takes (element (take (end - from) (drop from text)) index) (m + 1))
     dollar_at-element g =
         let name : List ℕ = take (end - from) (drop from text) in
         let same : from + (end - from + 1) ≡ end + 1 = omega arith in
         named_on
         ∙ ap (after from) (named-element level (drop from text) (end - from) (ap (begins 40) after_name ∙ g))
         ∙ and_then-on from (end - from + 1) (element name) (level.index (drop (end - from + 1) (drop from text)))
-        ∙ ap (λ rest. and_then (after (from + (end - from + 1)) (level.index rest)) (λ index m. takes (element name index) (m + 1))) (drop-drop (end - from + 1) from text)
+        ∙ ap (λ rest. and_then (after (from + (end - from + 1)) (level.index rest)) (λ index m. takes (element name index) (m + 1)))
+        (drop-drop (end - from + 1) from text)
         ∙ ap (λ k. and_then (after k (level.index (drop k text))) (λ index m. takes (element name index) (m + 1))) same
 
-    pub dollar_at-read : begins 40 (drop end text) ≡ true → (index : PlainParts) (close : ℕ) → after (end + 1) (level.index (drop (end + 1) text)) ≡ takes index close → after from (dollar level (drop from text)) ≡ takes (element (take (end - from) (drop from text)) index) (close + 1)
+    pub dollar_at-read : begins 40 (drop end text) ≡ true → (index : PlainParts) (close : ℕ) →
+        after (end + 1) (level.index (drop (end + 1) text)) ≡ takes index close →
+        after from (dollar level (drop from text)) ≡ takes (element (take (end - from) (drop from text)) index) (close + 1)
     dollar_at-read g index close h = dollar_at-element g ∙ ap (λ r. and_then r (λ v m. takes (element (take (end - from) (drop from text)) v) (m + 1))) h
 
-    pub dollar_at-fault : begins 40 (drop end text) ≡ true → (fault : ParseFault) → after (end + 1) (level.index (drop (end + 1) text)) ≡ fails fault → after from (dollar level (drop from text)) ≡ fails fault
+    pub dollar_at-fault : begins 40 (drop end text) ≡ true → (fault : ParseFault) → after (end + 1) (level.index (drop (end + 1) text)) ≡ fails fault →
+        after from (dollar level (drop from text)) ≡ fails fault
     dollar_at-fault g fault h = dollar_at-element g ∙ ap (λ r. and_then r (λ v m. takes (element (take (end - from) (drop from text)) v) (m + 1))) h
 
--- what `${` begins, where a `}` closes it
+-- what `${` begins, if a `}` closes it
 pub braced_variable_at : (text : List ℕ) (from end : ℕ) → end ≡ from + position_or_len (λ b. b == 125) (drop from text) → end ≤ length text → end ≢ length text
     → after from (braced_variable (drop from text)) ≡ takes (named (take (end - from) (drop from text))) (end + 1)
 braced_variable_at text from end e within apart =
@@ -326,27 +367,34 @@ module _ (level : Level) (text : List ℕ) (at : ℕ) where
   pub part_at-dollar : get_or text at 0 ≡ 36 → part level (get_or text at 0) (drop (at + 1) text) ≡ dollar level (drop (at + 1) text)
   part_at-dollar e = part-dollar level _ (drop (at + 1) text) (eq-eqb _ _ e)
 
-  pub part_at-brackets : get_or text at 0 ≡ 91 → part level (get_or text at 0) (drop (at + 1) text) ≡ and_then (level.brackets (drop (at + 1) text)) (λ inside n. takes (script inside) (n + 1))
+  pub part_at-brackets : get_or text at 0 ≡ 91 →
+      part level (get_or text at 0) (drop (at + 1) text) ≡ and_then (level.brackets (drop (at + 1) text)) (λ inside n. takes (script inside) (n + 1))
   part_at-brackets e = part-brackets level _ (drop (at + 1) text) (ap (λ b. b == 36) e) (eq-eqb _ _ e)
 
-  pub part_at-script : (inside : List ℕ) (end : ℕ) → get_or text at 0 ≡ 91 → after (at + 1) (level.brackets (drop (at + 1) text)) ≡ takes inside end → after (at + 1) (part level (get_or text at 0) (drop (at + 1) text)) ≡ takes (script inside) (end + 1)
-  part_at-script inside end e f = ap (after (at + 1)) (part_at-brackets e) ∙ script-on (level.brackets (drop (at + 1) text)) ∙ ap (λ r. and_then r (λ v n. takes (script v) (n + 1))) f
+  pub part_at-script : (inside : List ℕ) (end : ℕ) → get_or text at 0 ≡ 91 → after (at + 1) (level.brackets (drop (at + 1) text)) ≡ takes inside end →
+      after (at + 1) (part level (get_or text at 0) (drop (at + 1) text)) ≡ takes (script inside) (end + 1)
+  part_at-script inside end e f =
+      ap (after (at + 1)) (part_at-brackets e) ∙ script-on (level.brackets (drop (at + 1) text)) ∙ ap (λ r. and_then r (λ v n. takes (script v) (n + 1))) f
     where
-      script-on : (r : Read (List ℕ)) → after (at + 1) (and_then r (λ v n. takes (script v) (n + 1))) ≡ and_then (after (at + 1) r) (λ v n. takes (script v) (n + 1))
+      script-on : (r : Read (List ℕ)) →
+          after (at + 1) (and_then r (λ v n. takes (script v) (n + 1))) ≡ and_then (after (at + 1) r) (λ v n. takes (script v) (n + 1))
       script-on (takes v n) = ap (takes (script v)) (omega arith)
       script-on (fails fault) = refl
 
-  pub part_at-script_fault : (fault : ParseFault) → get_or text at 0 ≡ 91 → after (at + 1) (level.brackets (drop (at + 1) text)) ≡ fails fault → after (at + 1) (part level (get_or text at 0) (drop (at + 1) text)) ≡ fails fault
+  pub part_at-script_fault : (fault : ParseFault) → get_or text at 0 ≡ 91 → after (at + 1) (level.brackets (drop (at + 1) text)) ≡ fails fault →
+      after (at + 1) (part level (get_or text at 0) (drop (at + 1) text)) ≡ fails fault
   part_at-script_fault fault e f = ap (after (at + 1)) (part_at-brackets e) ∙ fault-on (level.brackets (drop (at + 1) text)) f
     where
       fault-on : (r : Read (List ℕ)) → after (at + 1) r ≡ fails fault → after (at + 1) (and_then r (λ v n. takes (script v) (n + 1))) ≡ fails fault
       fault-on (takes v n) g = cc
       fault-on (fails f) g = let same : f ≡ fault = cc in ap fails same
 
-  pub part_at-escape : get_or text at 0 ≡ 92 → part level (get_or text at 0) (drop (at + 1) text) ≡ takes (letters (backslash (drop (at + 1) text)).value) (backslash (drop (at + 1) text)).takes
+  pub part_at-escape : get_or text at 0 ≡ 92 →
+      part level (get_or text at 0) (drop (at + 1) text) ≡ takes (letters (backslash (drop (at + 1) text)).value) (backslash (drop (at + 1) text)).takes
   part_at-escape e = part-escape level _ (drop (at + 1) text) (ap (λ b. b == 36) e) (ap (λ b. b == 91) e) (eq-eqb _ _ e)
 
-  pub part_at-letter : get_or text at 0 ≢ 36 → get_or text at 0 ≢ 91 → get_or text at 0 ≢ 92 → part level (get_or text at 0) (drop (at + 1) text) ≡ takes (letters (get_or text at 0 ∷ [])) 0
+  pub part_at-letter : get_or text at 0 ≢ 36 → get_or text at 0 ≢ 91 → get_or text at 0 ≢ 92 →
+      part level (get_or text at 0) (drop (at + 1) text) ≡ takes (letters (get_or text at 0 ∷ [])) 0
   part_at-letter e f g = part-letter level _ (drop (at + 1) text) (ne_eqb _ _ e) (ne_eqb _ _ f) (ne_eqb _ _ g)
 
 -- ---- a run of letters at a place ----
@@ -354,14 +402,17 @@ module _ (level : Level) (text : List ℕ) (at : ℕ) where
 module _ (level : Level) (ending : Ending) (text : List ℕ) (at : ℕ) (h : at < length text) (goes_on : ends_parts ending (drop at text) ≡ false) where
   pub parts_at-letters : (next : ℕ) → get_or text at 0 ≢ 36 → get_or text at 0 ≢ 91 → get_or text at 0 ≢ 92
       → at + 1 ≤ next → next ≤ length text → next ≤ at + 1 + prefix_len (is_letter ending) (drop (at + 1) text)
-      → after at (parts level ending 0 (drop at text)) ≡ mapped (with_letters (take (next - at) (drop at text))) (after next (parts level ending 0 (drop next text)))
+      → after at (parts level ending 0 (drop at text)) ≡ mapped (with_letters (take (next - at) (drop at text)))
+      (after next (parts level ending 0 (drop next text)))
   parts_at-letters next e f g later room run =
       let b : ℕ = get_or text at 0 in
       let bs : List ℕ = take (next - (at + 1)) (drop (at + 1) text) in
       let rest : Read PlainParts = after next (parts level ending 0 (drop next text)) in
-      let one : after (at + 1) (part level b (drop (at + 1) text)) ≡ takes (letters (b ∷ [])) (at + 1) = ap (after (at + 1)) (part_at-letter level text at e f g) ∙ ap (takes (letters (b ∷ []))) (omega arith) in
+      let one : after (at + 1) (part level b (drop (at + 1) text)) ≡ takes (letters (b ∷ [])) (at + 1) =
+      ap (after (at + 1)) (part_at-letter level text at e f g) ∙ ap (takes (letters (b ∷ []))) (omega arith) in
       let bytes : take (next - at) (drop at text) ≡ b ∷ bs = slice-more text at next h (omega arith) in
       parts_at-part level ending text at (at + 1) (letters (b ∷ [])) h goes_on one (omega arith)
       ∙ ap (mapped (with_letters (b ∷ []))) (letters_run level ending text (at + 1) next later room run)
       ∙ mapped-mapped (with_letters (b ∷ [])) (with_letters bs) rest
-      ∙ mapped-same _ (with_letters (take (next - at) (drop at text))) (λ ps. sym (with_letters-++ (b ∷ []) bs ps) ∙ ap (λ cs. with_letters cs ps) (sym bytes)) rest
+      ∙ mapped-same _ (with_letters (take (next - at) (drop at text)))
+      (λ ps. sym (with_letters-++ (b ∷ []) bs ps) ∙ ap (λ cs. with_letters cs ps) (sym bytes)) rest

@@ -31,11 +31,13 @@ mapped-same f g same (fails fault) = refl
 
 -- ---- words in braces ----
 
-pub braced-closed : (place : Place) (text : List ℕ) (n : ℕ) → matching_brace text ≡ Some n → separates place (drop (n + 1) text) ≡ true → braced place text ≡ takes (letters_of (joined_lines 0 (take n text))) (n + 1)
+pub braced-closed : (place : Place) (text : List ℕ) (n : ℕ) → matching_brace text ≡ Some n → separates place (drop (n + 1) text) ≡ true →
+    braced place text ≡ takes (letters_of (joined_lines 0 (take n text))) (n + 1)
 unfolding braced
 braced-closed place text n e f = rw (e, braced, f, separated)
 
-pub braced-after : (place : Place) (text : List ℕ) (n : ℕ) → matching_brace text ≡ Some n → separates place (drop (n + 1) text) ≡ false → braced place text ≡ fails AfterBrace
+pub braced-after : (place : Place) (text : List ℕ) (n : ℕ) → matching_brace text ≡ Some n → separates place (drop (n + 1) text) ≡ false →
+    braced place text ≡ fails AfterBrace
 unfolding braced
 braced-after place text n e f = rw (e, braced, f, separated)
 
@@ -51,17 +53,20 @@ module _ (place : Place) (text : List ℕ) (from end : ℕ) (h : Some end ≡ fu
       let same : from + (end - from + 1) ≡ end + 1 = omega arith in
       drop-drop (end - from + 1) from text ∙ ap (λ k. drop k text) same
 
-  pub braced_at-closed : separates place (drop (end + 1) text) ≡ true → after from (braced place (drop from text)) ≡ takes (letters_of (joined_lines 0 (take (end - from) (drop from text)))) (end + 1)
+  pub braced_at-closed : separates place (drop (end + 1) text) ≡ true →
+      after from (braced place (drop from text)) ≡ takes (letters_of (joined_lines 0 (take (end - from) (drop from text)))) (end + 1)
   braced_at-closed f =
       let found = further-some from end (matching_brace (drop from text)) h in
       let order = found.1 in
       let same : from + (end - from + 1) ≡ end + 1 = omega arith in
-      ap (after from) (braced-closed place (drop from text) (end - from) found.0 (ap (separates place) after_brace ∙ f)) ∙ ap (takes (letters_of (joined_lines 0 (take (end - from) (drop from text))))) same
+      ap (after from) (braced-closed place (drop from text) (end - from) found.0 (ap (separates place) after_brace ∙ f))
+      ∙ ap (takes (letters_of (joined_lines 0 (take (end - from) (drop from text))))) same
 
   pub braced_at-after : separates place (drop (end + 1) text) ≡ false → after from (braced place (drop from text)) ≡ fails AfterBrace
   braced_at-after f =
       let found = further-some from end (matching_brace (drop from text)) h in
       ap (after from) (braced-after place (drop from text) (end - from) found.0 (ap (separates place) after_brace ∙ f))
 
-pub braced_at-open : (place : Place) (text : List ℕ) (from : ℕ) → None ≡ further from (matching_brace (drop from text)) → after from (braced place (drop from text)) ≡ fails CloseBrace
+pub braced_at-open : (place : Place) (text : List ℕ) (from : ℕ) → None ≡ further from (matching_brace (drop from text)) →
+    after from (braced place (drop from text)) ≡ fails CloseBrace
 braced_at-open place text from h = ap (after from) (braced-open place (drop from text) (further-none from _ h))

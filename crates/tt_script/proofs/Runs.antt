@@ -28,7 +28,8 @@ module _ {A : Type 0} (p : ℕ → Bool) (F : List ℕ → A) (one : ℕ → A �
   passes (suc n) [] h = absurd (omega arith)
   passes (suc n) (b ∷ text) h = go (p b) refl (passes n text)
     where
-      go : (q : Bool) → p b ≡ q → (n ≤ prefix_len p text → F text ≡ all one (take n text) (F (drop n text))) → F (b ∷ text) ≡ one b (all one (take n text) (F (drop n text)))
+      go : (q : Bool) → p b ≡ q → (n ≤ prefix_len p text → F text ≡ all one (take n text) (F (drop n text))) →
+          F (b ∷ text) ≡ one b (all one (take n text) (F (drop n text)))
       go true e next = step b text e ∙ ap (one b) (next (omega (arith, prefix_len-yes p b text e)))
       go false e next = absurd (omega (arith, prefix_len-no p b text e))
 
@@ -43,9 +44,17 @@ both_pass p q zero text h k = omega arith
 both_pass p q (suc n) [] h k = absurd (omega arith)
 both_pass p q (suc n) (b ∷ text) h k = go (p b) (q b) refl refl (both_pass p q n text)
   where
-    go : (v w : Bool) → p b ≡ v → q b ≡ w → (n ≤ prefix_len p text → n ≤ prefix_len q text → n ≤ prefix_len (λ c. p c && q c) text) → suc n ≤ prefix_len (λ c. p c && q c) (b ∷ text)
+    go : (v w : Bool) → p b ≡ v → q b ≡ w → (n ≤ prefix_len p text → n ≤ prefix_len q text → n ≤ prefix_len (λ c. p c && q c) text) →
+        suc n ≤ prefix_len (λ c. p c && q c) (b ∷ text)
     go false w e f next = absurd (omega (arith, prefix_len-no p b text e))
     go true false e f next = absurd (omega (arith, prefix_len-no q b text f))
     go true true e f next =
         let yes : p b && q b ≡ true = ap (λ v. v && q b) e ∙ f in
-        omega (arith, prefix_len-yes p b text e, prefix_len-yes q b text f, prefix_len-yes (λ c. p c && q c) b text yes, next (omega (arith, prefix_len-yes p b text e)) (omega (arith, prefix_len-yes q b text f)))
+        omega (
+          arith,
+          prefix_len-yes p b text e,
+          prefix_len-yes q b text f,
+          prefix_len-yes (λ c. p c && q c) b text yes,
+          next
+              (omega (arith, prefix_len-yes p b text e)) (omega (arith, prefix_len-yes q b text f)),
+        )

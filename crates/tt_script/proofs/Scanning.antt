@@ -1,5 +1,6 @@
 -- One step of what is scanned without nesting.
-use Rattle.std.proofs.Common.{◌≡◌, ◌≢◌, ℕ, zero, suc, ◌+◌, ◌<◌, ◌≤◌, Bool, true, false, ◌||◌, ◌&&◌, ◌==◌, List, [], ◌∷◌, length, get_or, drop, take, not, min, refl, ap, sym, ◌∙◌, arith}
+use Rattle.std.proofs.Common.{◌≡◌, ◌≢◌, ℕ, zero, suc, ◌+◌, ◌<◌, ◌≤◌, Bool, true, false, ◌||◌, ◌&&◌, ◌==◌, List, [], ◌∷◌}
+use Rattle.std.proofs.Common.{length, get_or, drop, take, not, min, refl, ap, sym, ◌∙◌, arith}
 use Rattle.std.proofs.lemmas.List.{drop_more, drop-drop, drop_all, length-drop, length-take}
 use Rattle.std.proofs.lemmas.Bool.{eq-eqb, ne_eqb, cases_lt}
 use Rattle.std.proofs.Common.{◌⊎◌, inl, inr}
@@ -35,7 +36,8 @@ module _ (text : List ℕ) (i : ℕ) (h : i < length text) where
   pub gap_at-blank : is_blank (get_or text i 0) ≡ true → gap 0 (drop i text) ≡ suc (gap 0 (drop (i + 1) text))
   gap_at-blank e = rw (drop_more text i 0 h) (gap-blank _ _ e)
 
-  pub gap_at-line : is_blank (get_or text i 0) ≡ false → continues_line (get_or text i 0) (drop (i + 1) text) ≡ true → gap 0 (drop i text) ≡ 2 + gap 0 (drop (i + 2) text)
+  pub gap_at-line : is_blank (get_or text i 0) ≡ false → continues_line (get_or text i 0) (drop (i + 1) text) ≡ true →
+      gap 0 (drop i text) ≡ 2 + gap 0 (drop (i + 2) text)
   gap_at-line e f =
       let step : gap 0 (drop i text) ≡ suc (gap 1 (drop (i + 1) text)) = rw (drop_more text i 0 h) (gap-line _ _ e f) in
       let two : drop 1 (drop (i + 1) text) ≡ drop (i + 2) text = drop-drop 1 (i + 1) text ∙ ap (λ n. drop n text) (omega arith) in
@@ -104,7 +106,8 @@ unfolding comment
 escaped_at-end text i h = rw (drop_all i text h)
 
 -- a backslash and what it escapes
-pub comment_at-escaped : (text : List ℕ) (i : ℕ) (next : ℕ) → i < length text → get_or text i 0 ≡ 92 → next ≡ min (i + 2) (length text) → i + comment false (drop i text) ≡ next + comment false (drop next text)
+pub comment_at-escaped : (text : List ℕ) (i : ℕ) (next : ℕ) → i < length text → get_or text i 0 ≡ 92 → next ≡ min (i + 2) (length text) →
+    i + comment false (drop i text) ≡ next + comment false (drop next text)
 comment_at-escaped text i next h e f = go (cases_lt (i + 1) (length text))
   where
     go : ((i + 1 < length text) ⊎ (length text ≤ i + 1)) → i + comment false (drop i text) ≡ next + comment false (drop next text)
@@ -115,10 +118,12 @@ comment_at-escaped text i next h e f = go (cases_lt (i + 1) (length text))
         omega (arith, comment_at-escape text i h e, escaped_at-end text (i + 1) ends, comment_at-end text next (omega arith))
 
 -- a byte of a comment, and what it escapes
-pub comment_at-passed : (text : List ℕ) (i next : ℕ) → i < length text → get_or text i 0 ≢ 10 → (get_or text i 0 ≡ 92 → next ≡ min (i + 2) (length text)) → (get_or text i 0 ≢ 92 → next ≡ i + 1) → (i + comment false (drop i text) ≡ next + comment false (drop next text)) × (next ≤ length text) × (i < next)
+pub comment_at-passed : (text : List ℕ) (i next : ℕ) → i < length text → get_or text i 0 ≢ 10 → (get_or text i 0 ≡ 92 → next ≡ min (i + 2) (length text)) →
+    (get_or text i 0 ≢ 92 → next ≡ i + 1) → (i + comment false (drop i text) ≡ next + comment false (drop next text)) × (next ≤ length text) × (i < next)
 comment_at-passed text i next h e escaped single = go (eqb_tells (get_or text i 0) 92)
   where
-    go : (((get_or text i 0 == 92) ≡ true) × (get_or text i 0 ≡ 92)) ⊎ (((get_or text i 0 == 92) ≡ false) × (get_or text i 0 ≢ 92)) → (i + comment false (drop i text) ≡ next + comment false (drop next text)) × (next ≤ length text) × (i < next)
+    go : (((get_or text i 0 == 92) ≡ true) × (get_or text i 0 ≡ 92)) ⊎ (((get_or text i 0 == 92) ≡ false) × (get_or text i 0 ≢ 92)) →
+        (i + comment false (drop i text) ≡ next + comment false (drop next text)) × (next ≤ length text) × (i < next)
     go (inl (_, is)) = (comment_at-escaped text i next h is (escaped is), omega (arith, escaped is), omega (arith, escaped is))
     go (inr (_, is)) =
         let n : next ≡ i + 1 = single is in
@@ -143,11 +148,13 @@ pub next_brace-bounds : (text : List ℕ) (i : ℕ) → i ≤ length text → (i
 next_brace-bounds text i h = (omega arith, run-within is_brace_or_backslash text i h)
 
 -- bytes of a comment up to the next special one
-pub comment-run : (text : List ℕ) (i stop : ℕ) → i ≤ length text → stop ≡ next_special text i → i + comment false (drop i text) ≡ stop + comment false (drop stop text)
+pub comment-run : (text : List ℕ) (i stop : ℕ) → i ≤ length text → stop ≡ next_special text i →
+    i + comment false (drop i text) ≡ stop + comment false (drop stop text)
 comment-run text i stop h e =
     let p : ℕ → Bool = λ b. not (is_special b) in
     let n : ℕ = prefix_len p (drop i text) in
-    let run = passes p (comment false) (λ b m. suc m) (λ b rest is. comment-letter b rest (unlike is_special b 10 is refl) (unlike is_special b 92 is refl)) n (drop i text) (omega arith) in
+    let run = passes p (comment false) (λ b m. suc m)
+    (λ b rest is. comment-letter b rest (unlike is_special b 10 is refl) (unlike is_special b 92 is refl)) n (drop i text) (omega arith) in
     let rest : drop n (drop i text) ≡ drop stop text = drop-drop n i text ∙ ap (λ k. drop k text) (sym e) in
     let size : length (take n (drop i text)) ≡ n = omega (arith, length-take n (drop i text), prefix_len-le-length p (drop i text)) in
     let tail : comment false (drop n (drop i text)) ≡ comment false (drop stop text) = ap (comment false) rest in
@@ -173,7 +180,8 @@ pub skipped-line : (b : ℕ) (text : List ℕ) → is_white_space b || b == 59 �
 unfolding skipped
 skipped-line b text e f = rw (e, f, skipped)
 
-pub skipped-comment : (b : ℕ) (text : List ℕ) → is_white_space b || b == 59 ≡ false → continues_line b text ≡ false → (b == 35) ≡ true → skipped 0 (b ∷ text) ≡ suc (skipped (comment false text) text)
+pub skipped-comment : (b : ℕ) (text : List ℕ) → is_white_space b || b == 59 ≡ false → continues_line b text ≡ false → (b == 35) ≡ true →
+    skipped 0 (b ∷ text) ≡ suc (skipped (comment false text) text)
 unfolding skipped
 skipped-comment b text e f g = rw (e, f, g, skipped)
 
@@ -193,26 +201,32 @@ module _ (text : List ℕ) (i : ℕ) (h : i < length text) where
   pub skipped_at-space : is_white_space (get_or text i 0) || get_or text i 0 == 59 ≡ true → skipped 0 (drop i text) ≡ suc (skipped 0 (drop (i + 1) text))
   skipped_at-space e = rw (drop_more text i 0 h) (skipped-space _ _ e)
 
-  pub skipped_at-line : is_white_space (get_or text i 0) || get_or text i 0 == 59 ≡ false → continues_line (get_or text i 0) (drop (i + 1) text) ≡ true → skipped 0 (drop i text) ≡ 2 + skipped 0 (drop (i + 2) text)
+  pub skipped_at-line : is_white_space (get_or text i 0) || get_or text i 0 == 59 ≡ false → continues_line (get_or text i 0) (drop (i + 1) text) ≡ true →
+      skipped 0 (drop i text) ≡ 2 + skipped 0 (drop (i + 2) text)
   skipped_at-line e f =
       let step : skipped 0 (drop i text) ≡ suc (skipped 1 (drop (i + 1) text)) = rw (drop_more text i 0 h) (skipped-line _ _ e f) in
       let same : skipped 0 (drop (i + 1 + 1) text) ≡ skipped 0 (drop (i + 2) text) = ap (λ k. skipped 0 (drop k text)) (omega arith) in
       omega (arith, skipped_on text (i + 1) 1)
 
-  pub skipped_at-comment : (next : ℕ) → is_white_space (get_or text i 0) || get_or text i 0 == 59 ≡ false → continues_line (get_or text i 0) (drop (i + 1) text) ≡ false → get_or text i 0 ≡ 35 → next ≡ i + 1 + comment false (drop (i + 1) text) → i + skipped 0 (drop i text) ≡ next + skipped 0 (drop next text)
+  pub skipped_at-comment : (next : ℕ) → is_white_space (get_or text i 0) || get_or text i 0 == 59 ≡ false →
+      continues_line (get_or text i 0) (drop (i + 1) text) ≡ false → get_or text i 0 ≡ 35 → next ≡ i + 1 + comment false (drop (i + 1) text) →
+      i + skipped 0 (drop i text) ≡ next + skipped 0 (drop next text)
   skipped_at-comment next e f g n =
-      let step : skipped 0 (drop i text) ≡ suc (skipped (comment false (drop (i + 1) text)) (drop (i + 1) text)) = rw (drop_more text i 0 h) (skipped-comment _ _ e f (eq-eqb _ _ g)) in
+      let step : skipped 0 (drop i text) ≡ suc (skipped (comment false (drop (i + 1) text)) (drop (i + 1) text)) =
+      rw (drop_more text i 0 h) (skipped-comment _ _ e f (eq-eqb _ _ g)) in
       let same : skipped 0 (drop (i + 1 + comment false (drop (i + 1) text)) text) ≡ skipped 0 (drop next text) = ap (λ k. skipped 0 (drop k text)) (sym n) in
       omega (arith, skipped_on text (i + 1) (comment false (drop (i + 1) text)))
 
-  pub skipped_at-none : is_white_space (get_or text i 0) || get_or text i 0 == 59 ≡ false → continues_line (get_or text i 0) (drop (i + 1) text) ≡ false → get_or text i 0 ≢ 35 → skipped 0 (drop i text) ≡ 0
+  pub skipped_at-none : is_white_space (get_or text i 0) || get_or text i 0 == 59 ≡ false → continues_line (get_or text i 0) (drop (i + 1) text) ≡ false →
+      get_or text i 0 ≢ 35 → skipped 0 (drop i text) ≡ 0
   skipped_at-none e f g = rw (drop_more text i 0 h) (skipped-none _ _ e f (ne_eqb _ _ g))
 
 pub ruleset skip_steps = (skipped_at-space, skipped_at-line, skipped_at-comment, skipped_at-none, skipped_at-end, continues_line-room)
 
 -- ---- the front of a word ----
 
-pub expands_at : (text : List ℕ) (i : ℕ) → expands (drop i text) ≡ (begins 123 (drop i text) && begins 42 (drop (i + 1) text)) && (begins 125 (drop (i + 2) text) && begins_black (drop (i + 3) text))
+pub expands_at : (text : List ℕ) (i : ℕ) →
+    expands (drop i text) ≡ (begins 123 (drop i text) && begins 42 (drop (i + 1) text)) && (begins 125 (drop (i + 2) text) && begins_black (drop (i + 3) text))
 expands_at text i =
     ap (λ rest. (begins 123 (drop i text) && begins 42 rest) && (begins 125 (drop 2 (drop i text)) && begins_black (drop 3 (drop i text)))) (drop-drop 1 i text)
     ∙ ap (λ rest. (begins 123 (drop i text) && begins 42 (drop (i + 1) text)) && (begins 125 rest && begins_black (drop 3 (drop i text)))) (drop-drop 2 i text)

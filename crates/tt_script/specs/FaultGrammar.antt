@@ -1,5 +1,5 @@
 -- The first fault of a text that is read from the left (Tcl(n)). Each relation says that `text` has this fault, and
--- that what stands before it is cut as the command grammar cuts it. Where the text ends inside something, the fault
+-- that what stands before it is cut as the command grammar cuts it. If the text ends inside something, the fault
 -- is that of the innermost. `depth` brackets and indices may still be opened.
 use Rattle.std.specs.Prelude.{◌≡◌, ℕ, zero, suc, ◌+◌, true, false, ◌==◌, List, [], ◌∷◌, ◌++◌, length, drop}
 use Rattle.std.specs.List.{position_or_len}
@@ -22,14 +22,14 @@ IsUnclosed text = (inside rest : List ℕ) → text ≡ inside ++ (125 ∷ rest)
 mutual
   -- a part that can't be read
   pub data IsPartFault : ℕ → List ℕ → ParseFault → Type 0 where
-    -- a bracket where no more may be opened
+    -- a bracket if no more may be opened
     bracket_too_deep : {b : ℕ} {text : List ℕ} → b ≡ 91 → IsPartFault zero (b ∷ text) TooDeep
     -- the commands in a bracket (rule 7)
     bracket_fault : {depth b : ℕ} {text : List ℕ} {fault : ParseFault}
         → b ≡ 91
         → IsCommandsFault depth text fault
         → IsPartFault (suc depth) (b ∷ text) fault
-    -- an index where no more may be opened
+    -- an index if no more may be opened
     index_too_deep : {b c : ℕ} {text name inner : List ℕ}
         → b ≡ 36
         → c ≡ 40
@@ -72,7 +72,7 @@ mutual
         → b ≡ 34
         → IsPartsFault depth endings.Quote text fault
         → IsWordPartsFault depth place (b ∷ text) fault
-    -- after the quote that closes, where no separator stands (rule 4)
+    -- after the quote that closes, if no separator stands (rule 4)
     after_quotes : {depth b c : ℕ} {place : Place} {text rest : List ℕ} {parts : PlainParts}
         → b ≡ 34
         → c ≡ 34
@@ -84,7 +84,7 @@ mutual
         → b ≡ 123
         → IsUnclosed text
         → IsWordPartsFault depth place (b ∷ text) CloseBrace
-    -- after the brace that closes, where no separator stands (rule 6)
+    -- after the brace that closes, if no separator stands (rule 6)
     after_braces : {depth b c : ℕ} {place : Place} {text : List ℕ} (inside rest : List ℕ)
         → b ≡ 123
         → c ≡ 125

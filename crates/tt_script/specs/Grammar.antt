@@ -133,7 +133,7 @@ mutual
         → text ≡ inside ++ (c ∷ rest)
         → IsCommands depth text (c ∷ rest)
         → IsPart (suc depth) (b ∷ text) (script inside) rest
-    -- $name, where no index follows (rule 8)
+    -- $name, if no index follows (rule 8)
     variable_part : {depth b : ℕ} {text name rest : List ℕ}
         → b ≡ 36
         → IsNamed text name rest

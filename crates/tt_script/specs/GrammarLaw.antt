@@ -6,15 +6,15 @@ use Rattle.tt_script.specs.Grammar.{IsSkipped, IsFirst}
 use Rattle.tt_script.specs.FaultGrammar.{IsFirstFault}
 use Rattle.tt_script.specs.declared.command.ParseFault.{ParseFault}
 
--- a command is read exactly where the grammar has one, and that one
+-- a command is read exactly if the grammar has one, and that one
 abbrev pub CommandLaw : Type 0
 CommandLaw = (text : List ℕ) (c : PlainCommand) → (first text ≡ command c) ↔ IsFirst text c
 
--- nothing is read exactly where the whole text is skipped
+-- nothing is read exactly if the whole text is skipped
 abbrev pub NothingLaw : Type 0
 NothingLaw = (text : List ℕ) → (first text ≡ nothing) ↔ IsSkipped text []
 
--- a fault is met exactly where the grammar has no command and the text isn't skipped whole
+-- a fault is met exactly if the grammar has no command and the text isn't skipped whole
 abbrev pub FaultLaw : Type 0
 FaultLaw = (text : List ℕ)
     → ((fault : ParseFault) × (place : ℕ) × (first text ≡ bad fault place))

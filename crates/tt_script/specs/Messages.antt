@@ -1,4 +1,4 @@
--- How a command that can't be read is told (Tcl(n)).
+-- How a command that can't be read is reported (Tcl(n)).
 use Rattle.std.specs.Prelude.{ℕ, List, codes}
 use Rattle.tt_script.specs.declared.command.ParseFault.{ParseFault}
 use Rattle.tt_script.specs.declared.command.ParseFault.TheVariants.{CloseBrace, CloseBracket, CloseQuote, AfterBrace}

@@ -15,7 +15,7 @@ abbrev pub element_of : List ℕ → Option (List ℕ × List ℕ)
 element_of name =
     option_map (λ start. (take start name, slice_range name (start + 1) (length name - 1))) (index_start name)
 
--- a name is split exactly where it is an element's, and so
+-- a name is split exactly if it is an element's, and so
 abbrev pub ElementNameLaw : Type 0
 ElementNameLaw = (name array index : List ℕ) → (element_of name ≡ Some (array, index)) ↔ IsElementName name array index
 

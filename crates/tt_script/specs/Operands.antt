@@ -22,7 +22,7 @@ IsQuotedText text parts rest = IsParts most_open Quote text parts (34 ∷ rest)
 abbrev pub IsOuterPart : List ℕ → PlainPart → List ℕ → Type 0
 IsOuterPart text part rest = IsPart most_open text part rest
 
--- the value, seen as view shows it, and how many bytes it takes; or None where a fault is met
+-- the value, seen as view shows it, and how many bytes it takes; or None if a fault is met
 abbrev pub Finds : {X A : Type 0} → (X → A) → Option (X × ℕ) → Read A → Type 0
 Finds view (Some x) read = read ≡ takes (view x.0) x.1
 Finds view None read = (fault : ParseFault) × (read ≡ fails fault)

@@ -131,7 +131,7 @@ name_length zero (b ∷ text) =
       ]
     ]
 
--- the place of the first ( of a name that ends with ), where it is an element's name
+-- the place of the first ( of a name that ends with ), if it is an element's name
 abbrev pub index_start : List ℕ → Option ℕ
 index_start name = if begins 41 (drop (length name - 1) name) then position (λ b. b == 40) name else None
 
@@ -154,7 +154,7 @@ pub record Level : Type 0 where
   pub index : List ℕ → Read PlainParts  -- the parts up to the `)`
   pub brackets : List ℕ → Read (List ℕ)  -- the script up to the `]`
 
--- a variable whose name has n bytes, where n isn't 0 (rule 8)
+-- a variable whose name has n bytes, if n isn't 0 (rule 8)
 unfoldable pub named_variable : Level → ℕ → List ℕ → Read PlainPart
 named_variable level n text =
     elim (begins 40 (drop n text)) [
@@ -217,7 +217,7 @@ parts level ending zero (b ∷ text) =
 
 -- ---- words ----
 
--- a value that takes so many bytes, where a separator follows it
+-- a value that takes so many bytes, if a separator follows it
 abbrev pub separated : Place → ParseFault → List ℕ → PlainParts → ℕ → Read PlainParts
 separated place fault text value n = elim (separates place (drop n text)) [ true ↦ takes value n | false ↦ fails fault ]
 

@@ -23,7 +23,7 @@ pub(crate) struct Closing {
     pub(crate) joins: bool,
 }
 
-/// How many inner braces are open after this byte, or `None` where it closes the outer one.
+/// How many inner braces are open after this byte, or `None` if it closes the outer one.
 fn depth_after(byte: u8, depth: usize) -> Option<usize>
     requires { depth < usize.MAX }
     ensures opens { byte ≡ 123 → result ≡ Some (depth + 1) }
@@ -106,7 +106,7 @@ pub(crate) fn inside_braces(
     }
 }
 
-/// The parts of a word in braces that begins here: its text, or none where it is skipped.
+/// The parts of a word in braces that begins here: its text, or none if it is skipped.
 pub(crate) fn braced_parts(
     alloc: Global,
     text: &[u8],

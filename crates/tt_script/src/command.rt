@@ -72,7 +72,7 @@ pub enum First {
 pub(crate) enum Place {
     /// In a script.
     Script,
-    /// In brackets, where `]` ends the last command.
+    /// In brackets, if `]` ends the last command.
     Brackets,
 }
 

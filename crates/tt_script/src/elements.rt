@@ -19,7 +19,7 @@ fn first_parenthesis(name: &[u8]) -> Option<usize>
     name.iter().position(|byte| *byte == b'(')
 }
 
-/// The place of the `(` where this is the name of an element, as `a(b)`.
+/// The place of the `(` if this is the name of an element, as `a(b)`.
 fn index_start(name: &[u8]) -> Option<usize>
     ensures place { result ≡ reading.index_start name.now }
     ensures within { IfSome result (λ start. start + 1 < length name.now) }

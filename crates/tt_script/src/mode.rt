@@ -26,7 +26,7 @@ impl Mode {
         }
     }
 
-    /// A part alone, or none where it is skipped.
+    /// A part alone, or none if it is skipped.
     #[inline(always)]
     pub(crate) fn one_part(self, alloc: Global, part: Part) -> Result<Vec<Part>, NoMemory>
         ensures { self ≡ Mode.Keep → IfOk result (λ parts. parts.items ≡ part ∷ []) }

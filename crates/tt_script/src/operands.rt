@@ -16,9 +16,9 @@ use std::alloc::Global;
 use tt_text::{NoMemory, Text};
 
 /// The parts of a text that follows a quote, up to the next quote, and how many bytes are before
-/// that one; or `None` where they can't be read (Tcl(n), rules 4 and 7 to 9).
+/// that one; or `None` if they can't be read (Tcl(n), rules 4 and 7 to 9).
 ///
-/// `NoMemory` where the memory for them is refused.
+/// `NoMemory` if the memory for them is refused.
 pub fn quoted_parts(alloc: Global, text: &[u8]) -> Result<Option<(Vec<Part>, usize)>, NoMemory>
     ensures read { IfOk result (λ found. Finds (λ parts. plain_parts parts.items) found (quoted_text text.now)) }
     ensures within { IfOk result (λ found. IfSome found (λ r. r.1 < length text.now)) }
@@ -30,10 +30,10 @@ pub fn quoted_parts(alloc: Global, text: &[u8]) -> Result<Option<(Vec<Part>, usi
     }
 }
 
-/// The variable of a text that follows a `$`, and how many bytes it takes; or `None` where it can't
+/// The variable of a text that follows a `$`, and how many bytes it takes; or `None` if it can't
 /// be read. Before a byte that begins no name, a `$` is a letter (Tcl(n), rule 8).
 ///
-/// `NoMemory` where the memory for it is refused.
+/// `NoMemory` if the memory for it is refused.
 pub fn variable_part(alloc: Global, text: &[u8]) -> Result<Option<(Part, usize)>, NoMemory>
     ensures read { IfOk result (λ found. Finds plain_part found (outer_part 36 text.now)) }
     ensures within { IfOk result (λ found. IfSome found (λ r. r.1 ≤ length text.now)) }
@@ -46,9 +46,9 @@ pub fn variable_part(alloc: Global, text: &[u8]) -> Result<Option<(Part, usize)>
 }
 
 /// The script of a text that follows a `[`, as a part of a word, and how many bytes it takes with its
-/// `]`; or `None` where it can't be read (Tcl(n), rule 7).
+/// `]`; or `None` if it can't be read (Tcl(n), rule 7).
 ///
-/// `NoMemory` where the memory for it is refused.
+/// `NoMemory` if the memory for it is refused.
 pub fn script_part(alloc: Global, text: &[u8]) -> Result<Option<(Part, usize)>, NoMemory>
     ensures read { IfOk result (λ found. Finds plain_part found (outer_part 91 text.now)) }
     ensures within { IfOk result (λ found. IfSome found (λ r. r.1 ≤ length text.now)) }
@@ -62,9 +62,9 @@ pub fn script_part(alloc: Global, text: &[u8]) -> Result<Option<(Part, usize)>, 
 
 /// A text that follows an open brace, up to the one that closes it and with each backslash-newline
 /// and the spaces and tabs after it as one space, and how many bytes are before that brace; or `None`
-/// where nothing closes it (Tcl(n), rule 6).
+/// if nothing closes it (Tcl(n), rule 6).
 ///
-/// `NoMemory` where the memory for it is refused.
+/// `NoMemory` if the memory for it is refused.
 pub fn braced_text(alloc: Global, text: &[u8]) -> Result<Option<(Text, usize)>, NoMemory>
     ensures read { IfOk result (λ found.
         found ≡ option_map (λ n. (reading.joined_lines 0 (take n text.now), n)) (matching_brace text.now)) }

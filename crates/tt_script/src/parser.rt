@@ -423,7 +423,7 @@ fn push_part(
     }
 }
 
-/// The end of a bare word that begins here, where it is `$` and a name alone.
+/// The end of a bare word that begins here, if it is `$` and a name alone.
 #[inline(always)]
 fn variable_end(text: &[u8], from: usize, place: Place) -> Option<usize>
     requires { from ≤ length text.now }

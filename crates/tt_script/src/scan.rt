@@ -61,7 +61,7 @@ pub(crate) fn gap_end(text: &[u8], from: usize) -> usize
     at
 }
 
-/// The place after the byte here, and after the byte that it escapes where it is a backslash.
+/// The place after the byte here, and after the byte that it escapes if it is a backslash.
 pub(crate) fn after_escape(text: &[u8], at: usize) -> usize
     requires { at < length text.now }
     ensures escaped { slice_index text.now at ≡ 92 → result ≡ min (at + 2) (length text.now) }

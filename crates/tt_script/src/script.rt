@@ -16,7 +16,7 @@ pub const DEPTH: usize = 1000;
 
 /// Reads the first command of `text[from..]`, as Tcl(n) says, or the fault that is met first.
 ///
-/// `NoMemory` where the memory for the answer is refused.
+/// `NoMemory` if the memory for the answer is refused.
 pub fn first_command(alloc: Global, text: &[u8], from: usize) -> Result<First, NoMemory>
     requires { from ≤ length text.now }
     ensures exact { IfOk result (λ first. plain_first first ≡ reading.moved from (reading.first (drop from text.now))) }

@@ -1,6 +1,7 @@
 -- What answering a request does: a table, a line for each (puts(n), gets(n), eof(n), thread(n), tsv(n), tpool(n),
 -- chan(n)).
-use Rattle.std.specs.Prelude.{ℕ, zero, suc, ◌-◌, ◌==◌, take, slice_get, Bool, true, false, List, codes, length, Option, Some, None, if◌then◌else◌, nat_lt, pos, negsuc}
+use Rattle.std.specs.Prelude.{ℕ, zero, suc, ◌-◌, ◌==◌, take, slice_get, Bool, true, false, List, codes, length, Option}
+use Rattle.std.specs.Prelude.{Some, None, if◌then◌else◌, nat_lt, pos, negsuc}
 use Rattle.tt_calls.specs.declared.chan_call.ChanCall.{ChanCall}
 use Rattle.tt_calls.specs.declared.chan_call.ChanCall.TheVariants as chan
 use Rattle.tt_calls.specs.declared.event.Event.TheVariants as event
@@ -22,7 +23,8 @@ use Rattle.tt_pools.specs.Calls as pools
 use Rattle.tt_pools.specs.declared.step.PoolStep.{PoolStep}
 use Rattle.tt_shared.specs.Ends.{ends, exits}
 use Rattle.tt_shared.specs.Sends.{awaits, broadcasts, delivers, mailed, names_procedure, reports, sends, takes}
-use Rattle.tt_shared.specs.State.{Acted, State, answer, answers, is_marked, is_not_asked, refuses, reply_of, room, truth, with_thread}
+use Rattle.tt_shared.specs.State.{Acted, State, answer, answers, is_marked, is_not_asked, refuses, reply_of, room}
+use Rattle.tt_shared.specs.State.{truth, with_thread}
 use Rattle.tt_shared.specs.declared.applied.Line.{Line}
 use Rattle.tt_shared.specs.declared.applied.Line.TheVariants as line
 use Rattle.tt_threads.specs.Requests as threads
@@ -77,7 +79,7 @@ in_rows state answered = answers (record state { rows = answered.rows }) answere
 abbrev pub asks_rows : State → ℕ → Request → Acted
 asks_rows state t request = in_rows state (threads.act state.rows t request)
 
--- thread::release: a thread that nobody holds any more is told to stop
+-- thread::release: a thread that nobody holds any more is asked to stop
 abbrev pub is_unheld : Option Row → Bool
 is_unheld None = false
 is_unheld (Some row) = elim row.count [ pos n ↦ n == 0 | negsuc n ↦ true ]

@@ -44,7 +44,7 @@ abbrev pub pool_of_row : Option Row → Option (List ℕ)
 pool_of_row None = None
 pool_of_row (Some row) = pool_of_start row.start
 
--- a code is told modulo 256
+-- a code is reported modulo 256
 abbrev pub exit_code : ℤ → ℕ
 exit_code code = unsigned_abs (int_rem_euclid code (pos 256))
 
@@ -56,9 +56,9 @@ over_after over t code = if t == 1 then Some (exit_code code) else over
 abbrev pub pools_left : State → ℕ → PoolTable
 pools_left state t = pools.table_after_end state.pools t (pool_of_row (row_of state.rows t))
 
--- The thread has ended with its code; whoever waits for an answer of it is told that it died; its queue is emptied; as
--- a worker its job has failed; its channels are closed, and those that were on their way to it go back. Locks and
--- arrays that it holds stay held.
+-- The thread has ended with its code; whoever waits for an answer of it gets the answer that it died; its queue is
+-- emptied; as a worker its job has failed; its channels are closed, and those that were on their way to it go back.
+-- Locks and arrays that it holds stay held.
 abbrev pub ended : State → ℕ → ℤ → State
 ended state t code = record state {
   over = over_after state.over t code;

@@ -1,6 +1,7 @@
 -- What sends, events and their answers do (thread(n), thread::send, thread::broadcast, thread::errorproc,
 -- thread::wait).
-use Rattle.std.specs.Prelude.{ℕ, zero, suc, length, ◌==◌, ◌&&◌, not, Bool, true, false, List, [], ◌∷◌, ◌++◌, codes, Option, Some, None, is_some, if◌then◌else◌}
+use Rattle.std.specs.Prelude.{ℕ, zero, suc, length, ◌==◌, ◌&&◌, not, Bool, true, false, List, [], ◌∷◌, ◌++◌, codes}
+use Rattle.std.specs.Prelude.{Option, Some, None, is_some, if◌then◌else◌}
 use Rattle.tt_calls.specs.declared.event.Event.{Event}
 use Rattle.tt_calls.specs.declared.event.Event.TheVariants as event
 use Rattle.tt_calls.specs.declared.outcome.Code.{Code}
@@ -14,7 +15,8 @@ use Rattle.tt_chans.specs.Channels as channels
 use Rattle.tt_ids.specs.Ids.{id}
 use Rattle.tt_ids.specs.declared.id.IdKind.TheVariants.{Thread}
 use Rattle.tt_lists.specs.Spelling.{list_of}
-use Rattle.tt_shared.specs.Mail.{first_of, is_answered, posted, queued, variable_post, with_plain, without_first, without_variable}
+use Rattle.tt_shared.specs.Mail.{first_of, is_answered, posted, queued, variable_post, with_plain, without_first}
+use Rattle.tt_shared.specs.Mail.{without_variable}
 use Rattle.tt_shared.specs.State.{Acted, State, answer, answers, is_not_asked, no_thread, refuses}
 use Rattle.tt_shared.specs.declared.posts.VariablePost.{VariablePost}
 use Rattle.tt_shared.specs.declared.reports.ErrorProcedure.{ErrorProcedure}

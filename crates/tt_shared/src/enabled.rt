@@ -1,5 +1,6 @@
 ghost use Rattle.std.specs.Prelude.{◌≡◌, IsTrue};
-ghost use Rattle.tt_shared.specs.Enabled.{can_pool, can_send, enabled, is_below_mark, is_look, is_own_waiting, takes_more};
+ghost use Rattle.tt_shared.specs.Enabled.{can_pool, can_send, enabled, is_below_mark, is_look, is_own_waiting};
+ghost use Rattle.tt_shared.specs.Enabled.{takes_more};
 ghost use Rattle.tt_shared.specs.Mail.{scripts_of};
 ghost use Rattle.tt_slots.specs.Waiting.{slot_of};
 ghost use Rattle.tt_threads.specs.Rows.{is_living, row_of};

@@ -1,5 +1,6 @@
 ghost use Rattle.std.specs.Prelude.{◌≡◌, ◌+◌, ◌^◌, ◌↔◌, OnOk, IsErr, IsSome, Some, option_copied, option_map};
-ghost use Rattle.tt_shared.specs.Mail.{is_owed, no_posts, posted, posts_after, variable_post, with_plain, without_variable};
+ghost use Rattle.tt_shared.specs.Mail.{is_owed, no_posts, posted, posts_after, variable_post, with_plain};
+ghost use Rattle.tt_shared.specs.Mail.{without_variable};
 ghost use Rattle.tt_slots.specs.Waiting.{after_take, slot_of, state_of, with_state};
 ghost use Rattle.tt_slots.specs.declared.slot.SlotState.TheVariants.{Result as Answered, Waiting};
 

@@ -1,5 +1,6 @@
 ghost use Rattle.std.specs.Prelude.{◌≡◌, IfOk, OnOk, option_copied};
-ghost use Rattle.tt_shared.specs.Sends.{call_of, is_linked_row, name_of, names_procedure, procedure_in_use, procedure_set, report_text, reports};
+ghost use Rattle.tt_shared.specs.Sends.{call_of, is_linked_row, name_of, names_procedure, procedure_in_use};
+ghost use Rattle.tt_shared.specs.Sends.{procedure_set, report_text, reports};
 ghost use Rattle.tt_threads.specs.Rows.{row_of};
 
 use crate::{Applied, Shared};

@@ -77,7 +77,7 @@ impl Shared {
         ensures state { OnOk result (self.new ≡ (broadcasts self.old thread script.now).state) }
         ensures gives { IfOk result (λ gives. gives ≡ (broadcasts self.old thread script.now).gives) }
     {
-        for place in 0..self.threads.made() {
+        for place in 0..self.threads.thread_count() {
             self.tell_other(thread, place + 1, script)?;
         }
         Ok(self.answer(Reply::Go))

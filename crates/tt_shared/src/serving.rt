@@ -1,6 +1,7 @@
 ghost use Rattle.std.specs.Prelude.{◌≡◌, IfOk, OnOk};
 ghost use Rattle.tt_shared.specs.Mail.{variable_post};
-ghost use Rattle.tt_shared.specs.Sends.{awaits, come, delivers, delivers_to, is_due, is_failed, is_target, served, sets, slot_reply, takes};
+ghost use Rattle.tt_shared.specs.Sends.{awaits, come, delivers, delivers_to, is_due, is_failed, is_target, served};
+ghost use Rattle.tt_shared.specs.Sends.{sets, slot_reply, takes};
 ghost use Rattle.tt_shared.specs.State.{answer};
 
 use crate::{Applied, Shared, VariablePost};

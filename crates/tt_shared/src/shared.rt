@@ -95,10 +95,10 @@ impl Shared {
     }
 
     /// How many threads were made, those that have ended among them. It takes no memory.
-    pub fn made(&self) -> u32
+    pub fn thread_count(&self) -> u32
         ensures made { result ≡ length self.now.rows }
     {
-        self.threads.made()
+        self.threads.thread_count()
     }
 
     /// The exit code of the run, from 0 to 255, if it is over. It takes no memory.

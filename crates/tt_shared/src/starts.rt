@@ -78,7 +78,7 @@ impl Shared {
         Ok(self.answer(reply))
     }
 
-    // One hold less; a thread that nobody holds any more is told to stop.
+    // One hold less; a thread that nobody holds any more is asked to stop.
     pub(crate) fn release(
         &mut self,
         thread: u32,

@@ -1,5 +1,6 @@
 ghost use Rattle.std.specs.Prelude.{◌≡◌, ◌<◌, false, None, Some, OnOk, OnErr, IsSome, option_copied, option_map};
-ghost use Rattle.tt_slots.specs.Waiting.{after_end, after_take, died_with, is_waiting, no_slots, slot_of, state_of, with_slot, with_state};
+ghost use Rattle.tt_slots.specs.Waiting.{after_end, after_take, died_with, is_waiting, no_slots, slot_of, state_of};
+ghost use Rattle.tt_slots.specs.Waiting.{with_slot, with_state};
 ghost use Rattle.tt_slots.specs.declared.slot.SlotState.TheVariants.{Died, Result, Waiting};
 
 use crate::{Slot, SlotState};

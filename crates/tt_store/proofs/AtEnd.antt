@@ -1,4 +1,4 @@
--- What is told of a value that grew where it stands is what is made of the value that was found.
+-- What is reported of a value that grew where it stands is what is made of the value that was found.
 use Rattle.std.proofs.Common.{◌≡◌, ℕ, List, [], Result, Ok, Err, IfOk, refl, ap, sym, subst, ◌∙◌}
 use Rattle.tt_calls.specs.declared.outcome.Outcome.{Outcome}
 use Rattle.tt_calls.specs.Outcomes.{failed, fine}
@@ -25,14 +25,15 @@ same_err h = cc
 ok_is_err : {x : ListAnswer} {y : VarFault} → ◌≡◌ {A = Result ListAnswer VarFault} (Ok x) (Err y) → ⊥
 ok_is_err h = cc
 
--- the value that was found, where one was made longer
+-- the value that was found, if one was made longer
 found : (growth : Growth) (texts : List (List ℕ)) (word : List ℕ) (old : Held) (answer : ListAnswer) (read : Result (List ℕ) VarFault)
     → Ok answer ≡ result_of (grown growth texts) read → answer ≡ made_of word (grown growth texts) (counting [] read)
 found growth texts word old answer (Ok value) is = same_ok is
 found growth texts word old answer (Err fault) is = absurd (ok_is_err is)
 
 -- the fault that was found
-missed : (growth : Growth) (texts : List (List ℕ)) (fault : VarFault) (read : Result (List ℕ) VarFault) → Err fault ≡ result_of (grown growth texts) read → read ≡ Err fault
+missed : (growth : Growth) (texts : List (List ℕ)) (fault : VarFault) (read : Result (List ℕ) VarFault) → Err fault ≡ result_of (grown growth texts) read →
+    read ≡ Err fault
 missed growth texts fault (Ok value) is = absurd (ok_is_err (sym is))
 missed growth texts fault (Err other) is = ap Err (sym (same_err is))
 
@@ -41,8 +42,12 @@ module _ (growth : Growth) (texts : List (List ℕ)) (word : List ℕ) (old : He
       → variables.Grows growth texts old.levels.frames (place old (spot_of word)) new.levels.frames (Ok answer) → GivesMade word answer old outcome new
       → Changes word [] (grown growth texts) old outcome new
   from-made new answer outcome grew gives =
-      let read = variables.read_at old.levels.frames (spot_of word).index grew.0.0 in
-      (counting [] read, (read, (grew.0.0, grew.0.1, refl), refl), subst (λ a. GivesMade word a old outcome new) (found growth texts word old answer read grew.0.2) gives)
+      let read = variables.read_at old.levels.frames (spot_of word).index grew.0.0 in (
+        counting [] read,
+        (read, (grew.0.0, grew.0.1, refl), refl),
+        subst (λ a. GivesMade word a old outcome new)
+            (found growth texts word old answer read grew.0.2) gives,
+      )
 
   pub made : (new : Held) (text : List ℕ) (outcome : Outcome)
       → variables.Grows growth texts old.levels.frames (place old (spot_of word)) new.levels.frames (Ok (Made text))
@@ -79,7 +84,8 @@ module _ (growth : Growth) (texts : List (List ℕ)) (word : List ℕ) (old : He
       → counting [] (Err fault) ≡ Err fault → outcome ≡ failed (cannot_read word fault)
       → Changes word [] (grown growth texts) old outcome new
   unread new fault outcome grew rest watches counts told =
-      from-missed new new fault grew outcome (subst (λ r. GivesMade word (made_of word (grown growth texts) r) old outcome new) (sym counts) (told, same new rest grew.1 watches))
+      from-missed new new fault grew outcome
+      (subst (λ r. GivesMade word (made_of word (grown growth texts) r) old outcome new) (sym counts) (told, same new rest grew.1 watches))
 
   pub begun : (mid new : Held) (fault : VarFault) (outcome : Outcome)
       → variables.Grows growth texts old.levels.frames (place old (spot_of word)) mid.levels.frames (Err fault)

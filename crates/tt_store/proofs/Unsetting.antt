@@ -4,7 +4,7 @@ use Rattle.std.proofs.lemmas.List.{drop_all}
 use Rattle.tt_store.specs.Held.{Held}
 use Rattle.tt_store.specs.Scalars.{DropsOne, Unsets, none, more, fails}
 
--- what is left, where one more comes
+-- what is left, if one more comes
 pub next-left : {X : Type 0} (names : List X) (i : ℕ) (name : X) → i < length names → name ≡ get_or names i name → drop i names ≡ name ∷ drop (i + 1) names
 next-left names i name within is = rw (add-one, drop-cons names i name) (ap (λ x. x ∷ drop (suc i) names) (sym is))
 

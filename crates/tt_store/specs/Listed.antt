@@ -20,7 +20,7 @@ abbrev pub lappend : Meaning
 lappend usage (name ∷ values) old outcome new = Changes name [] (listed values) old outcome new
 lappend usage [] old outcome new = Refuses usage old outcome new
 
--- a text is given to a variable; the message, where it can't be
+-- a text is given to a variable; the message, if it can't be
 abbrev pub message_of : (word : List ℕ) → Written → Option (List ℕ)
 message_of word Yes = None
 message_of word (No fault) = Some (cannot_set word fault)
@@ -42,12 +42,12 @@ pub data Assigns : (pairs : List (List ℕ × List ℕ)) → (old : Held) → Op
       AssignsOne word text old (Some told) new →
       Assigns ((word, text) ∷ pairs) old (Some told) new
 
--- the first item, and the empty text where there is none
+-- the first item, and the empty text if there is none
 abbrev pub first_of : (items : List (List ℕ)) → List ℕ
 first_of [] = []
 first_of (item ∷ items) = item
 
--- names and items, where an item that is missing is empty
+-- names and items, if an item that is missing is empty
 abbrev pub paired : (names items : List (List ℕ)) → List (List ℕ × List ℕ)
 paired [] items = []
 paired (name ∷ names) items = (name, first_of items) ∷ paired names (drop 1 items)

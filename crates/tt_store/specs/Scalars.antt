@@ -48,7 +48,7 @@ abbrev pub GivesMade : (word : List ℕ) → ListAnswer → (old : Held) → Out
 GivesMade word (Made text) old outcome new = Gives word text old outcome new
 GivesMade word (Bad message) old outcome new = Fails message old outcome new
 
--- the value that is found, where a missing variable counts as a text
+-- the value that is found, if a missing variable counts as a text
 abbrev pub Counts : (word missing : List ℕ) → Held → Result (List ℕ) VarFault → Type 0
 Counts word missing held found =
     (read : Result (List ℕ) VarFault)
@@ -102,7 +102,7 @@ abbrev pub told_of : (nocomplain : Bool) → Result Unit VarFault → Option Var
 told_of nocomplain (Ok unit) = None
 told_of nocomplain (Err fault) = if is_skipped nocomplain fault then None else Some fault
 
--- one variable is removed; the message, where it can't be
+-- one variable is removed; the message, if it can't be
 abbrev pub DropsOne : (nocomplain : Bool) → (word : List ℕ) → (old : Held) → Option (List ℕ) → (new : Held) → Type 0
 DropsOne nocomplain word old message new =
     (removed : Result Unit VarFault)

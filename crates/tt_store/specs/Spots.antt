@@ -15,7 +15,7 @@ spot_by None name index = record { global = false; name = name; index = index }
 abbrev pub spot : Name → Option Name → Spot
 spot name index = spot_by (global_of name) name index
 
--- what a command's word names, where a(b) is element b of a
+-- what a command's word names, if a(b) is element b of a
 abbrev pub spot_in : (element : Option (Name × Name)) → (word : Name) → Spot
 spot_in (Some element) word = spot element.0 (Some element.1)
 spot_in None word = spot word None
@@ -23,7 +23,7 @@ spot_in None word = spot word None
 abbrev pub spot_of : (word : Name) → Spot
 spot_of word = spot_in (element_of word) word
 
--- its place, where a frame is the current one
+-- its place, if a frame is the current one
 abbrev pub place_in : (current : ℕ) → Spot → Place
 place_in current spot = place_of (if spot.global then 0 else current) spot.name spot.index
 

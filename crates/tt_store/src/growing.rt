@@ -44,7 +44,7 @@ impl Store {
         Ok(outcome)
     }
 
-    // The same, where the spot is that of the word.
+    // The same, if the spot is that of the word.
     fn grow_at(
         &mut self,
         word: &Text,

@@ -40,7 +40,7 @@ impl Store {
         Ok(outcome)
     }
 
-    // The message, where a variable can't be set.
+    // The message, if a variable can't be set.
     fn assign(&mut self, items: &[Text], names: &[Text]) -> Result<Option<Text>, NoMemory>
         ensures { IfOk result (λ message.
             listed.Assigns (listed.paired names.now items.now) self.old message self.new) }

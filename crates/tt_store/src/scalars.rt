@@ -50,7 +50,7 @@ impl Store {
         Ok(outcome)
     }
 
-    // The value of a word's variable, where a missing one counts as this text.
+    // The value of a word's variable, if a missing one counts as this text.
     fn counted(&self, word: &Text, missing: &[u8]) -> Result<Result<Text, VarFault>, NoMemory>
         ensures { IfOk result (scalars.Counts word.now missing.now self.now) }
     {
@@ -95,7 +95,7 @@ impl Store {
         Ok(outcome)
     }
 
-    // The message, where a variable can't be removed.
+    // The message, if a variable can't be removed.
     fn unset_each(&mut self, nocomplain: bool, names: &[Text]) -> Result<Option<Text>, NoMemory>
         ensures { IfOk result (λ message. scalars.Unsets nocomplain names.now self.old message self.new) }
     {

@@ -89,7 +89,7 @@ impl Store {
     }
 
     /// What was begun last has ended (proc(n), uplevel(n), eval(n)): a procedure's body, whose frame is gone then, a
-    /// body of eval(n) or uplevel(n), or a script at global level. The frame is current that was so before. Where
+    /// body of eval(n) or uplevel(n), or a script at global level. The frame is current that was so before. If
     /// nothing was begun nothing changes.
     pub fn leave(&mut self)
         ensures ended { self.new ≡ held.after_end self.old }
@@ -114,7 +114,7 @@ impl Store {
     }
 
     /// Whether the variable of the innermost wait was written since it began: the scalar or the element that its name
-    /// stands for after its links, by whatever name. False where there is none.
+    /// stands for after its links, by whatever name. False if there is none.
     pub fn seen(&self) -> bool
         ensures seen { result ≡ held.is_seen self.now }
     {
@@ -124,7 +124,7 @@ impl Store {
         }
     }
 
-    /// The innermost wait has ended. Where there is none nothing changes.
+    /// The innermost wait has ended. If there is none nothing changes.
     pub fn unwatch(&mut self)
         ensures unwatched { self.new ≡ held.unwatched self.old }
     {

@@ -100,11 +100,13 @@ pub all_back : (P : Character → Type 0) (front back : List Character) → AllB
 all_back P [] back h = h
 all_back P (c ∷ front) back h = all_back P front back h.1
 
-front_apart : (front back : List Character) → AllByRecursion BeginsAnywhere (later_characters (front ++ back)) → AllByRecursion BeginsAnywhere (later_characters front)
+front_apart : (front back : List Character) → AllByRecursion BeginsAnywhere (later_characters (front ++ back)) →
+    AllByRecursion BeginsAnywhere (later_characters front)
 front_apart [] back h = tt
 front_apart (c ∷ front) back h = all_front BeginsAnywhere front back h
 
-back_apart : (front back : List Character) → AllByRecursion BeginsAnywhere (later_characters (front ++ back)) → AllByRecursion BeginsAnywhere (later_characters back)
+back_apart : (front back : List Character) → AllByRecursion BeginsAnywhere (later_characters (front ++ back)) →
+    AllByRecursion BeginsAnywhere (later_characters back)
 back_apart [] back h = h
 back_apart (c ∷ front) back h = later_all back (all_back BeginsAnywhere front back h)
 
@@ -115,7 +117,7 @@ whole_text text = (character_laws.cut text).joined
 cut_of_text : (text : List ℕ) → IsCut (characters text)
 cut_of_text text = record { each = (character_laws.cut text).each; apart = (character_laws.cut text).apart }
 
--- where a text's characters are cut in two, the bytes before and after make the same characters
+-- if a text's characters are cut in two, the bytes before and after make the same characters
 pub record IsCutAt (text : List ℕ) (front back : List Character) : Type 0 where
   pub bytes : text ≡ bytes_of front ++ bytes_of back
   pub front_is : characters (bytes_of front) ≡ front

@@ -34,8 +34,10 @@ all_passed splitting text left e h =
     let P : List Character → Type 0 = HasNone splitting in
     subst P (sym (h.cut ∙ ap (λ l. h.front ++ l) e ∙ append-nil h.front)) h.none
 
-pub found_field : (splitting : List Character) (text left : List ℕ) (c : Character) (rest : List Character) → characters left ≡ c ∷ rest → is_among splitting c ≡ true
-    → IsPassed splitting (characters text) (characters left) → BeginsWithField splitting (characters text) (characters (take (length text - length left) text)) rest
+pub found_field : (splitting : List Character) (text left : List ℕ) (c : Character) (rest : List Character) → characters left ≡ c ∷ rest →
+    is_among splitting c ≡ true
+    → IsPassed splitting (characters text) (characters left) →
+    BeginsWithField splitting (characters text) (characters (take (length text - length left) text)) rest
 found_field splitting text left c rest e is h =
     let same : characters (take (length text - length left) text) ≡ h.front = before_rest text left h.front h.cut in
     let P : List Character → Type 0 = HasNone splitting in
@@ -55,7 +57,8 @@ pub field_more : (splitting : List Character) (text rest : List Character) (firs
 field_more splitting text rest first made more e b s =
     let P : List ℕ → Type 0 = λ m. IsSplit splitting text (m ∷ more) in subst P (whole_text first ∙ sym e) (field b s)
 
-pub last_field : (splitting : List Character) (text made : List ℕ) → made ≡ text → HasNone splitting (characters text) → IsSplit splitting (characters text) (made ∷ [])
+pub last_field : (splitting : List Character) (text made : List ℕ) → made ≡ text → HasNone splitting (characters text) →
+    IsSplit splitting (characters text) (made ∷ [])
 last_field splitting text made e none = let P : List ℕ → Type 0 = λ m. IsSplit splitting (characters text) (m ∷ []) in subst P (whole_text text ∙ sym e) (last none)
 
 pub regroup : (splitting text : List Character) (all done : List (List ℕ)) (made : List ℕ) (more : List (List ℕ)) → all ≡ done ++ made ∷ []
@@ -72,7 +75,8 @@ nothing : (text : List ℕ) → length text < 1 → characters text ≡ []
 nothing [] h = refl
 nothing (b ∷ text) h = absurd (omega arith)
 
-pub no_text : (splitting : List Character) (text : List ℕ) (fields : List (List ℕ)) → length text < 1 → fields ≡ [] → IsSplitInto splitting (characters text) fields
+pub no_text : (splitting : List Character) (text : List ℕ) (fields : List (List ℕ)) → length text < 1 → fields ≡ [] →
+    IsSplitInto splitting (characters text) fields
 no_text splitting text fields few e = let P : List Character → Type 0 = λ t. IsSplitInto splitting t fields in subst P (sym (nothing text few)) (on splitting) where
   on : (s : List Character) → IsSplitInto s [] fields
   on [] = e
@@ -90,7 +94,8 @@ each_one splitting text fields some few e =
     let Q : List Character → Type 0 = λ t. IsSplitInto [] t fields in
     subst P (sym (nothing splitting few)) (subst Q (sym first.cut) (e ∙ first.cut))
 
-pub between_some : (splitting text : List ℕ) (fields : List (List ℕ)) → 1 ≤ length text → 1 ≤ length splitting → IsSplit (characters splitting) (characters text) fields
+pub between_some : (splitting text : List ℕ) (fields : List (List ℕ)) → 1 ≤ length text → 1 ≤ length splitting →
+    IsSplit (characters splitting) (characters text) fields
     → IsSplitInto (characters splitting) (characters text) fields
 between_some splitting text fields some more h =
     let first = some_first text some in

@@ -67,14 +67,15 @@ pub empty_nowhere : (text key : List ℕ) → length key < 1 → IsNotAtFront ke
 empty_nowhere text [] h rest at = at.some refl
 empty_nowhere text (b ∷ key) h rest at = absurd (omega arith)
 
--- where its bytes don't stand, it doesn't
+-- if its bytes don't stand, it doesn't
 pub no_bytes : (text key : List ℕ) → ((rest : List ℕ) → text ≢ key ++ rest) → IsNotAtFront key (characters text)
 no_bytes text key none rest at = none (bytes_of rest) (key_bytes text key rest at.cut)
 
--- where its bytes end in a character, it doesn't
+-- if its bytes end in a character, it doesn't
 pub cut_character : (text key after : List ℕ) → text ≡ key ++ after → goes_on after ≡ true → IsNotAtFront key (characters text)
 cut_character text key after e goes rest at =
-    let same : after ≡ bytes_of rest = sym (drop-append_seam key after) ∙ ap (drop (length key)) (sym e ∙ key_bytes text key rest at.cut) ∙ drop-append_seam key (bytes_of rest) in
+    let same : after ≡ bytes_of rest =
+    sym (drop-append_seam key after) ∙ ap (drop (length key)) (sym e ∙ key_bytes text key rest at.cut) ∙ drop-append_seam key (bytes_of rest) in
     let stops : goes_on after ≡ false = ap goes_on same ∙ begins_no (bytes_of rest) (fresh_begins rest (rest_fresh text key rest at.some at.cut)) in
     absurd (clash (sym goes ∙ stops))
 

@@ -14,7 +14,8 @@ pair_of (a ∷ []) first second key value long f s k v = absurd (omega arith)
 pair_of (a ∷ b ∷ left) first second key value long f s k v =
     record { cut = ap (λ x. x ∷ b ∷ left) (sym (k ∙ f)) ∙ ap (λ x. key ∷ x ∷ left) (sym (v ∙ s)) }
 
-pub pair_here : (left : List (List ℕ)) (key value : List ℕ) (more : List (List ℕ)) (text rest : List Character) → IsPair left key value more → IsAtFront key text rest → IsFirstPair left text value rest
+pub pair_here : (left : List (List ℕ)) (key value : List ℕ) (more : List (List ℕ)) (text rest : List Character) → IsPair left key value more →
+    IsAtFront key text rest → IsFirstPair left text value rest
 pair_here left key value more text rest p at = let P : List (List ℕ) → Type 0 = λ l. IsFirstPair l text value rest in subst P (sym p.cut) (here at)
 
 pub pair_later : (left : List (List ℕ)) (key other : List ℕ) (more : List (List ℕ)) (text rest : List Character) (value : List ℕ)
@@ -31,16 +32,19 @@ few_none [] text h = tt
 few_none (a ∷ []) text h = tt
 few_none (a ∷ b ∷ left) text h = absurd (omega arith)
 
-pub step_kept : (pairs : List (List ℕ)) (text : List Character) (c : Character) (rest : List Character) → text ≡ c ∷ rest → HasNoPair pairs text → IsStep pairs text c rest
+pub step_kept : (pairs : List (List ℕ)) (text : List Character) (c : Character) (rest : List Character) → text ≡ c ∷ rest → HasNoPair pairs text →
+    IsStep pairs text c rest
 step_kept pairs text c rest e none =
     let P : List Character → Type 0 = HasNoPair pairs in
     let Q : List Character → Type 0 = λ t. IsStep pairs t c rest in
     subst Q (sym e) (kept (subst P e none))
 
-pub step_replaced : (pairs : List (List ℕ)) (text : List Character) (value : List ℕ) (rest : List Character) → IsFirstPair pairs text value rest → IsStep pairs text value rest
+pub step_replaced : (pairs : List (List ℕ)) (text : List Character) (value : List ℕ) (rest : List Character) → IsFirstPair pairs text value rest →
+    IsStep pairs text value rest
 step_replaced pairs text value rest h = replaced h
 
-pub mapped_more : (pairs : List (List ℕ)) (text : List Character) (all done part more : List ℕ) → all ≡ done ++ part → IsMapped pairs text (done ++ (part ++ more)) → IsMapped pairs text (all ++ more)
+pub mapped_more : (pairs : List (List ℕ)) (text : List Character) (all done part more : List ℕ) → all ≡ done ++ part →
+    IsMapped pairs text (done ++ (part ++ more)) → IsMapped pairs text (all ++ more)
 mapped_more pairs text all done part more e h =
     let P : List ℕ → Type 0 = IsMapped pairs text in subst P (sym (ap (λ t. t ++ more) e ∙ append_assoc done part more)) h
 

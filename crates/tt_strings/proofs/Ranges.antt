@@ -1,5 +1,6 @@
 -- Characters by their places.
-use Rattle.std.proofs.Common.{◌≡◌, ℕ, zero, suc, ◌+◌, ◌-◌, ◌≤◌, Bool, true, false, List, [], ◌∷◌, ◌++◌, length, take, drop, min, get_or, refl, sym, ap, ◌∙◌, arith, length-append, append-nil}
+use Rattle.std.proofs.Common.{◌≡◌, ℕ, zero, suc, ◌+◌, ◌-◌, ◌≤◌, Bool, true, false, List, [], ◌∷◌, ◌++◌, length, take}
+use Rattle.std.proofs.Common.{drop, min, get_or, refl, sym, ap, ◌∙◌, arith, length-append, append-nil}
 use Rattle.std.specs.Prelude.{ℤ, pos, negsuc}
 use Rattle.std.proofs.lemmas.List.{take-append-drop, take_min, drop_min, length-take}
 use Rattle.std.proofs.Math.Seq.{take-append_seam, drop-nil, take-nil}
@@ -7,7 +8,8 @@ use Rattle.tt_text.specs.Characters.{Character, characters, begin_with, continue
 use Rattle.tt_strings.specs.Places.{bytes_of, character_at, places_before, places_through, range}
 use Rattle.tt_strings.proofs.Cuts.{cut_at, whole_text}
 
-begin_cases : (b n : ℕ) (more : List ℕ) (later : List Character) (v : Bool) → continues_character n ≡ v → length (begin_with b ((n ∷ more) ∷ later)) ≤ 1 + suc (length later)
+begin_cases : (b n : ℕ) (more : List ℕ) (later : List Character) (v : Bool) → continues_character n ≡ v →
+    length (begin_with b ((n ∷ more) ∷ later)) ≤ 1 + suc (length later)
 begin_cases b n more later true e = rw (e, begin_with) (omega arith)
 begin_cases b n more later false e = rw (e, begin_with) (omega arith)
 
@@ -31,7 +33,8 @@ rest_no_longer text rest front e =
     let long : length text ≡ length (bytes_of front) + length rest = ap length (split_text text rest front e) ∙ length-append (bytes_of front) rest in
     omega (arith, long)
 
-pub before_rest : (text rest : List ℕ) (front : List Character) → characters text ≡ front ++ characters rest → characters (take (length text - length rest) text) ≡ front
+pub before_rest : (text rest : List ℕ) (front : List Character) → characters text ≡ front ++ characters rest →
+    characters (take (length text - length rest) text) ≡ front
 before_rest text rest front e =
     let long : length text ≡ length (bytes_of front) + length rest = ap length (split_text text rest front e) ∙ length-append (bytes_of front) rest in
     let count : length text - length rest ≡ length (bytes_of front) = omega (arith, long) in
@@ -76,7 +79,8 @@ one_character (pos n) characters = one_place n characters
 one_character (negsuc n) characters = refl
 
 -- the characters after those before `first`, among those through `last`
-pub between : (text front middle : List ℕ) (first last : ℤ) (m n : ℕ) → m ≡ min (places_through last) (length text) → n ≡ min (places_before first) (length text)
+pub between : (text front middle : List ℕ) (first last : ℤ) (m n : ℕ) → m ≡ min (places_through last) (length text) →
+    n ≡ min (places_before first) (length text)
     → characters front ≡ take m (characters text)
     → characters middle ≡ drop n (characters front)
     → characters middle ≡ range first last (characters text)

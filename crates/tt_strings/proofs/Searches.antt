@@ -1,5 +1,7 @@
 -- Searching a needle's characters by its bytes.
-use Rattle.std.proofs.Common.{◌⊎◌, inl, inr, ◌≡◌, ◌≢◌, ℕ, suc, ◌+◌, ◌-◌, ◌<◌, ◌≤◌, true, false, List, [], ◌∷◌, ◌++◌, Some, None, length, take, drop, get_or, refl, sym, ap, subst, ◌∙◌, arith, append_assoc, length-append, length-drop, length-take-le, get_or-drop, get_or-take}
+use Rattle.std.proofs.Common.{◌⊎◌, inl, inr, ◌≡◌, ◌≢◌, ℕ, suc, ◌+◌, ◌-◌, ◌<◌, ◌≤◌, true, false, List, [], ◌∷◌, ◌++◌}
+use Rattle.std.proofs.Common.{Some, None, length, take, drop, get_or, refl, sym, ap, subst, ◌∙◌, arith, append_assoc}
+use Rattle.std.proofs.Common.{length-append, length-drop, length-take-le, get_or-drop, get_or-take}
 use Rattle.std.specs.List.{AllByRecursion}
 use Rattle.std.proofs.lemmas.Bool.{false≢true, cases_lt}
 use Rattle.std.proofs.lemmas.List.{take_rest}
@@ -72,7 +74,8 @@ nowhere_from needle text from h =
     let P : List ℕ → Type 0 = λ part. Nowhere (OccursAt part needle) 0 (length part + 1) in
     subst P (take_rest text from) h
 
-none_to : (needle text : List ℕ) (from at : ℕ) → from ≤ length text → NoneUpTo needle text from → FoundFrom needle text from at → NoneUpTo needle text (from + at)
+none_to : (needle text : List ℕ) (from at : ℕ) → from ≤ length text → NoneUpTo needle text from → FoundFrom needle text from at →
+    NoneUpTo needle text (from + at)
 none_to needle text from at within none found k less w = by_side (cases_lt k from) where
   by_side : (k < from) ⊎ (from ≤ k) → ⊥
   by_side (inl before) = none k before w
@@ -183,7 +186,14 @@ shorter_front front [] rest more e each less = absurd (omega arith)
 shorter_front [] (c ∷ other) rest more e each less = omega (arith, nonempty c each.0, length-append c (bytes_of other))
 shorter_front (b ∷ front) (c ∷ other) rest more e each less =
     let same = same_first b c (front ++ rest) (other ++ more) e in
-    omega (arith, shorter_front front other rest more same.1 each.1 (omega arith), ap length same.0, length-append b (bytes_of front), length-append c (bytes_of other))
+    omega (
+      arith,
+      shorter_front front other rest more same.1 each.1 (omega arith),
+      ap length same.0,
+      length-append b (bytes_of front),
+      length-append c
+          (bytes_of other),
+    )
 
 stands : (needle text : List ℕ) (k : ℕ) (w : IsWholeAt needle text k) → StandsAt (characters needle) (characters text) (length w.before)
 stands needle text k w = record { before = w.before; after = w.after; cut = w.cut; place_is = refl }
@@ -194,7 +204,8 @@ whole_of needle text p s = record { before = s.before; after = s.after; cut = s.
 each_before : (text : List ℕ) (front rest : List Character) → characters text ≡ front ++ rest → AllByRecursion IsCharacter front
 each_before text front rest e = let P : List Character → Type 0 = AllByRecursion IsCharacter in all_front IsCharacter front rest (subst P e (character_laws.cut text).each)
 
-regrouped : (text needle : List ℕ) (before after : List Character) → characters text ≡ (before ++ characters needle) ++ after → characters text ≡ before ++ (characters needle ++ after)
+regrouped : (text needle : List ℕ) (before after : List Character) → characters text ≡ (before ++ characters needle) ++ after →
+    characters text ≡ before ++ (characters needle ++ after)
 regrouped text needle before after e = e ∙ append_assoc before (characters needle) after
 
 -- the characters before a place are those of the bytes before it
@@ -209,7 +220,8 @@ place_is needle text k w =
 pub nowhere : (needle text : List ℕ) → ((k : ℕ) → ¬ IsWholeAt needle text k) → (p : ℕ) → ¬ StandsAt (characters needle) (characters text) p
 nowhere needle text none p s = none (length (bytes_of s.before)) (whole_of needle text p s)
 
-fewer : (needle text : List ℕ) (p : ℕ) (s : StandsAt (characters needle) (characters text) p) (k : ℕ) (w : IsWholeAt needle text k) → length s.before < length w.before
+fewer : (needle text : List ℕ) (p : ℕ) (s : StandsAt (characters needle) (characters text) p) (k : ℕ) (w : IsWholeAt needle text k) →
+    length s.before < length w.before
     → length (bytes_of s.before) < k
 fewer needle text p s k w less =
     let short : length (bytes_of s.before) < length (bytes_of w.before) =
@@ -218,7 +230,8 @@ fewer needle text p s k w less =
     (each_before text w.before (characters needle ++ w.after) (regrouped text needle w.before w.after w.cut)) less in
     omega (arith, short, w.start_is)
 
-more : (needle text : List ℕ) (p : ℕ) (s : StandsAt (characters needle) (characters text) p) (k : ℕ) (w : IsWholeAt needle text k) → length w.before < length s.before
+more : (needle text : List ℕ) (p : ℕ) (s : StandsAt (characters needle) (characters text) p) (k : ℕ) (w : IsWholeAt needle text k) →
+    length w.before < length s.before
     → k < length (bytes_of s.before)
 more needle text p s k w less =
     let short : length (bytes_of w.before) < length (bytes_of s.before) =

@@ -1,5 +1,7 @@
 -- Bytes and whole characters at a place.
-use Rattle.std.proofs.Common.{◌⊎◌, inl, inr, ◌≡◌, ◌≢◌, ℕ, zero, suc, ◌+◌, ◌≤◌, Bool, true, false, not, ◌||◌, List, [], ◌∷◌, ◌++◌, length, take, drop, refl, sym, ap, subst, ◌∙◌, arith, append_assoc, length-append, length-take-le, take-append-drop}
+use Rattle.std.proofs.Common.{◌⊎◌, inl, inr, ◌≡◌, ◌≢◌, ℕ, zero, suc, ◌+◌, ◌≤◌, Bool, true, false, not, ◌||◌, List, []}
+use Rattle.std.proofs.Common.{◌∷◌, ◌++◌, length, take, drop, refl, sym, ap, subst, ◌∙◌, arith, append_assoc}
+use Rattle.std.proofs.Common.{length-append, length-take-le, take-append-drop}
 use Rattle.std.specs.Prelude.{◌==◌}
 use Rattle.std.specs.List.{AllByRecursion}
 use Rattle.std.proofs.lemmas.Bool.{and_from, and_parts, eq-eqb, not_from_false, false≢true}
@@ -38,7 +40,8 @@ whole_fits needle text k w =
 -- a needle's bytes stand where its characters do
 pub whole_occurs : (needle text : List ℕ) (k : ℕ) → IsWholeAt needle text k → OccursAt text needle k
 whole_occurs needle text k w =
-    OccursAt-from_part text needle k (whole_fits needle text k w) (ap (take (length needle)) (from_start needle text k w) ∙ take-append_seam needle (bytes_of w.after))
+    OccursAt-from_part text needle k (whole_fits needle text k w)
+    (ap (take (length needle)) (from_start needle text k w) ∙ take-append_seam needle (bytes_of w.after))
 
 from_end : (needle text : List ℕ) (k : ℕ) (w : IsWholeAt needle text k) → drop (k + length needle) text ≡ bytes_of w.after
 from_end needle text k w =
@@ -69,7 +72,8 @@ ends_whole needle text k some w =
     let first : First needle = first_of needle some in
     let P : List Character → Type 0 = λ l. w.before ++ l ≢ [] in
     let front : w.before ++ characters needle ≢ [] = subst P (sym first.cut) (not_empty w.before first.first first.later) in
-    ap goes_on (from_end needle text k w) ∙ begins_no (bytes_of w.after) (fresh_begins w.after (back_fresh text (w.before ++ characters needle) w.after front w.cut))
+    ap goes_on (from_end needle text k w)
+    ∙ begins_no (bytes_of w.after) (fresh_begins w.after (back_fresh text (w.before ++ characters needle) w.after front w.cut))
 
 starts_whole : (needle text : List ℕ) (k : ℕ) (w : IsWholeAt needle text k) → (k ≡ 0) ⊎ (goes_on (drop k text) ≡ false)
 starts_whole needle text k w = by_before w.before refl where
@@ -103,7 +107,9 @@ cut_start : (text : List ℕ) (k : ℕ) → ((k == 0) || not (goes_on (drop k te
 cut_start text zero h = refl
 cut_start text (suc k) h =
     ap characters (sym (take-append-drop (suc k) text))
-    ∙ append_fresh (take (suc k) text) (drop (suc k) text) (fresh_of (drop (suc k) text) (no_begins (drop (suc k) text) (not_true (goes_on (drop (suc k) text)) (sym (ap (λ b. b || not (goes_on (drop (suc k) text))) (eqb-suc-zero k)) ∙ h))))
+    ∙ append_fresh (take (suc k) text) (drop (suc k) text)
+    (fresh_of (drop (suc k) text)
+    (no_begins (drop (suc k) text) (not_true (goes_on (drop (suc k) text)) (sym (ap (λ b. b || not (goes_on (drop (suc k) text))) (eqb-suc-zero k)) ∙ h))))
 
 -- where the needle's bytes stand and the test holds, its characters stand
 pub test_whole : (needle text : List ℕ) (k : ℕ) → OccursAt text needle k → is_whole text k (k + length needle) ≡ true → IsWholeAt needle text k
@@ -116,6 +122,7 @@ test_whole needle text k o h =
     record {
       before = characters (take k text);
       after = characters rest;
-      cut = cut_start text k parts.1 ∙ ap (λ l. characters (take k text) ++ l) back ∙ sym (append_assoc (characters (take k text)) (characters needle) (characters rest));
+      cut = cut_start text k parts.1 ∙ ap (λ l. characters (take k text) ++ l) back
+          ∙ sym (append_assoc (characters (take k text)) (characters needle) (characters rest));
       start_is = ap length (whole_text (take k text)) ∙ length-take-le k text (omega (arith, fits));
     }

@@ -12,7 +12,7 @@ use Rattle.tt_strings.specs.declared.making.Repetition.TheVariants.{Made, TooLon
 abbrev pub longest : ℕ
 longest = 268435456
 
--- how often a count repeats: not at all where it is below 1 (string(n), string repeat)
+-- how often a count repeats: not at all if it is below 1 (string(n), string repeat)
 abbrev pub times : ℤ → ℕ
 times (pos n) = n
 times (negsuc n) = 0

@@ -23,9 +23,9 @@ pub enum Repetition {
     TooLong,
 }
 
-/// The text so many times over, and no time where the count is below 1 (string(n), string repeat).
+/// The text so many times over, and no time if the count is below 1 (string(n), string repeat).
 ///
-/// `NoMemory` where memory for it is refused.
+/// `NoMemory` if memory for it is refused.
 #[tactic(auto, using(crate::proofs::Copies::empty_repeated, crate::proofs::Copies::empty_fits))]
 pub fn repeated(alloc: Global, text: &[u8], count: i64) -> Result<Repetition, NoMemory>
     ensures { IfOk result (λ answer. IsRepeated answer text.now count) }
@@ -63,7 +63,7 @@ fn copies(alloc: Global, text: &[u8], count: usize) -> Result<Text, NoMemory>
 
 /// The text's characters in reverse order (string(n), string reverse).
 ///
-/// `NoMemory` where memory for it is refused.
+/// `NoMemory` if memory for it is refused.
 pub fn reversed(alloc: Global, text: &[u8]) -> Result<Text, NoMemory>
     ensures { IfOk result (λ made. made ≡ bytes_of (reverse (characters text.now))) }
 {
@@ -78,7 +78,7 @@ pub fn reversed(alloc: Global, text: &[u8]) -> Result<Text, NoMemory>
 
 /// The text with each of `A` to `Z` in lower case (string(n), string tolower, for ASCII letters).
 ///
-/// `NoMemory` where memory for it is refused.
+/// `NoMemory` if memory for it is refused.
 pub fn lower(alloc: Global, text: &[u8]) -> Result<Text, NoMemory>
     ensures { IfOk result (λ made. made ≡ map to_ascii_lowercase text.now) }
 {
@@ -87,7 +87,7 @@ pub fn lower(alloc: Global, text: &[u8]) -> Result<Text, NoMemory>
 
 /// The text with each of `a` to `z` in upper case (string(n), string toupper, for ASCII letters).
 ///
-/// `NoMemory` where memory for it is refused.
+/// `NoMemory` if memory for it is refused.
 pub fn upper(alloc: Global, text: &[u8]) -> Result<Text, NoMemory>
     ensures { IfOk result (λ made. made ≡ map to_ascii_uppercase text.now) }
 {

@@ -10,7 +10,7 @@ use tt_text::{NoMemory, Text, continues_character, split_character};
 /// The text with each key of the pairs replaced by the value after it (string(n), string map).
 ///
 /// At each place the first pair counts whose key stands there, and what has been put is not looked at again. An
-/// empty key and a last key without a value are passed over. `NoMemory` where memory for the text is refused.
+/// empty key and a last key without a value are passed over. `NoMemory` if memory for the text is refused.
 pub fn mapped(alloc: Global, pairs: &[Text], text: &[u8]) -> Result<Text, NoMemory>
     ensures { IfOk result (λ made. IsMapped pairs.now (characters text.now) made) }
 {

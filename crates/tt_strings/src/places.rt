@@ -5,7 +5,7 @@ ghost use Rattle.tt_strings.specs.Places.{character_at, bytes_of, places_before,
 
 use tt_text::split_character;
 
-/// The character at a place (string(n), string index): empty where the text has no such place.
+/// The character at a place (string(n), string index): empty if the text has no such place.
 ///
 /// The first character is at place 0.
 #[tactic(auto, using(crate::proofs::Ranges::one_character))]
@@ -53,7 +53,7 @@ fn places_through(place: i128, most: usize) -> usize
     }
 }
 
-/// The first characters of a text, so many, or all where it has fewer.
+/// The first characters of a text, so many, or all if it has fewer.
 pub fn leading(text: &[u8], count: usize) -> &[u8]
     ensures text { result.now ≡ bytes_of (take count (characters text.now)) }
     ensures characters { characters result.now ≡ take count (characters text.now) }

@@ -9,7 +9,7 @@ use tt_text::{NoMemory, Text, Texts, split_character};
 
 /// The fields of a text between the splitting characters (split(n)).
 ///
-/// Without splitting characters each character is a field. An empty text has no fields. `NoMemory` where memory
+/// Without splitting characters each character is a field. An empty text has no fields. `NoMemory` if memory
 /// for them is refused.
 #[tactic(auto, using(crate::proofs::Fields::no_text, crate::proofs::Fields::each_one, crate::proofs::Fields::between_some))]
 pub fn split_at(alloc: Global, text: &[u8], splitting: &[u8]) -> Result<Texts, NoMemory>

@@ -18,7 +18,7 @@ pub enum Side {
     Both,
 }
 
-/// White space, which is left out where no characters are named.
+/// White space, which is left out if no characters are named.
 pub static WHITE_SPACE: &[u8] = b"\t\n\x0b\x0c\r ";
 
 /// The text without those characters at the ends of that side (string(n), string trim).

@@ -1,5 +1,6 @@
 -- Digits, the numbers that they write, and runs at the front of a text.
-use Rattle.std.proofs.Common.{◌≡◌, ℕ, zero, suc, ◌+◌, ◌*◌, ◌^◌, ◌<◌, ◌≤◌, List, [], ◌∷◌, length, get_or, take, refl, sym, ap, subst, ◌∙◌, arith, add-one, Bool, true, false, cond}
+use Rattle.std.proofs.Common.{◌≡◌, ℕ, zero, suc, ◌+◌, ◌*◌, ◌^◌, ◌<◌, ◌≤◌, List, [], ◌∷◌, length, get_or, take, refl}
+use Rattle.std.proofs.Common.{sym, ap, subst, ◌∙◌, arith, add-one, Bool, true, false, cond}
 use Rattle.std.specs.Prelude.{Option, Some, None, SomeIff, unwrap_or, take_while}
 use Rattle.std.specs.List.{prefix_len}
 use Rattle.std.proofs.lemmas.List.Folds.{length-prefix_len}
@@ -36,7 +37,8 @@ pub digit_pushed : (radix : ℕ) (digits : List ℕ) (i n d : ℕ) → i < lengt
 digit_pushed radix digits i n d inside front next =
     ap (λ m. m * radix + d) front ∙ ap (λ e. digits_value radix (take i digits) * radix + e) next ∙ sym (digits_value_more radix digits i inside)
 
-front_digits : (radix x : ℕ) (xs : List ℕ) (n : ℕ) (b : Bool) → is_digit x radix ≡ b → AllDigits radix (take n xs) → AllDigits radix (take (cond b (1 + n) 0) (x ∷ xs))
+front_digits : (radix x : ℕ) (xs : List ℕ) (n : ℕ) (b : Bool) → is_digit x radix ≡ b → AllDigits radix (take n xs) →
+    AllDigits radix (take (cond b (1 + n) 0) (x ∷ xs))
 front_digits radix x xs n true e all =
     let one : 1 + n ≡ suc n = omega arith in
     subst (λ k. AllDigits radix (take k (x ∷ xs))) (sym one) (ltb-true _ _ e, all)

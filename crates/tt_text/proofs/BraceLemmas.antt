@@ -1,8 +1,10 @@
 -- The relation of balanced braces and the function that finds the matching one agree.
-use Rattle.std.proofs.Common.{◌≡◌, ◌≢◌, ℕ, zero, suc, ◌+◌, Bool, true, false, List, [], ◌∷◌, ◌++◌, length, refl, sym, ap, subst, ◌∙◌, arith, append_assoc, length-append, inl, inr}
+use Rattle.std.proofs.Common.{◌≡◌, ◌≢◌, ℕ, zero, suc, ◌+◌, Bool, true, false, List, [], ◌∷◌, ◌++◌, length, refl, sym}
+use Rattle.std.proofs.Common.{ap, subst, ◌∙◌, arith, append_assoc, length-append, inl, inr}
 use Rattle.std.specs.Prelude.{Option, Some, None, ◌==◌}
 use Rattle.std.proofs.lemmas.Bool.{cases_eq, ne_eqb, eqb-true, eq-eqb}
-use Rattle.tt_text.specs.Braces.{IsBalanced, empty, other, escaped, group, further, mark_of, closing_brace, matching_brace, IsClosedAt, MatchingBraceLaw, BalancedLaw}
+use Rattle.tt_text.specs.Braces.{IsBalanced, empty, other, escaped, group, further, mark_of, closing_brace}
+use Rattle.tt_text.specs.Braces.{matching_brace, IsClosedAt, MatchingBraceLaw, BalancedLaw}
 
 further-zero : (o : Option ℕ) → further 0 o ≡ o
 further-zero None = refl

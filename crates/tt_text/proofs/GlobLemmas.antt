@@ -185,7 +185,7 @@ run_passes pattern after text e end =
       matches = inner.matches;
     }
 
--- where the text is at its end
+-- if the text is at its end
 
 no_characters : (pattern : List Character) → BeginsWithNoRun pattern → (pattern ≡ [] → ⊥) → ¬ Matches pattern []
 no_characters [] first some m = some refl
@@ -202,7 +202,7 @@ end_needs_nothing left rest e first some m =
 pub whole_matches : (left rest : List ℕ) → left ≡ [] → rest ≡ [] → Matches (characters left) (characters rest)
 whole_matches left rest e f = subst (λ l. Matches (characters l) (characters rest)) (sym e) (subst (λ r. Matches [] (characters r)) (sym f) empty)
 
--- where a segment fails, it may fit at a later place
+-- if a segment fails, it may fit at a later place
 
 nothing_left : (skipped rest : List Character) → [] ≡ skipped ++ rest → rest ≡ []
 nothing_left [] rest e = sym e

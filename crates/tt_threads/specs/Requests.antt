@@ -1,5 +1,6 @@
 -- What the requests on the table of threads do to it, and what they are answered: a case each (thread(n)).
-use Rattle.std.specs.Prelude.{ℕ, suc, Bool, true, ◌==◌, not, nat_lt, length, List, [], ◌∷◌, ◌++◌, codes, Option, Some, None, if◌then◌else◌, option_and_then, is_some, ℤ, pos, negsuc, ◌+ℤ◌}
+use Rattle.std.specs.Prelude.{ℕ, suc, Bool, true, ◌==◌, not, nat_lt, length, List, [], ◌∷◌, ◌++◌, codes, Option, Some}
+use Rattle.std.specs.Prelude.{None, if◌then◌else◌, option_and_then, is_some, ℤ, pos, negsuc, ◌+ℤ◌}
 use Rattle.std.specs.Result.{result_ok}
 use Rattle.std.specs.Fmt.{decimal, signed_decimal}
 use Rattle.std.specs.Int.RustNames.{unsigned_abs}
@@ -159,7 +160,7 @@ abbrev pub sets : List Row → ℕ → Row → Option Settings → Answered
 sets rows number row None = is_not_asked rows
 sets rows number row (Some now) = record { rows = with_row rows number (put_settings row now); reply = Go }
 
--- no word tells all settings, and one word the setting of that option
+-- no word reports all settings, and one word the setting of that option
 abbrev pub told_reply : Settings → List (List ℕ) → Reply
 told_reply now [] = Value (list_of (settings now))
 told_reply now (name ∷ words) = elim (setting_of now name) [ Some value ↦ Value value | None ↦ Refused [] ]
@@ -183,7 +184,7 @@ configures rows text words (Some number) = configures_of rows number words
 
 -- ---- all of them ----
 
--- Preserve and Release count; a marked thread is told to stop by the queues, which stand elsewhere. AwaitEnd is asked
+-- Preserve and Release count; a marked thread is asked to stop by the queues, which stand elsewhere. AwaitEnd is asked
 -- of a thread that has ended.
 abbrev pub act : List Row → (asker : ℕ) → Request → Answered
 act rows asker (ask.Preserve text) = counts preserved rows text (named rows asker text)

@@ -1,7 +1,9 @@
-ghost use Rattle.std.specs.Prelude.{◌≡◌, ◌<◌, ◌-◌, ◌^◌, ◌++◌, codes, IfOk, IfNone, IfSome, OnOk, length, ℕ, None, is_some};
+ghost use Rattle.std.specs.Prelude.{◌≡◌, ◌<◌, ◌-◌, ◌^◌, ◌++◌, codes, IfOk, IfNone, IfSome, OnOk, length, ℕ, None};
+ghost use Rattle.std.specs.Prelude.{is_some};
 ghost use Rattle.tt_calls.specs.declared.reply.Reply.TheVariants.{Value};
 ghost use Rattle.tt_lists.specs.Spelling.{list_of};
-ghost use Rattle.tt_threads.specs.Requests.{act, bit, configures_of, counts_of, exits, has_no_thread, joins_named, joins_of, linked_ids, named, preserved, released, told_reply};
+ghost use Rattle.tt_threads.specs.Requests.{act, bit, configures_of, counts_of, exits, has_no_thread, joins_named};
+ghost use Rattle.tt_threads.specs.Requests.{joins_of, linked_ids, named, preserved, released, told_reply};
 ghost use Rattle.tt_threads.specs.inside.Settings.{set};
 ghost use Rattle.tt_threads.specs.Rows.{linked, row_of};
 
@@ -104,7 +106,7 @@ impl Threads {
         };
         let settings = Settings::of(&self.rows[place]);
         if words.len() < 2 {
-            return told(self.alloc, settings, words);
+            return settings_reply(self.alloc, settings, words);
         }
         match settings.with_all(words) {
             Some(settings) => {
@@ -234,7 +236,7 @@ fn linked_ids(alloc: Global, rows: &[Row]) -> Result<Texts, NoMemory>
 }
 
 // All settings if no word asks for one.
-fn told(alloc: Global, settings: Settings, words: &[Text]) -> Result<Reply, NoMemory>
+fn settings_reply(alloc: Global, settings: Settings, words: &[Text]) -> Result<Reply, NoMemory>
     ensures { IfOk result (λ reply. reply ≡ told_reply settings words.now) }
 {
     let Some(option) = words.first() else {

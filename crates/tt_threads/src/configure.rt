@@ -1,6 +1,7 @@
 ghost use Rattle.std.specs.Prelude.{◌≡◌, IfOk};
 ghost use Rattle.tt_lists.specs.Spelling.{list_of};
-ghost use Rattle.tt_threads.specs.Requests.{bit, setting_of, settings, settings_of, with_mark, with_setting, with_settings};
+ghost use Rattle.tt_threads.specs.Requests.{bit, setting_of, settings, settings_of, with_mark, with_setting};
+ghost use Rattle.tt_threads.specs.Requests.{with_settings};
 
 use crate::Row;
 use std::alloc::Global;
@@ -96,7 +97,7 @@ impl Settings {
     }
 }
 
-/// A boolean, as the table of threads tells it.
+/// A boolean, as the table of threads reports it.
 pub(crate) fn bit(alloc: Global, is_set: bool) -> Result<Text, NoMemory>
     ensures { IfOk result (λ text. text ≡ bit is_set) }
 {

@@ -90,7 +90,7 @@ impl Threads {
     }
 
     /// How many threads were made, those that have ended among them.
-    pub fn made(&self) -> u32
+    pub fn thread_count(&self) -> u32
         ensures made { result ≡ length self.now }
     {
         self.rows.len() as u32

@@ -1,5 +1,6 @@
 -- A held array is safe from other threads: their calls on it wait, and those on other arrays leave it.
-use Rattle.std.proofs.Common.{◌≡◌, ◌∙◌, ℕ, ◌%◌, ◌==◌, Bool, true, false, cond, if◌then◌else◌, List, [], ◌∷◌, length, codes, Option, Some, None, is_some, refl, ap, sym, subst, bytes_eq}
+use Rattle.std.proofs.Common.{◌≡◌, ◌∙◌, ℕ, ◌%◌, ◌==◌, Bool, true, false, cond, if◌then◌else◌, List, [], ◌∷◌, length}
+use Rattle.std.proofs.Common.{codes, Option, Some, None, is_some, refl, ap, sym, subst, bytes_eq}
 use Rattle.std.proofs.lemmas.Slice.Eq.{bytes_eq-Decides}
 use Rattle.std.specs.Map.{set_value}
 use Rattle.indexmap.specs.IndexMap.{insert_entry}
@@ -11,8 +12,11 @@ use Rattle.tt_lists.specs.Reading.{split_of}
 use Rattle.tt_lists.specs.declared.items.Split.{Split}
 use Rattle.tt_lists.specs.declared.items.Split.TheVariants as split
 use Rattle.tt_calls.specs.Replies.{answers, refuses}
-use Rattle.tt_tsv.specs.Calls.{act, array_act, array_asked, changes, empty_answer, exists_message, fills, holds, is_held_by_other, is_own, moves_of, refills, run, run_asked, step_after, table_after, unholds, unsets, waits_for}
-use Rattle.tt_tsv.specs.Arrays.{Table, added, array_of, changed, changes_in, element_of, emptied, held, is_held, let_go, with_array, makes_in, with_element, without_array, without_element}
+use Rattle.tt_tsv.specs.Calls.{act, array_act, array_asked, changes, empty_answer, exists_message, fills, holds}
+use Rattle.tt_tsv.specs.Calls.{is_held_by_other, is_own, moves_of, refills, run, run_asked, step_after, table_after}
+use Rattle.tt_tsv.specs.Calls.{unholds, unsets, waits_for}
+use Rattle.tt_tsv.specs.Arrays.{Table, added, array_of, changed, changes_in, element_of, emptied, held, is_held, let_go}
+use Rattle.tt_tsv.specs.Arrays.{with_array, makes_in, with_element, without_array, without_element}
 use Rattle.tt_tsv.specs.Elements.{change_if}
 use Rattle.tt_tsv.specs.Words.{Asked, array_among, array_in, asked_of}
 use Rattle.tt_tsv.specs.declared.array.Array.{Array}
@@ -75,7 +79,9 @@ module _ (name other : List ℕ) (apart : bytes_eq name other ≡ false) where
       without : Table
       without = changed (without_element key) table other
 
-      go : (b : Bool) → array_of (if b then refuses table (exists_message new) else empty_answer (with_array (with_element new value) without other)).table name ≡ array_of table name
+      go : (b : Bool) →
+          array_of (if b then refuses table (exists_message new) else empty_answer
+          (with_array (with_element new value) without other)).table name ≡ array_of table name
       go true = refl
       go false = by_made (with_element new value) without (array_of without other) ∙ by_changed (without_element key) table (array_of table other)
 
@@ -150,21 +156,27 @@ module _ (table : Table) (name : List ℕ) (t : ℕ) (is_other : is_held_by_othe
       either false left = left
 
       go : (b : Bool) → bytes_eq name other ≡ b → array_of (if is_held_by_other t (array_of table other) then table else after) name ≡ array_of table name
-      go true same = ap (λ b. array_of (if b then table else after) name) (subst (λ k. is_held_by_other t (array_of table k) ≡ true) ((bytes_eq-Decides name other).0 same) is_other)
+      go true same =
+          ap (λ b. array_of (if b then table else after) name)
+          (subst (λ k. is_held_by_other t (array_of table k) ≡ true) ((bytes_eq-Decides name other).0 same) is_other)
       go false apart = either (is_held_by_other t (array_of table other)) (leaves apart)
 
-  on_usage : (asked : Usage) (words : List (List ℕ)) → array_of (if waits_for table t (array_among asked words) then table else (run table asked words).table) name ≡ array_of table name
+  on_usage : (asked : Usage) (words : List (List ℕ)) →
+      array_of (if waits_for table t (array_among asked words) then table else (run table asked words).table) name ≡ array_of table name
   on_usage usage.Names words = refl
   on_usage usage.Find [] = refl
   on_usage usage.Find (other ∷ words) = if_waits other (run table usage.Find (other ∷ words)).table (λ apart. by_run name other apart table usage.Find words)
   on_usage usage.Exists [] = refl
-  on_usage usage.Exists (other ∷ words) = if_waits other (run table usage.Exists (other ∷ words)).table (λ apart. by_run name other apart table usage.Exists words)
+  on_usage usage.Exists (other ∷ words) =
+      if_waits other (run table usage.Exists (other ∷ words)).table (λ apart. by_run name other apart table usage.Exists words)
   on_usage usage.Move [] = refl
   on_usage usage.Move (other ∷ words) = if_waits other (run table usage.Move (other ∷ words)).table (λ apart. by_run name other apart table usage.Move words)
   on_usage (usage.Array asked) [] = refl
-  on_usage (usage.Array asked) (other ∷ words) = if_waits other (run table (usage.Array asked) (other ∷ words)).table (λ apart. by_run name other apart table (usage.Array asked) words)
+  on_usage (usage.Array asked) (other ∷ words) =
+      if_waits other (run table (usage.Array asked) (other ∷ words)).table (λ apart. by_run name other apart table (usage.Array asked) words)
   on_usage (usage.Element asked) [] = refl
-  on_usage (usage.Element asked) (other ∷ words) = if_waits other (run table (usage.Element asked) (other ∷ words)).table (λ apart. by_run name other apart table (usage.Element asked) words)
+  on_usage (usage.Element asked) (other ∷ words) =
+      if_waits other (run table (usage.Element asked) (other ∷ words)).table (λ apart. by_run name other apart table (usage.Element asked) words)
 
   on_asked : (asked : Option Asked) → array_of (if waits_for table t (array_in asked) then table else (run_asked table asked).table) name ≡ array_of table name
   on_asked None = refl
@@ -175,9 +187,11 @@ module _ (table : Table) (name : List ℕ) (t : ℕ) (is_other : is_held_by_othe
   on_call (Unhold other) = if_waits other (unholds table t other).table (λ apart. by_unhold name other apart table t)
   on_call (Run words) = on_asked (asked_of words)
 
-pub closed_to_others : (table : Table) (name : List ℕ) (t : ℕ) (call : TsvCall) → is_held_by_other t (array_of table name) ≡ true → array_of (table_after table t call) name ≡ array_of table name
+pub closed_to_others : (table : Table) (name : List ℕ) (t : ℕ) (call : TsvCall) → is_held_by_other t (array_of table name) ≡ true →
+    array_of (table_after table t call) name ≡ array_of table name
 closed_to_others table name t call is_other = on_call table name t is_other call
 
-pub answers_nobody_else : (table : Table) (name : List ℕ) (t : ℕ) (call : TsvCall) → is_held_by_other t (array_of table name) ≡ true → array_asked call ≡ Some name → step_after table t call ≡ Wait
+pub answers_nobody_else : (table : Table) (name : List ℕ) (t : ℕ) (call : TsvCall) → is_held_by_other t (array_of table name) ≡ true →
+    array_asked call ≡ Some name → step_after table t call ≡ Wait
 answers_nobody_else table name t call is_other asks =
     ap (λ b. if b then Wait else Reply (act table t call).reply) (ap (waits_for table t) asks ∙ is_other)

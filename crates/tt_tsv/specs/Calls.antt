@@ -1,5 +1,6 @@
 -- What calls on shared variables do, and when they wait (tsv(n)).
-use Rattle.std.specs.Prelude.{ℕ, ◌%◌, ◌==◌, Bool, true, false, ◌&&◌, not, List, [], ◌∷◌, ◌++◌, length, codes, decimal, Option, Some, None, is_some, if◌then◌else◌}
+use Rattle.std.specs.Prelude.{ℕ, ◌%◌, ◌==◌, Bool, true, false, ◌&&◌, not, List, [], ◌∷◌, ◌++◌, length, codes, decimal}
+use Rattle.std.specs.Prelude.{Option, Some, None, is_some, if◌then◌else◌}
 use Rattle.std.specs.List.{filter, flat_map}
 use Rattle.std.specs.Map.{keys_of}
 use Rattle.tt_text.specs.Characters.{characters}
@@ -18,7 +19,8 @@ use Rattle.tt_lists.specs.declared.answer.ListAnswer.{ListAnswer}
 use Rattle.tt_lists.specs.declared.answer.ListAnswer.TheVariants.{Made, Bad}
 use Rattle.tt_lists.specs.declared.items.Split.{Split}
 use Rattle.tt_lists.specs.declared.items.Split.TheVariants as split
-use Rattle.tt_tsv.specs.Arrays.{Pairs, Table, added, array_of, changed, element_of, emptied, elements_of, held, is_held, is_held_by, let_go, with_array, with_element, without_array, without_element}
+use Rattle.tt_tsv.specs.Arrays.{Pairs, Table, added, array_of, changed, element_of, emptied, elements_of, held, is_held}
+use Rattle.tt_tsv.specs.Arrays.{is_held_by, let_go, with_array, with_element, without_array, without_element}
 use Rattle.tt_tsv.specs.Elements.{change_if, missing_message}
 use Rattle.tt_tsv.specs.Words.{Asked, array_in, asked_of}
 use Rattle.tt_tsv.specs.declared.array.Array.{Array}

@@ -1,6 +1,7 @@
 -- What commands do to an element (tsv(n)): by its value and the words after its key. Words of another number than the
 -- usage has are none that a command asks.
-use Rattle.std.specs.Prelude.{ℕ, nat_lt, ℤ, pos, negsuc, remove, slice_index_or, List, [], ◌∷◌, ◌++◌, length, codes, Option, Some, None, Result, Ok, Err, false, if◌then◌else◌}
+use Rattle.std.specs.Prelude.{ℕ, nat_lt, ℤ, pos, negsuc, remove, slice_index_or, List, [], ◌∷◌, ◌++◌, length, codes}
+use Rattle.std.specs.Prelude.{Option, Some, None, Result, Ok, Err, false, if◌then◌else◌}
 use Rattle.std.specs.Fmt.{signed_decimal}
 use Rattle.std.specs.List.{flat_map}
 use Rattle.tt_lists.specs.Commands.{count_answer, insert_answer, item_answer, range_answer, replace_answer}

@@ -1,5 +1,6 @@
 -- The words of commands on shared variables (tsv(n)): a table of usages, for each its name and how many words follow.
-use Rattle.std.specs.Prelude.{ℕ, Bool, true, ◌&&◌, nat_le, bytes_eq, List, [], ◌∷◌, length, codes, Option, Some, None, if◌then◌else◌}
+use Rattle.std.specs.Prelude.{ℕ, Bool, true, ◌&&◌, nat_le, bytes_eq, List, [], ◌∷◌, length, codes, Option, Some, None}
+use Rattle.std.specs.Prelude.{if◌then◌else◌}
 use Rattle.std.specs.List.{find}
 use Rattle.std.specs.Option.{is_some, option_map}
 use Rattle.tt_lists.specs.declared.searching.Matching.{Matching}

@@ -1,5 +1,6 @@
 ghost use Rattle.std.specs.Prelude.{◌≡◌, IfOk, OnOk};
-ghost use Rattle.tt_tsv.specs.Calls.{act, changes, changes_by, holds, moves, run, run_asked, step_after, table_after, unholds};
+ghost use Rattle.tt_tsv.specs.Calls.{act, changes, changes_by, holds, moves, run, run_asked, step_after, table_after};
+ghost use Rattle.tt_tsv.specs.Calls.{unholds};
 ghost use Rattle.tt_tsv.specs.Words.{asked_of};
 
 use crate::Arrays;

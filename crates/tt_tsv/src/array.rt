@@ -1,6 +1,7 @@
 ghost use Rattle.std.specs.Prelude.{◌≡◌, OnOk, Some};
 ghost use Rattle.tt_tsv.specs.Calls.{is_held_by_other};
-ghost use Rattle.tt_tsv.specs.Arrays.{added, emptied, held, is_held, is_held_by, let_go, new_array, with_element, without_element};
+ghost use Rattle.tt_tsv.specs.Arrays.{added, emptied, held, is_held, is_held_by, let_go, new_array, with_element};
+ghost use Rattle.tt_tsv.specs.Arrays.{without_element};
 
 use crate::Elements;
 use std::alloc::Global;

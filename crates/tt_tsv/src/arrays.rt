@@ -3,7 +3,8 @@ ghost use Rattle.std.specs.Map.{keys_of};
 ghost use Rattle.std.specs.Option.{option_copied, option_map};
 ghost use Rattle.indexmap.specs.IndexMap.{insert_entry};
 ghost use Rattle.tt_tsv.specs.Calls.{is_held_by_other, is_own, unsets, waits};
-ghost use Rattle.tt_tsv.specs.Arrays.{added, array_of, changed, element_of, emptied, held, is_held, let_go, with_array, with_element, without_array, without_element};
+ghost use Rattle.tt_tsv.specs.Arrays.{added, array_of, changed, element_of, emptied, held, is_held, let_go, with_array};
+ghost use Rattle.tt_tsv.specs.Arrays.{with_element, without_array, without_element};
 
 use crate::Array;
 use crate::words::array_in;

@@ -13,7 +13,7 @@ use tt_lists::ListAnswer;
 use tt_number::{NumOp, NumberFault, binary, read_whole, whole_text};
 use tt_text::{NoMemory, Text};
 
-/// The value and the step, which is 1 where no word says it.
+/// The value and the step, which is 1 if no word says it.
 pub(crate) fn increment(alloc: Global, value: &[u8], words: &[Text]) -> Result<Change, NoMemory>
     ensures { IfOk result (λ change. change ≡ increments value.now words.now) }
 {

@@ -26,7 +26,7 @@ abbrev pub message_by : Code → (value : List ℕ) → Option (List ℕ)
 message_by Failed value = Some value
 message_by code value = None
 
--- a text is given to one element; the message, where it can't be
+-- a text is given to one element; the message, if it can't be
 abbrev pub SetsOne : (name index : Name) → (text : List ℕ) → (old : Held) → Option (List ℕ) → (new : Held) → Type 0
 SetsOne name index text old message new =
     (outcome : Outcome)

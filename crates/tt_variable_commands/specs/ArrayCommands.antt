@@ -47,7 +47,7 @@ abbrev pub IsSubcommand : Option Subcommand → (word : List ℕ) → (words : L
 IsSubcommand (Some subcommand) word words old outcome new = by_row (row_of subcommand) words old outcome new
 IsSubcommand None word words old outcome new = Fails (bad_option word) old outcome new
 
--- array(n): without a subcommand the first usage is told
+-- array(n): without a subcommand the first usage is reported
 abbrev pub array : (words : List (List ℕ)) → Ending
 array [] old outcome new = Refuses (row_of subcommand.Exists).usage old outcome new
 array (word ∷ words) old outcome new = IsSubcommand (first_named subcommands word) word words old outcome new

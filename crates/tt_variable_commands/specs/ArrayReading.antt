@@ -39,7 +39,7 @@ Counts held name size = HasSizeIf (is_element name) held name size
 
 -- ---- is it there, and how large? ----
 
--- a command tells something of an array's size, and changes nothing
+-- a command reports something of an array's size, and changes nothing
 abbrev pub TellsSize : (Option ℕ → List ℕ) → Name → Ending
 TellsSize tell name old outcome new =
     (size : Option ℕ)
@@ -76,7 +76,7 @@ abbrev pub names_like : (pattern : Option (List ℕ)) → List Name → List Nam
 names_like None names = names
 names_like (Some pattern) names = filter (is_like pattern) names
 
--- a list of them is told
+-- a list of them is reported
 abbrev pub Names : (pattern : Option (List ℕ)) → Name → Ending
 Names pattern name old outcome new =
     (indices : List Name)
@@ -112,7 +112,7 @@ pub data PairsOf (held : Held) (name : Name) : (indices : List Name) → (items 
       PairsOf held name indices items →
       PairsOf held name (index ∷ indices) (pair_of index found ++ items)
 
--- a list of the indices that match is told, each with its value after it
+-- a list of the indices that match is reported, each with its value after it
 abbrev pub Gets : (pattern : Option (List ℕ)) → Name → Ending
 Gets pattern name old outcome new =
     (indices : List Name) × (items : List (List ℕ))

@@ -1,4 +1,4 @@
--- How errors of levels and links are told (upvar(n), uplevel(n)).
+-- How errors of levels and links are reported (upvar(n), uplevel(n)).
 use Rattle.std.specs.Prelude.{ℕ, List, ◌++◌, codes}
 
 -- that a word is no level, or that there is no such frame

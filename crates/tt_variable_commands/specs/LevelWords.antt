@@ -2,7 +2,7 @@
 use Rattle.std.specs.Prelude.{ℕ, ◌%◌, ◌==◌, ◌||◌, Bool, true, false, List, [], ◌∷◌, length, codes}
 use Rattle.std.specs.Char.{is_digit}
 
--- upvar(n) has a level where the number of its words is odd
+-- upvar(n) has a level if the number of its words is odd
 abbrev pub is_odd : (words : List (List ℕ)) → Bool
 is_odd words = length words % 2 == 1
 
@@ -11,7 +11,7 @@ abbrev pub begins_level : (word : List ℕ) → Bool
 begins_level [] = false
 begins_level (b ∷ word) = b == 35 || is_digit b 10
 
--- uplevel(n) has a level where the first of several words begins so
+-- uplevel(n) has a level if the first of several words begins so
 abbrev pub is_levelled : (words : List (List ℕ)) → Bool
 is_levelled [] = false
 is_levelled (word ∷ []) = false

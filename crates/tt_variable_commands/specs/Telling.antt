@@ -1,4 +1,4 @@
--- What info(n) tells of variables and levels.
+-- What info(n) reports of variables and levels.
 use Rattle.std.specs.Prelude.{◌≡◌, ℕ, Bool, List, [], ◌∷◌, bytes_eq, codes, decimal, Option, Some, None, if◌then◌else◌}
 use Rattle.tt_calls.specs.declared.outcome.Outcome.{Outcome}
 use Rattle.tt_calls.specs.Outcomes.{failed, fine}
@@ -39,7 +39,7 @@ level [] old outcome new =
     × (new ≡ old)
 level (word ∷ words) old outcome new = Refuses (codes "info level") old outcome new
 
--- what is told of procedures is told elsewhere
+-- what is reported of procedures stands elsewhere
 abbrev pub Tells :
     Option Topic → (word : List ℕ) → (words : List (List ℕ)) →
     (old : Held) → Answer → (new : Held) → Type 0

@@ -1,4 +1,4 @@
-//! The commands on levels and links (global(n), upvar(n), uplevel(n)), and what info(n) tells of them.
+//! The commands on levels and links (global(n), upvar(n), uplevel(n)), and what info(n) reports of them.
 
 mod command;
 mod counting;

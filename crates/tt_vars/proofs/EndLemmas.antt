@@ -1,5 +1,7 @@
--- Links still end where one more was made.
-use Rattle.std.proofs.Common.{◌≡◌, ◌⊎◌, inl, inr, ℕ, suc, ◌+◌, ◌<◌, ◌≤◌, Bool, true, false, cond, not, ◌&&◌, ◌==◌, List, [], ◌∷◌, Option, Some, None, Result, Ok, Err, OnOk, OnErr, bytes_eq, length, slice_set, refl, ap, sym, subst, ◌∙◌, true≢false, arith, get_or-set_same, get_or-set_other, is_some}
+-- Links still end if one more was made.
+use Rattle.std.proofs.Common.{◌≡◌, ◌⊎◌, inl, inr, ℕ, suc, ◌+◌, ◌<◌, ◌≤◌, Bool, true, false, cond, not, ◌&&◌, ◌==◌, List}
+use Rattle.std.proofs.Common.{[], ◌∷◌, Option, Some, None, Result, Ok, Err, OnOk, OnErr, bytes_eq, length, slice_set}
+use Rattle.std.proofs.Common.{refl, ap, sym, subst, ◌∙◌, true≢false, arith, get_or-set_same, get_or-set_other, is_some}
 use Rattle.std.proofs.lemmas.List.{set-get_or}
 use Rattle.std.specs.Cmp.{nat_eq_equiv}
 use Rattle.std.specs.Cmp.Lexicographic.{nat_list_eq_equiv, bytes_decides}
@@ -34,7 +36,8 @@ link_or_missing (Some (Scalar text)) h = absurd (true≢false h)
 link_or_missing (Some (Array elements)) h = absurd (true≢false h)
 link_or_missing (Some (Link to)) h = inr (to, refl)
 
-unset_local : (frames : List Frame) (frame : ℕ) (name : Name) (stands : Option Place) → CanLink frames frame name stands → is_set (named (frame_at frames frame) name) ≡ false
+unset_local : (frames : List Frame) (frame : ℕ) (name : Name) (stands : Option Place) → CanLink frames frame name stands →
+    is_set (named (frame_at frames frame) name) ≡ false
 unset_local frames frame name None can = can
 unset_local frames frame name (Some to) can = can.0
 
@@ -58,17 +61,20 @@ ends-set frames i new ends own lt frame k to h = by (cases_eq frame i)
         let mine = own k to (ap (λ f. leads (named f k)) (sym (here frame e)) ∙ h) in
         record {
           within = omega (arith, mine.0, e);
-          later = λ s next g. subst (λ f. rank k f < rank to.name f) (sym (here frame e)) (mine.1 (s ∙ e) next (ap (λ f. leads (named f to.name)) (sym (here to.frame (s ∙ e))) ∙ g));
+          later = λ s next g. subst (λ f. rank k f < rank to.name f) (sym (here frame e))
+              (mine.1 (s ∙ e) next (ap (λ f. leads (named f to.name)) (sym (here to.frame (s ∙ e))) ∙ g));
         }
     by (inr apart) =
         let leads_on = ends frame k to (ap (λ f. leads (named f k)) (sym (there frame apart)) ∙ h) in
         record {
           within = leads_on.within;
-          later = λ s next g. subst (λ f. rank k f < rank to.name f) (sym (there frame apart)) (leads_on.later s next (ap (λ f. leads (named f to.name)) (sym (there to.frame (λ e. apart (sym s ∙ e)))) ∙ g));
+          later = λ s next g. subst (λ f. rank k f < rank to.name f) (sym (there frame apart))
+              (leads_on.later s next (ap (λ f. leads (named f to.name)) (sym (there to.frame (λ e. apart (sym s ∙ e)))) ∙ g));
         }
 
 -- a change that keeps the links of a frame
-pub ends-kept : (frames : List Frame) (i : ℕ) (before new : Frame) → LinksEnd frames → i < length frames → KeepsLinks before new → before ≡ frame_at frames i → LinksEnd (slice_set frames i new)
+pub ends-kept : (frames : List Frame) (i : ℕ) (before new : Frame) → LinksEnd frames → i < length frames → KeepsLinks before new →
+    before ≡ frame_at frames i → LinksEnd (slice_set frames i new)
 ends-kept frames i before new ends lt keeps is =
     ends-set frames i new ends (λ k to h.
     let was : (q : Name) (next : Option Place) → leads (named new q) ≡ Some next → leads (named (frame_at frames i) q) ≡ Some next =
@@ -113,19 +119,30 @@ module _ (frames : List Frame) (i : ℕ) (name : Name) (stands : Option Place) (
       let there : is_some (named (frame_at frames i) k) ≡ true = link_is_there (named (frame_at frames i) k) (Some to) h in
       (leads_on.within, λ same next g. by k to h there same next g (bytes_eq name to.name) refl)
     where
-      later : (k : Name) (to : Place) → leads (named (frame_at frames i) k) ≡ Some (Some to) → to.frame ≡ i → (next : Option Place) → leads (named (frame_at frames i) to.name) ≡ Some next → rank k new < rank to.name new
+      later : (k : Name) (to : Place) → leads (named (frame_at frames i) k) ≡ Some (Some to) → to.frame ≡ i → (next : Option Place) →
+          leads (named (frame_at frames i) to.name) ≡ Some next → rank k new < rank to.name new
       later k to h same next g =
-          let order : rank k (frame_at frames i) < rank to.name (frame_at frames i) = (ends i k to h).later same next (ap (λ m. leads (named (frame_at frames m) to.name)) same ∙ g) in
-          omega (arith, order, kept k (link_is_there (named (frame_at frames i) k) (Some to) h), kept to.name (link_is_there (named (frame_at frames i) to.name) next g))
+          let order : rank k (frame_at frames i) < rank to.name (frame_at frames i) =
+          (ends i k to h).later same next (ap (λ m. leads (named (frame_at frames m) to.name)) same ∙ g) in
+          omega (
+            arith,
+            order,
+            kept k (link_is_there (named (frame_at frames i) k) (Some to) h),
+            kept to.name
+                (link_is_there (named (frame_at frames i) to.name) next g),
+          )
 
-      by : (k : Name) (to : Place) → leads (named (frame_at frames i) k) ≡ Some (Some to) → is_some (named (frame_at frames i) k) ≡ true → to.frame ≡ i → (next : Option Place) → leads (named new to.name) ≡ Some next → (b : Bool) → bytes_eq name to.name ≡ b → rank k new < rank to.name new
+      by : (k : Name) (to : Place) → leads (named (frame_at frames i) k) ≡ Some (Some to) → is_some (named (frame_at frames i) k) ≡ true → to.frame ≡ i →
+          (next : Option Place) → leads (named new to.name) ≡ Some next → (b : Bool) → bytes_eq name to.name ≡ b → rank k new < rank to.name new
       by k to h there same next g false e = later k to h same next (ap leads (sym (at_other to.name e)) ∙ g)
       by k to h there same next g true e =
           let is : name ≡ to.name = (bytes_decides name to.name).0 e in
-          elim (link_or_missing (named (frame_at frames i) to.name) (ap (λ n. is_set (named (frame_at frames i) n)) (sym is) ∙ unset_local frames i name stands can)) [
+          elim (link_or_missing (named (frame_at frames i) to.name)
+          (ap (λ n. is_set (named (frame_at frames i) n)) (sym is) ∙ unset_local frames i name stands can)) [
             | inl absent ↦
                 let last : rank to.name new ≡ length (frame_at frames i) =
-                ap (λ n. rank n new) (sym is) ∙ ap (rank name) put ∙ rank-new (frame_at frames i) name (Link stands) (ap (named (frame_at frames i)) is ∙ absent) in
+                ap (λ n. rank n new) (sym is) ∙ ap (rank name) put
+                ∙ rank-new (frame_at frames i) name (Link stands) (ap (named (frame_at frames i)) is ∙ absent) in
                 omega (arith, last, kept k there, rank-within (frame_at frames i) k there)
             | inr link ↦ later k to h same link.0 link.1
           ]
@@ -142,10 +159,12 @@ module _ (frames : List Frame) (i : ℕ) (name : Name) (stands : Option Place) (
   ends-linked lt = ends-set frames i new ends (λ k to h. own k to h) lt
 
 -- a link was made, or memory was refused and nothing has changed
-pub ends-after : {X E : Type 0} (frames : List Frame) (i : ℕ) (name : Name) (stands : Option Place) (before new : Frame) (result : Result X E) → LinksEnd frames → CanLink frames i name stands → i < length frames →
+pub ends-after : {X E : Type 0} (frames : List Frame) (i : ℕ) (name : Name) (stands : Option Place) (before new : Frame) (result : Result X E) →
+    LinksEnd frames → CanLink frames i name stands → i < length frames →
     OnOk result (new ≡ with before name (Link stands)) → OnOk result ((q : Name) → named new q ≡ cond (bytes_eq name q) (Some (Link stands)) (named before q)) →
     OnErr result (new ≡ before) → before ≡ frame_at frames i → LinksEnd (slice_set frames i new)
 ends-after frames i name stands before new (Ok x) ends can lt put others same is =
-    ends-linked frames i name stands new ends can (put ∙ ap (λ f. with f name (Link stands)) is) (λ q. others q ∙ ap (λ f. cond (bytes_eq name q) (Some (Link stands)) (named f q)) is) lt
+    ends-linked frames i name stands new ends can (put ∙ ap (λ f. with f name (Link stands)) is)
+    (λ q. others q ∙ ap (λ f. cond (bytes_eq name q) (Some (Link stands)) (named f q)) is) lt
 ends-after frames i name stands before new (Err e) ends can lt put others same is =
     subst LinksEnd (sym (ap (slice_set frames i) (same ∙ is) ∙ set-get_or frames i [])) ends

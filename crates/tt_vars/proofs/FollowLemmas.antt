@@ -1,5 +1,7 @@
 -- Following links ends: the names that are left get fewer.
-use Rattle.std.proofs.Common.{◌≡◌, inl, inr, ℕ, zero, suc, ◌+◌, ◌-◌, ◌<◌, ◌≤◌, Bool, true, false, cond, not, List, [], ◌∷◌, Option, Some, None, bytes_eq, length, refl, ap, sym, subst, ◌∙◌, true≢false, arith, is_some}
+use Rattle.std.proofs.Common.{◌≡◌, inl, inr, ℕ, zero, suc, ◌+◌, ◌-◌, ◌<◌, ◌≤◌, Bool, true, false, cond, not, List, []}
+use Rattle.std.proofs.Common.{◌∷◌, Option, Some, None, bytes_eq, length, refl, ap, sym, subst, ◌∙◌, true≢false, arith}
+use Rattle.std.proofs.Common.{is_some}
 use Rattle.std.proofs.lemmas.Bool.{cases_lt}
 use Rattle.tt_vars.specs.declared.variable.Place.{Place}
 use Rattle.tt_vars.specs.Variables.{Name, Frame, named, leads}
@@ -16,7 +18,9 @@ names_below (frame ∷ frames) (suc n) = length frame + names_below frames n
 
 -- how many names following a link may still reach
 pub left : List Frame → ℕ → Name → ℕ
-left frames frame name = cond (is_some (leads (named (frame_at frames frame) name))) (names_below frames frame + (length (frame_at frames frame) - rank name (frame_at frames frame))) 0
+left frames frame name =
+    cond (is_some (leads (named (frame_at frames frame) name)))
+    (names_below frames frame + (length (frame_at frames frame) - rank name (frame_at frames frame))) 0
 
 below-lower : (frames : List Frame) (m n : ℕ) → m < n → names_below frames m + length (frame_at frames m) ≤ names_below frames n
 unfolding names_below
@@ -29,17 +33,21 @@ pub rank-within : (es : Frame) (k : Name) → is_some (named es k) ≡ true → 
 rank-within [] k there = absurd (true≢false (sym there))
 rank-within (e ∷ es) k there = by (bytes_eq k e.0) there (rank-within es k)
   where
-    by : (b : Bool) → is_some (cond b (Some e.1) (named es k)) ≡ true → (is_some (named es k) ≡ true → rank k es < length es) → cond (not b) (1 + rank k es) 0 < suc (length es)
+    by : (b : Bool) → is_some (cond b (Some e.1) (named es k)) ≡ true → (is_some (named es k) ≡ true → rank k es < length es) →
+        cond (not b) (1 + rank k es) 0 < suc (length es)
     by true there rest = omega arith
     by false there rest = let shorter : rank k es < length es = rest there in omega (arith, shorter)
 
-left-here : (frames : List Frame) (frame : ℕ) (name : Name) (to : Option Place) → leads (named (frame_at frames frame) name) ≡ Some to → left frames frame name ≡ names_below frames frame + (length (frame_at frames frame) - rank name (frame_at frames frame))
+left-here : (frames : List Frame) (frame : ℕ) (name : Name) (to : Option Place) → leads (named (frame_at frames frame) name) ≡ Some to →
+    left frames frame name ≡ names_below frames frame + (length (frame_at frames frame) - rank name (frame_at frames frame))
 unfolding left
-left-here frames frame name to h = ap (λ v. cond (is_some v) (names_below frames frame + (length (frame_at frames frame) - rank name (frame_at frames frame))) 0) h
+left-here frames frame name to h =
+    ap (λ v. cond (is_some v) (names_below frames frame + (length (frame_at frames frame) - rank name (frame_at frames frame))) 0) h
 
 left-nothing : (frames : List Frame) (frame : ℕ) (name : Name) → leads (named (frame_at frames frame) name) ≡ None → left frames frame name ≡ 0
 unfolding left
-left-nothing frames frame name h = ap (λ v. cond (is_some v) (names_below frames frame + (length (frame_at frames frame) - rank name (frame_at frames frame))) 0) h
+left-nothing frames frame name h =
+    ap (λ v. cond (is_some v) (names_below frames frame + (length (frame_at frames frame) - rank name (frame_at frames frame))) 0) h
 
 module _ (frames : List Frame) (frame : ℕ) (name : Name) (to : Place) (ends : LinksEnd frames) (h : leads (named (frame_at frames frame) name) ≡ Some (Some to)) where
   here : left frames frame name ≡ names_below frames frame + (length (frame_at frames frame) - rank name (frame_at frames frame))
@@ -71,12 +79,14 @@ module _ (frames : List Frame) (frame : ℕ) (name : Name) (to : Place) (ends : 
           ]
 
 -- a link keeps to the frame and the name that it leads to
-pub onward_to : (to : Option Place) (index : Option Name) (next : Place) → onward to index ≡ Some next → (t : Place) × (to ≡ Some t) × (t.frame ≡ next.frame) × (t.name ≡ next.name)
+pub onward_to : (to : Option Place) (index : Option Name) (next : Place) → onward to index ≡ Some next → (t : Place) × (to ≡ Some t)
+    × (t.frame ≡ next.frame) × (t.name ≡ next.name)
 onward_to None index next h = absurd (none_is_some h)
 onward_to (Some t) None next h = (t, refl, ap (λ p. p.frame) (same_some h), ap (λ p. p.name) (same_some h))
 onward_to (Some t) (Some index) next h = by t.index h
   where
-    by : (element : Option Name) → element_of t.frame t.name element index ≡ Some next → (s : Place) × (Some t ≡ Some s) × (s.frame ≡ next.frame) × (s.name ≡ next.name)
+    by : (element : Option Name) → element_of t.frame t.name element index ≡ Some next → (s : Place) × (Some t ≡ Some s) × (s.frame ≡ next.frame)
+        × (s.name ≡ next.name)
     by None h = (t, refl, ap (λ p. p.frame) (same_some h), ap (λ p. p.name) (same_some h))
     by (Some element) h = absurd (none_is_some h)
 

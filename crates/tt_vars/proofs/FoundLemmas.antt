@@ -1,5 +1,6 @@
 -- What is found by a name is what reading and removing the name work on.
-use Rattle.std.proofs.Common.{◌≡◌, ℕ, List, Option, Some, None, Result, Ok, Err, bytes_eq, slice_get, position, remove, refl, ap, sym, subst, ◌∙◌, is_some, true≢false}
+use Rattle.std.proofs.Common.{◌≡◌, ℕ, List, Option, Some, None, Result, Ok, Err, bytes_eq, slice_get, position, remove}
+use Rattle.std.proofs.Common.{refl, ap, sym, subst, ◌∙◌, is_some, true≢false}
 use Rattle.std.specs.Map.{keys_of, values_of, lookup, remove_entry}
 use Rattle.std.specs.Option.{ok_or}
 use Rattle.indexmap.specs.IndexMap.{set_value_at, insert_entry}
@@ -41,7 +42,8 @@ no_link_found (Link to) index e is = absurd (err_is_ok is)
 Faults : VarFault → Frame → Name → Variable → Option Name → VarFault → Type 0
 Faults missing frame n v index fault = (removed missing frame n (Some v) index ≡ Err fault) × (read missing (Some v) index ≡ Err fault)
 
-faults : (missing : VarFault) (frame : Frame) (n : Name) (v : Variable) (index : Option Name) (fault : VarFault) → element_in v index ≡ Err fault → Faults missing frame n v index fault
+faults : (missing : VarFault) (frame : Frame) (n : Name) (v : Variable) (index : Option Name) (fault : VarFault) → element_in v index ≡ Err fault →
+    Faults missing frame n v index fault
 unfolding Faults
 faults missing frame n (Scalar text) None fault is = absurd (err_is_ok (sym is))
 faults missing frame n (Array elements) None fault is = absurd (err_is_ok (sym is))
@@ -50,7 +52,8 @@ faults missing frame n (Link to) index fault is = (ap Err (same_err is), ap Err 
 faults missing frame n (Array elements) (Some index) fault is = by (position (bytes_eq index) (keys_of elements)) refl is
   where
     by : (r : Option ℕ) → position (bytes_eq index) (keys_of elements) ≡ r → result_of Some (ok_or r NoSuchElement) ≡ Err fault
-        → (without_element frame n elements index (lookup (bytes_eq index) elements) ≡ Err fault) × (ok_or (lookup (bytes_eq index) elements) NoSuchElement ≡ Err fault)
+        → (without_element frame n elements index (lookup (bytes_eq index) elements) ≡ Err fault)
+        × (ok_or (lookup (bytes_eq index) elements) NoSuchElement ≡ Err fault)
     by (Some place) p is = absurd (err_is_ok (sym is))
     by None p is =
         let none = (Missing-position (bytes_eq index) elements p).value in
@@ -64,17 +67,24 @@ finds : (missing : VarFault) (frame : Frame) (n : Name) (v : Variable) (i : ℕ)
     position (bytes_eq n) (keys_of frame) ≡ Some i → element_in v index ≡ Ok e → Finds missing frame n v i index e
 unfolding Finds
 finds missing frame n (Scalar text) i None e p is =
-    let none : None ≡ e = same_ok is in
-    (ap Ok (removed_place frame n i p) ∙ ap (λ e. Ok (removed_in frame i (Some (Scalar text)) e)) none, ap (λ e. ok_or (text_in (Some (Scalar text)) e) IsArray) none)
+    let none : None ≡ e = same_ok is in (
+      ap Ok (removed_place frame n i p)
+          ∙ ap (λ e. Ok (removed_in frame i (Some (Scalar text)) e)) none,
+      ap (λ e. ok_or (text_in (Some (Scalar text)) e) IsArray) none,
+    )
 finds missing frame n (Array elements) i None e p is =
-    let none : None ≡ e = same_ok is in
-    (ap Ok (removed_place frame n i p) ∙ ap (λ e. Ok (removed_in frame i (Some (Array elements)) e)) none, ap (λ e. ok_or (text_in (Some (Array elements)) e) IsArray) none)
+    let none : None ≡ e = same_ok is in (
+      ap Ok (removed_place frame n i p)
+          ∙ ap (λ e. Ok (removed_in frame i (Some (Array elements)) e)) none,
+      ap (λ e. ok_or (text_in (Some (Array elements)) e) IsArray) none,
+    )
 finds missing frame n (Scalar text) i (Some index) e p is = absurd (err_is_ok is)
 finds missing frame n (Link to) i index e p is = absurd (err_is_ok is)
 finds missing frame n (Array elements) i (Some index) e p is =
     by (position (bytes_eq index) (keys_of elements)) (lookup (bytes_eq index) elements) refl refl is
   where
-    by : (r : Option ℕ) (t : Option (List ℕ)) → position (bytes_eq index) (keys_of elements) ≡ r → lookup (bytes_eq index) elements ≡ t → result_of Some (ok_or r NoSuchElement) ≡ Ok e
+    by : (r : Option ℕ) (t : Option (List ℕ)) → position (bytes_eq index) (keys_of elements) ≡ r → lookup (bytes_eq index) elements ≡ t →
+        result_of Some (ok_or r NoSuchElement) ≡ Ok e
         → (without_element frame n elements index (lookup (bytes_eq index) elements) ≡ Ok (removed_in frame i (Some (Array elements)) e))
         × (ok_or (lookup (bytes_eq index) elements) NoSuchElement ≡ ok_or (text_in (Some (Array elements)) e) IsArray)
     by None t q l is = absurd (err_is_ok is)
@@ -91,7 +101,7 @@ finds missing frame n (Array elements) i (Some index) e p is =
 none_at : {old : List ℕ} → None ≡ Some old → ⊥
 none_at h = cc
 
--- where a text is found, another is written in its stead
+-- if a text is found, another is written in its stead
 puts : (frame : Frame) (n : Name) (v : Variable) (i : ℕ) (index : Option Name) (e : Option ℕ) (old text : List ℕ) →
     position (bytes_eq n) (keys_of frame) ≡ Some i → element_in v index ≡ Ok e → text_in (Some v) e ≡ Some old →
     result_of (with frame n) (written (Some v) index text) ≡ Ok (put_by frame i (Some v) e text)
@@ -105,7 +115,8 @@ puts frame n (Array elements) i (Some index) e old text p is there =
     by (position (bytes_eq index) (keys_of elements)) refl is
   where
     by : (r : Option ℕ) → position (bytes_eq index) (keys_of elements) ≡ r → result_of Some (ok_or r NoSuchElement) ≡ Ok e
-        → ◌≡◌ {A = Result Frame VarFault} (Ok (with frame n (Array (insert_entry bytes_eq elements index text)))) (Ok (put_by frame i (Some (Array elements)) e text))
+        → ◌≡◌ {A = Result Frame VarFault} (Ok (with frame n (Array (insert_entry bytes_eq elements index text))))
+        (Ok (put_by frame i (Some (Array elements)) e text))
     by None q is = absurd (err_is_ok is)
     by (Some j) q is =
         ap Ok (ap (λ ps. with frame n (Array ps)) (put_place elements index j q text) ∙ put_place frame n i p (Array (set_value_at elements j text)))
@@ -151,9 +162,12 @@ written-in frames place (Err fault) after is = absurd (err_is_ok is)
 -- what is written in its frame is written among the frames
 pub found-written : (frames : List Frame) (stands : Option Place) (place : Place) (frame : Frame) (found : Found) →
     stands ≡ Some place → frame ≡ frame_at frames place.frame →
-    ((old text : List ℕ) → text_at frame found ≡ Some old → result_of (with frame place.name) (written (named frame place.name) place.index text) ≡ Ok (put_at frame found text)) →
-    (old text : List ℕ) → text_at (frame_at frames place.frame) found ≡ Some old → written_at frames stands text ≡ Ok (with_frame frames place.frame (put_at (frame_at frames place.frame) found text))
+    ((old text : List ℕ) → text_at frame found ≡ Some old →
+    result_of (with frame place.name) (written (named frame place.name) place.index text) ≡ Ok (put_at frame found text)) →
+    (old text : List ℕ) → text_at (frame_at frames place.frame) found ≡ Some old →
+    written_at frames stands text ≡ Ok (with_frame frames place.frame (put_at (frame_at frames place.frame) found text))
 found-written frames stands place frame found is here each old text there =
     ap (λ s. written_at frames s text) is
     ∙ written-in frames place (written (at frames place) place.index text) (put_at (frame_at frames place.frame) found text)
-    (subst (λ f. (old text : List ℕ) → text_at f found ≡ Some old → result_of (with f place.name) (written (named f place.name) place.index text) ≡ Ok (put_at f found text)) here each old text there)
+    (subst (λ f. (old text : List ℕ) → text_at f found ≡ Some old →
+    result_of (with f place.name) (written (named f place.name) place.index text) ≡ Ok (put_at f found text)) here each old text there)

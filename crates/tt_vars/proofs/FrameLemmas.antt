@@ -1,5 +1,6 @@
 -- What the changes of a frame leave of its names.
-use Rattle.std.proofs.Common.{◌≡◌, ℕ, zero, suc, Bool, true, false, cond, List, [], ◌∷◌, Some, None, Result, Ok, Err, bytes_eq, slice_get, refl, ap, sym, ◌∙◌, true≢false, is_some, unwrap_or}
+use Rattle.std.proofs.Common.{◌≡◌, ℕ, zero, suc, Bool, true, false, cond, List, [], ◌∷◌, Some, None, Result, Ok, Err}
+use Rattle.std.proofs.Common.{bytes_eq, slice_get, refl, ap, sym, ◌∙◌, true≢false, is_some, unwrap_or}
 use Rattle.std.specs.Map.{keys_of, values_of, lookup, set_value}
 use Rattle.std.proofs.lemmas.Map.Steps.{set_value_same}
 use Rattle.indexmap.specs.IndexMap.{set_value_at, insert_entry}
@@ -25,7 +26,8 @@ keys-set_at (e ∷ es) zero v = refl
 keys-set_at (e ∷ es) (suc i) v = ap (λ l. e.0 ∷ l) (keys-set_at es i v)
 
 -- a name that is there takes the value in its place
-pub set_value-insert : {X : Type 0} (es : List (Name × X)) (n : Name) (v w : X) → lookup (bytes_eq n) es ≡ Some v → set_value (bytes_eq n) es w ≡ insert_entry bytes_eq es n w
+pub set_value-insert : {X : Type 0} (es : List (Name × X)) (n : Name) (v w : X) → lookup (bytes_eq n) es ≡ Some v →
+    set_value (bytes_eq n) es w ≡ insert_entry bytes_eq es n w
 set_value-insert [] n v w at = absurd (none_is_some at)
 set_value-insert {X} (e ∷ es) n v w at = by (bytes_eq n e.0) at (set_value-insert es n v w)
   where

@@ -38,17 +38,25 @@ module _ (growth : Growth) (texts : List (List ℕ)) (old : List Frame) (place :
   made : (answer : ListAnswer) (text : List ℕ) → text_at (frame_at old number) found ≡ Some text
       → Takes (Ok answer) old place (with_frame old number (after_growing (put_at (frame_at old number) found) (frame_at old number) (Some answer)))
   made (Bad message) text at = stays
-  made (Made longer) text at =
-      (is.0, is.1, subst (λ made. Puts made old (with_frame old number (put_at (frame_at old number) found longer)) Yes) (sym (is.2.3 text longer at)) (refl, refl))
+  made (Made longer) text at = (
+    is.0,
+    is.1,
+    subst (λ made. Puts made old (with_frame old number (put_at (frame_at old number) found longer)) Yes)
+        (sym (is.2.3 text longer at)) (refl, refl),
+  )
 
   grew : (text : Option (List ℕ)) → text_at (frame_at old number) found ≡ text
-      → Grows growth texts old place (with_frame old number (after_growing (put_at (frame_at old number) found) (frame_at old number) (option_map (grown growth texts) text))) (ok_or (option_map (grown growth texts) text) IsArray)
+      → Grows growth texts old place
+      (with_frame old number (after_growing (put_at (frame_at old number) found) (frame_at old number) (option_map (grown growth texts) text)))
+      (ok_or (option_map (grown growth texts) text) IsArray)
   grew None at = ((is.0, is.1, ap (result_of (grown growth texts)) (sym (is.2.2 ∙ ap (λ t. ok_or t IsArray) at))), stays)
-  grew (Some text) at = ((is.0, is.1, ap (result_of (grown growth texts)) (sym (is.2.2 ∙ ap (λ t. ok_or t IsArray) at))), made (grown growth texts text) text at)
+  grew (Some text) at =
+      ((is.0, is.1, ap (result_of (grown growth texts)) (sym (is.2.2 ∙ ap (λ t. ok_or t IsArray) at))), made (grown growth texts text) text at)
 
   pub grows : (before new : Frame) (answer : Option ListAnswer) (told : Result ListAnswer VarFault) → before ≡ frame_at old number → told ≡ ok_or answer IsArray
       → answer ≡ option_map (grown growth texts) (text_at before found) → new ≡ after_growing (put_at before found) before answer
       → Grows growth texts old place (with_frame old number new) told
   grows before new answer told here told_is answer_is new_is =
-      let answered : answer ≡ option_map (grown growth texts) (text_at (frame_at old number) found) = answer_is ∙ ap (λ f. option_map (grown growth texts) (text_at f found)) here in
+      let answered : answer ≡ option_map (grown growth texts) (text_at (frame_at old number) found) =
+      answer_is ∙ ap (λ f. option_map (grown growth texts) (text_at f found)) here in
       rw (told_is, new_is, here, answered) (grew (text_at (frame_at old number) found) refl)

@@ -1,5 +1,6 @@
--- Links of a frame stay, in their order, where what is no link is written or removed.
-use Rattle.std.proofs.Common.{◌≡◌, ℕ, zero, suc, ◌+◌, ◌<◌, Bool, true, false, cond, not, [], ◌∷◌, Option, Some, None, bytes_eq, slice_get, remove, refl, ap, sym, subst, ◌∙◌, true≢false, arith, is_some}
+-- Links of a frame stay, in their order, if what is no link is written or removed.
+use Rattle.std.proofs.Common.{◌≡◌, ℕ, zero, suc, ◌+◌, ◌<◌, Bool, true, false, cond, not, [], ◌∷◌, Option, Some, None}
+use Rattle.std.proofs.Common.{bytes_eq, slice_get, remove, refl, ap, sym, subst, ◌∙◌, true≢false, arith, is_some}
 use Rattle.std.specs.Cmp.Lexicographic.{nat_list_eq_equiv}
 use Rattle.std.specs.List.{position_or_len}
 use Rattle.std.specs.Map.{keys_of, values_of, lookup, set_value}
@@ -28,7 +29,8 @@ keeps-keys : (es fs : Frame) → keys_of fs ≡ keys_of es → ((q : Name) → l
 keeps-keys es fs keys same k to h =
     (sym (same k) ∙ h, λ m next g lt. subst (λ ks. position_or_len (bytes_eq k) ks < position_or_len (bytes_eq m) ks) (sym keys) lt)
 
-leads-set_value : (es : Frame) (n : Name) (v w : Variable) → lookup (bytes_eq n) es ≡ Some v → leads (Some w) ≡ leads (Some v) → (q : Name) → leads (named (set_value (bytes_eq n) es w) q) ≡ leads (named es q)
+leads-set_value : (es : Frame) (n : Name) (v w : Variable) → lookup (bytes_eq n) es ≡ Some v → leads (Some w) ≡ leads (Some v) → (q : Name) →
+    leads (named (set_value (bytes_eq n) es w) q) ≡ leads (named es q)
 leads-set_value [] n v w at same q = absurd (none_is_some at)
 leads-set_value (e ∷ es) n v w at same q = by (bytes_eq n e.0) at (λ h. leads-set_value es n v w h same q)
   where
@@ -39,15 +41,19 @@ leads-set_value (e ∷ es) n v w at same q = by (bytes_eq n e.0) at (λ h. leads
     by false at rest = leads-cond (bytes_eq q e.0) (Some e.1) (Some e.1) (named (set_value (bytes_eq n) es w) q) (named es q) refl (rest at)
 
 -- a name that is there takes what leads where it led
-pub keeps-through : (es : Frame) (n : Name) (v w : Variable) → named es n ≡ Some v → leads (Some w) ≡ leads (Some v) → KeepsLinks es (set_value (bytes_eq n) es w)
+pub keeps-through : (es : Frame) (n : Name) (v w : Variable) → named es n ≡ Some v → leads (Some w) ≡ leads (Some v) →
+    KeepsLinks es (set_value (bytes_eq n) es w)
 keeps-through es n v w at same = keeps-keys es (set_value (bytes_eq n) es w) (keys-set_value (bytes_eq n) es w) (leads-set_value es n v w at same)
 
-leads-set_at : (es : Frame) (i : ℕ) (v w : Variable) → slice_get (values_of es) i ≡ Some v → leads (Some w) ≡ leads (Some v) → (q : Name) → leads (named (set_value_at es i w) q) ≡ leads (named es q)
+leads-set_at : (es : Frame) (i : ℕ) (v w : Variable) → slice_get (values_of es) i ≡ Some v → leads (Some w) ≡ leads (Some v) → (q : Name) →
+    leads (named (set_value_at es i w) q) ≡ leads (named es q)
 leads-set_at [] i v w at same q = absurd (none_is_some at)
 leads-set_at (e ∷ es) zero v w at same q = leads-cond (bytes_eq q e.0) (Some w) (Some e.1) (named es q) (named es q) (same ∙ ap leads (sym at)) refl
-leads-set_at (e ∷ es) (suc i) v w at same q = leads-cond (bytes_eq q e.0) (Some e.1) (Some e.1) (named (set_value_at es i w) q) (named es q) refl (leads-set_at es i v w at same q)
+leads-set_at (e ∷ es) (suc i) v w at same q =
+    leads-cond (bytes_eq q e.0) (Some e.1) (Some e.1) (named (set_value_at es i w) q) (named es q) refl (leads-set_at es i v w at same q)
 
-pub keeps-set_at : (es : Frame) (i : ℕ) (v w : Variable) → slice_get (values_of es) i ≡ Some v → leads (Some w) ≡ leads (Some v) → KeepsLinks es (set_value_at es i w)
+pub keeps-set_at : (es : Frame) (i : ℕ) (v w : Variable) → slice_get (values_of es) i ≡ Some v → leads (Some w) ≡ leads (Some v) →
+    KeepsLinks es (set_value_at es i w)
 keeps-set_at es i v w at same = keeps-keys es (set_value_at es i w) (keys-set_at es i w) (leads-set_at es i v w at same)
 
 -- ---- a new name, which goes last ----
@@ -65,7 +71,8 @@ leads-with (e ∷ es) n v q no_link absent = by (bytes_eq n e.0) absent (leads-w
     by true absent rest = absurd (none_is_some (sym absent))
     by false absent rest = leads-cond (bytes_eq q e.0) (Some e.1) (Some e.1) (named (with es n v) q) (named es q) refl (rest absent)
 
-rank-front : (c : Bool) (e : Variable) (old : Option Variable) (m n : ℕ) → is_some (cond c (Some e) old) ≡ true → (is_some old ≡ true → m ≡ n) → cond (not c) (1 + m) 0 ≡ cond (not c) (1 + n) 0
+rank-front : (c : Bool) (e : Variable) (old : Option Variable) (m n : ℕ) → is_some (cond c (Some e) old) ≡ true → (is_some old ≡ true → m ≡ n) →
+    cond (not c) (1 + m) 0 ≡ cond (not c) (1 + n) 0
 rank-front true e old m n there rest = refl
 rank-front false e old m n there rest = ap (λ r. 1 + r) (rest there)
 
@@ -80,8 +87,10 @@ rank-with (e ∷ es) n v k there = by (bytes_eq n e.0) (rank-with es n v k)
 
 keeps-with : (es : Frame) (n : Name) (v : Variable) → leads (Some v) ≡ None → named es n ≡ None → KeepsLinks es (with es n v)
 keeps-with es n v no_link absent k to h =
-    let was : (q : Name) (next : Option Place) → leads (named (with es n v) q) ≡ Some next → leads (named es q) ≡ Some next = λ q next g. sym (leads-with es n v q no_link absent) ∙ g in
-    let stays : (q : Name) (next : Option Place) → leads (named (with es n v) q) ≡ Some next → rank q (with es n v) ≡ rank q es = λ q next g. rank-with es n v q (link_is_there (named es q) next (was q next g)) in
+    let was : (q : Name) (next : Option Place) → leads (named (with es n v) q) ≡ Some next → leads (named es q) ≡ Some next =
+    λ q next g. sym (leads-with es n v q no_link absent) ∙ g in
+    let stays : (q : Name) (next : Option Place) → leads (named (with es n v) q) ≡ Some next → rank q (with es n v) ≡ rank q es =
+    λ q next g. rank-with es n v q (link_is_there (named es q) next (was q next g)) in
     (was k to h, λ m next g lt. omega (arith, stays k to h, stays m next g, lt))
 
 pub keeps-new : (es fs : Frame) (n : Name) (v : Variable) → leads (Some v) ≡ None → named es n ≡ None → fs ≡ with es n v → KeepsLinks es fs
@@ -92,11 +101,13 @@ keeps-new es fs n v no_link absent is = subst (KeepsLinks es) (sym is) (keeps-wi
 rank-skip : (k : Name) (e : Name × Variable) (es : Frame) → bytes_eq k e.0 ≡ false → rank k (e ∷ es) ≡ 1 + rank k es
 rank-skip k e es h = ap (λ b. cond (not b) (1 + rank k es) 0) h
 
-rank-remove : (es : Frame) (i : ℕ) (n : Name) (v : Variable) (k m : Name) → slice_get es i ≡ Some (n, v) → bytes_eq n k ≡ false → bytes_eq n m ≡ false → rank k es < rank m es → rank k (remove es i) < rank m (remove es i)
+rank-remove : (es : Frame) (i : ℕ) (n : Name) (v : Variable) (k m : Name) → slice_get es i ≡ Some (n, v) → bytes_eq n k ≡ false → bytes_eq n m ≡ false →
+    rank k es < rank m es → rank k (remove es i) < rank m (remove es i)
 rank-remove [] i n v k m at apart_k apart_m lt = absurd (none_is_some at)
 rank-remove (e ∷ es) zero n v k m at apart_k apart_m lt =
     let is : e.0 ≡ n = ap (λ p. p.0) (same_some at) in
-    let skip : (q : Name) → bytes_eq n q ≡ false → rank q (e ∷ es) ≡ 1 + rank q es = λ q a. rank-skip q e es (ap (bytes_eq q) is ∙ nat_list_eq_equiv.symm q n ∙ a) in
+    let skip : (q : Name) → bytes_eq n q ≡ false → rank q (e ∷ es) ≡ 1 + rank q es =
+    λ q a. rank-skip q e es (ap (bytes_eq q) is ∙ nat_list_eq_equiv.symm q n ∙ a) in
     let shorter : rank k es < rank m es = omega (arith, lt, skip k apart_k, skip m apart_m) in
     shorter
 rank-remove (e ∷ es) (suc i) n v k m at apart_k apart_m lt = by (bytes_eq k e.0) (bytes_eq m e.0) lt (rank-remove es i n v k m at apart_k apart_m)

@@ -54,7 +54,8 @@ module _ (frames : List Frame) where
   stands-end (linked h o s) = stands-end s
 
   -- a name with an index stands for an element of what it stands for without
-  pub stands-whole : {place t : Place} → StandsFor frames place (Some t) → (index : Option Name) × StandsFor frames (place_of place.frame place.name None) (Some (place_of t.frame t.name index))
+  pub stands-whole : {place t : Place} → StandsFor frames place (Some t) → (index : Option Name)
+      × StandsFor frames (place_of place.frame place.name None) (Some (place_of t.frame t.name index))
   stands-whole {place} (itself h) = (None, itself h)
   stands-whole {place} {t} (linked {next = next} {to = to} h o s) = by to place.index h o (stands-whole s) s
     where
@@ -66,9 +67,10 @@ module _ (frames : List Frame) where
       by (Some up) (Some k) h o rest s =
           (rest.0, linked h refl (subst (λ p. StandsFor frames p (Some (place_of t.frame t.name rest.0))) (sym (element-next up next k o)) rest.1))
 
-  -- what a link is made to, where the answer is yes
+  -- what a link is made to, if the answer is yes
   pub can-link : (frame : ℕ) (name : Name) (place : Place) (whole stands : Option Place) → LinksEnd frames → place.frame ≤ frame →
-      StandsFor frames (place_of place.frame place.name None) whole → StandsFor frames place stands → link_answer frames frame name whole stands ≡ answers.Yes → CanLink frames frame name stands
+      StandsFor frames (place_of place.frame place.name None) whole → StandsFor frames place stands →
+      link_answer frames frame name whole stands ≡ answers.Yes → CanLink frames frame name stands
   can-link frame name place whole None ends lower w s agrees = (yes-means false (is_set (named (frame_at frames frame) name)) (is_of frame name whole) agrees).0
   can-link frame name place whole (Some t) ends lower w s agrees =
       let free = yes-means (is_variable frame name (Some t)) (is_set (named (frame_at frames frame) name)) (is_of frame name whole) agrees in

@@ -44,7 +44,7 @@ onward None index = None
 onward (Some to) None = Some to
 onward (Some to) (Some index) = element_of to.frame to.name to.index index
 
--- what a name stands for after its links: a variable or an element; nothing, where it would be an element's element
+-- what a name stands for after its links: a variable or an element; nothing, if it would be an element's element
 pub data StandsFor (frames : List Frame) : Place → Option Place → Type 0 where
   itself : {place : Place} → leads (at frames place) ≡ None → StandsFor frames place (Some place)
   nothing : {place : Place} {to : Option Place} →
@@ -59,7 +59,7 @@ pub data StandsFor (frames : List Frame) : Place → Option Place → Type 0 whe
 
 -- ---- reading ----
 
--- the fault of a missing name; where a link leads to an element, that is what is missing
+-- the fault of a missing name; if a link leads to an element, that is what is missing
 abbrev pub missing : Option Name → Option Name → VarFault
 missing None None = NoSuchVariable
 missing None (Some element) = NoSuchElement
@@ -87,7 +87,7 @@ ReadsAs meaning frames place answer =
 abbrev pub lent : Result (Bor (List ℕ)) VarFault → Result (List ℕ) VarFault
 lent answer = result_map_both (λ value. value.now) (λ fault. fault) answer
 
--- the elements of a place, where it is an array
+-- the elements of a place, if it is an array
 abbrev pub array_at : Option Variable → Option Name → Option Pairs
 array_at variable None = elements_of variable
 array_at variable (Some element) = None
@@ -129,7 +129,7 @@ Writes old place text new answer =
     × StandsFor old place stands
     × Puts (written_at old stands text) old new answer
 
--- the longer text that was made of what is read is written; where none was made nothing has changed
+-- the longer text that was made of what is read is written; if none was made nothing has changed
 abbrev pub Takes : Result ListAnswer VarFault → List Frame → Place → List Frame → Type 0
 Takes (Ok (Made text)) old place new = Writes old place text new Yes
 Takes (Ok (Bad message)) old place new = new ≡ old
@@ -148,7 +148,7 @@ removed_of frames index (Some place) =
     result_of (with_frame frames place.frame)
     (removed (missing index place.index) (frame_at frames place.frame) place.name (at frames place) place.index)
 
--- it was removed, or the fault is told and nothing has changed
+-- it was removed, or the fault is reported and nothing has changed
 abbrev pub Removed : {X : Type 0} →
     Result (List Frame) VarFault → List Frame → List Frame → Result X VarFault → Type 0
 Removed (Ok made) old new answer = IsOk answer × (new ≡ made)

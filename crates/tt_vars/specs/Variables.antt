@@ -27,7 +27,7 @@ Frame = List (Name × Variable)
 abbrev pub named : Frame → Name → Option Variable
 named frame name = lookup (bytes_eq name) frame
 
--- where a link leads; None where the name is no link
+-- where a link leads; None if the name is no link
 abbrev pub leads : Option Variable → Option (Option Place)
 leads None = None
 leads (Some (Scalar text)) = None
@@ -41,14 +41,14 @@ is_set (Some (Scalar text)) = true
 is_set (Some (Array elements)) = true
 is_set (Some (Link to)) = false
 
--- the elements of an array; None where the name is none
+-- the elements of an array; None if the name is none
 abbrev pub elements_of : Option Variable → Option Pairs
 elements_of None = None
 elements_of (Some (Scalar text)) = None
 elements_of (Some (Array elements)) = Some elements
 elements_of (Some (Link to)) = None
 
--- what reading answers; `missing` is the fault where there is no such name
+-- what reading answers; `missing` is the fault if there is no such name
 abbrev pub read : VarFault → Option Variable → Option Name → Result (List ℕ) VarFault
 read missing None index = Err missing
 read missing (Some (Scalar text)) None = Ok text
@@ -67,7 +67,7 @@ written (Some (Array elements)) None text = Err IsArray
 written (Some (Array elements)) (Some index) text = Ok (Array (insert_entry bytes_eq elements index text))
 written (Some (Link to)) index text = Err NotArray
 
--- the frame, where the name is this variable: in its place, or last
+-- the frame, if the name is this variable: in its place, or last
 abbrev pub with : Frame → Name → Variable → Frame
 with frame name variable = insert_entry bytes_eq frame name variable
 
@@ -75,7 +75,7 @@ with frame name variable = insert_entry bytes_eq frame name variable
 abbrev pub without : Frame → Name → Frame
 without frame name = remove_entry (bytes_eq name) frame
 
--- the frame, where an array has an element no more, if it had it
+-- the frame, if an array has an element no more, if it had it
 abbrev pub without_element : Frame → Name → Pairs → Name → Option (List ℕ) → Result Frame VarFault
 without_element frame name elements index None = Err NoSuchElement
 without_element frame name elements index (Some text) =
@@ -96,7 +96,7 @@ abbrev pub result_of : {X Y : Type 0} → (X → Y) → Result X VarFault → Re
 result_of change (Ok value) = Ok (change value)
 result_of change (Err fault) = Err fault
 
--- what was to be made was made, or the fault is told and nothing has changed
+-- what was to be made was made, or the fault is reported and nothing has changed
 abbrev pub Puts : {X : Type 0} → Result X VarFault → X → X → Written → Type 0
 Puts (Ok made) old new answer = (answer ≡ Yes) × (new ≡ made)
 Puts (Err fault) old new answer = (answer ≡ No fault) × (new ≡ old)

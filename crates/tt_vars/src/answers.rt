@@ -5,7 +5,7 @@ pub enum VarFault {
     NoSuchVariable,
     /// The array has no such element; or a link leads to an element that is missing.
     NoSuchElement,
-    /// An array is named where a scalar is needed.
+    /// An array is named if a scalar is needed.
     IsArray,
     /// An element is named of what is a scalar or an element.
     NotArray,

@@ -32,7 +32,7 @@ impl Model for Elements {
 impl Elements {
     /// One element.
     ///
-    /// `NoMemory` where memory for it is refused.
+    /// `NoMemory` if memory for it is refused.
     pub(crate) fn one(alloc: Global, index: Text, value: Value) -> Result<Self, NoMemory>
         ensures one { IfOk result (λ elements. elements ≡ (index, value) ∷ []) }
     {
@@ -41,14 +41,14 @@ impl Elements {
         Ok(Elements { map })
     }
 
-    /// The value at an index; None where there is none.
+    /// The value at an index; None if there is none.
     pub(crate) fn get(&self, index: &Text) -> Option<&Value>
         ensures found { option_copied result ≡ lookup (bytes_eq index.now) self.now }
     {
         self.map.get(index)
     }
 
-    /// Which of the elements has this index, counted from 0; None where there is none.
+    /// Which of the elements has this index, counted from 0; None if there is none.
     pub(crate) fn position(&self, index: &Text) -> Option<usize>
         ensures found { result ≡ position (bytes_eq index.now) (keys_of self.now) }
     {
@@ -57,7 +57,7 @@ impl Elements {
 
     /// Gives an index this value. An index that is there keeps its place, and a new one goes last.
     ///
-    /// `NoMemory` where memory for it is refused; then the elements are as they were.
+    /// `NoMemory` if memory for it is refused; then the elements are as they were.
     pub(crate) fn put(&mut self, index: Text, value: Value) -> Result<(), NoMemory>
         ensures put { OnOk result (self.new ≡ insert_entry bytes_eq self.old index value) }
         ensures unchanged { OnErr result (self.new ≡ self.old) }
@@ -82,7 +82,7 @@ impl Elements {
 
     /// What the value at a place is read as.
     ///
-    /// `NoMemory` where memory is refused.
+    /// `NoMemory` if memory is refused.
     pub(crate) fn read_at<R: Reading>(
         &mut self,
         place: usize,
@@ -102,7 +102,7 @@ impl Elements {
 
     /// Puts texts at the end of the value at a place.
     ///
-    /// `NoMemory` where memory is refused; then some of the texts may be there.
+    /// `NoMemory` if memory is refused; then some of the texts may be there.
     pub(crate) fn grow_at(
         &mut self,
         place: usize,
@@ -123,7 +123,7 @@ impl Elements {
 
     /// The indices, in order.
     ///
-    /// `NoMemory` where memory for them is refused.
+    /// `NoMemory` if memory for them is refused.
     pub(crate) fn names(&self) -> Result<Texts, NoMemory>
         ensures names { IfOk result (λ names. names ≡ keys_of self.now) }
     {

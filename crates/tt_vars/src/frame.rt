@@ -58,7 +58,7 @@ impl Frame {
         }
     }
 
-    /// The value of a name, or of its element; `missing` is the fault where there is no such name.
+    /// The value of a name, or of its element; `missing` is the fault if there is no such name.
     pub(crate) fn read(
         &self,
         name: &Text,
@@ -82,7 +82,7 @@ impl Frame {
 
     /// Writes a value to a name, or to its element. A new name goes last.
     ///
-    /// `NoMemory` where memory for it is refused; then the frame is as it was.
+    /// `NoMemory` if memory for it is refused; then the frame is as it was.
     pub(crate) fn write(
         &mut self,
         name: Text,
@@ -105,7 +105,7 @@ impl Frame {
 
     /// Makes a name a link. A new name goes last.
     ///
-    /// `NoMemory` where memory for it is refused; then the frame is as it was.
+    /// `NoMemory` if memory for it is refused; then the frame is as it was.
     pub(crate) fn put_link(&mut self, name: Text, to: Option<Place>) -> Result<(), NoMemory>
         ensures put { OnOk result (self.new ≡ with self.old name (Link to)) }
         ensures named { OnOk result ((other : Name) →
@@ -174,9 +174,9 @@ impl Frame {
         }
     }
 
-    /// What the value that was found is read as; None where it is an array.
+    /// What the value that was found is read as; None if it is an array.
     ///
-    /// `NoMemory` where memory is refused.
+    /// `NoMemory` if memory is refused.
     pub(crate) fn read_at<R: Reading>(
         &mut self,
         found: Found,
@@ -192,9 +192,9 @@ impl Frame {
         read_in(alloc, variable, found.element, reading)
     }
 
-    /// Puts texts at the end of the value that was found; None where it is an array.
+    /// Puts texts at the end of the value that was found; None if it is an array.
     ///
-    /// `NoMemory` where memory is refused; then some of the texts may be there.
+    /// `NoMemory` if memory is refused; then some of the texts may be there.
     pub(crate) fn grow_at(
         &mut self,
         found: Found,
@@ -212,9 +212,9 @@ impl Frame {
         grow_in(alloc, variable, found.element, growth, texts)
     }
 
-    /// The indices of an array, in order; None where the name is no array.
+    /// The indices of an array, in order; None if the name is no array.
     ///
-    /// `NoMemory` where memory for them is refused.
+    /// `NoMemory` if memory for them is refused.
     pub(crate) fn names(&self, name: &Text) -> Result<Option<Texts>, NoMemory>
         ensures names { IfOk result (λ names. names ≡ option_map keys_of (elements_of (named self.now name.now))) }
     {
@@ -237,7 +237,7 @@ impl Frame {
         )
     }
 
-    /// How many elements an array has; None where the name is no array.
+    /// How many elements an array has; None if the name is no array.
     pub(crate) fn size(&self, name: &Text) -> Option<usize>
         ensures size { result ≡ option_map length (elements_of (named self.now name.now)) }
     {

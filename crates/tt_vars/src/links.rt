@@ -17,7 +17,7 @@ pub(crate) struct Spot<'a> {
     pub(crate) index: Option<&'a Text>,
 }
 
-/// What a name stands for after its links (upvar(n)); None where it would be an element of an element.
+/// What a name stands for after its links (upvar(n)); None if it would be an element of an element.
 pub(crate) fn follow<'a>(frames: &'a [Frame], spot: Spot<'a>) -> Option<Spot<'a>>
     requires ends { LinksEnd frames.now }
     requires there { spot.frame < length frames.now }
@@ -61,7 +61,7 @@ fn onward<'a>(to: &'a Option<Place>, index: Option<&'a Text>) -> Option<Spot<'a>
 
 /// A place as a value of its own.
 ///
-/// `NoMemory` where memory for it is refused.
+/// `NoMemory` if memory for it is refused.
 pub(crate) fn owned(spot: Option<Spot>) -> Result<Option<Place>, NoMemory>
     ensures owned { IfOk result (λ place. place ≡ option_map place_at spot.entry) }
 {
@@ -79,7 +79,7 @@ pub(crate) fn owned(spot: Option<Spot>) -> Result<Option<Place>, NoMemory>
 
 /// An index as a value of its own.
 ///
-/// `NoMemory` where memory for it is refused.
+/// `NoMemory` if memory for it is refused.
 pub(crate) fn owned_index(index: Option<&Text>) -> Result<Option<Text>, NoMemory>
     ensures owned { IfOk result (λ text. text ≡ option_copied index.entry) }
 {
@@ -90,7 +90,7 @@ pub(crate) fn owned_index(index: Option<&Text>) -> Result<Option<Text>, NoMemory
     Ok(Some(index))
 }
 
-/// The fault of a missing name; where a link leads to an element, that is what is missing.
+/// The fault of a missing name; if a link leads to an element, that is what is missing.
 pub(crate) fn missing(index: Option<&Text>, element: Option<&Text>) -> VarFault
     ensures { result ≡ missing (option_copied index.entry) (option_copied element.entry) }
 {

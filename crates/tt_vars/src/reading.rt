@@ -18,7 +18,7 @@ pub(crate) trait Reading {
 
     ghost meaning: { Self → List ℕ → Self.Answer };
 
-    /// `NoMemory` where memory is refused.
+    /// `NoMemory` if memory is refused.
     fn read(&self, alloc: Global, value: &mut Value) -> Result<Self::Answer, NoMemory>
         ensures answer { IfOk result (λ answer. answer ≡ meaning self.now value.old) }
         ensures same { value.new ≡ value.old };

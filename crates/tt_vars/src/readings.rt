@@ -17,7 +17,7 @@ use tt_value::{Items, Value};
 impl Vars {
     /// What the value of a name is read as as a whole number (expr(n)), with the faults of `read`. No text changes.
     ///
-    /// `NoMemory` where memory for a list's text is refused.
+    /// `NoMemory` if memory for a list's text is refused.
     pub fn whole(
         &mut self,
         frame: u64,
@@ -34,7 +34,7 @@ impl Vars {
 
     /// What the value of a name is split into as a list (Tcl(n)), with the faults of `read`. No text changes.
     ///
-    /// `NoMemory` where memory for the items is refused.
+    /// `NoMemory` if memory for the items is refused.
     pub fn items(
         &mut self,
         frame: u64,
@@ -49,9 +49,10 @@ impl Vars {
         self.read_as(frame, name, index, &AsItems)
     }
 
-    /// How many items the list has that is the value of a name (llength(n)), with the faults of `read`. No text changes.
+    /// How many items the list has that is the value of a name (llength(n)), with the faults of `read`. No text
+    /// changes.
     ///
-    /// `NoMemory` where memory for the items is refused.
+    /// `NoMemory` if memory for the items is refused.
     pub fn count(
         &mut self,
         frame: u64,
@@ -66,10 +67,10 @@ impl Vars {
         self.read_as(frame, name, index, &AsCount)
     }
 
-    /// The item that a word names in the list that is the value of a name (lindex(n)), with the answers of `Value::item`
-    /// and the faults of `read`. No text changes.
+    /// The item that a word names in the list that is the value of a name (lindex(n)), with the answers of
+    /// `Value::item` and the faults of `read`. No text changes.
     ///
-    /// `NoMemory` where memory is refused.
+    /// `NoMemory` if memory is refused.
     pub fn item(
         &mut self,
         frame: u64,
@@ -89,7 +90,7 @@ impl Vars {
     /// The range between two words of the list that is the value of a name (lrange(n)), with the answers of
     /// `Value::range` and the faults of `read`. No text changes.
     ///
-    /// `NoMemory` where memory is refused.
+    /// `NoMemory` if memory is refused.
     pub fn range(
         &mut self,
         frame: u64,
@@ -99,7 +100,8 @@ impl Vars {
         last: &Text,
     ) -> Result<Result<Result<Value, Text>, VarFault>, NoMemory>
         requires { frame < length self.old }
-        ensures answer { IfOk result (λ answer. ReadsAs (λ text. made_by (range_answer text first.now last.now)) self.old
+        ensures answer { IfOk result (λ answer.
+            ReadsAs (λ text. made_by (range_answer text first.now last.now)) self.old
             (place_of frame name.now (option_copied index.entry)) answer) }
         ensures same { self.new ≡ self.old }
     {

@@ -32,13 +32,13 @@ pub(crate) struct Found {
 pub(crate) enum Variable {
     Scalar(Value),
     Array(Elements),
-    /// None where the other name was that of an element of an element, which stands for nothing.
+    /// None if the other name was that of an element of an element, which stands for nothing.
     Link(Option<Place>),
 }
 
 /// What a missing name is once a value was written to it, or to an element.
 ///
-/// `NoMemory` where memory for it is refused.
+/// `NoMemory` if memory for it is refused.
 pub(crate) fn first_written(
     alloc: Global,
     index: Option<Text>,
@@ -58,7 +58,7 @@ pub(crate) fn first_written(
 
 /// Writes a value to a variable that is there, or to an element.
 ///
-/// `NoMemory` where memory for it is refused; then the variable is as it was.
+/// `NoMemory` if memory for it is refused; then the variable is as it was.
 pub(crate) fn write_to(
     variable: &mut Variable,
     index: Option<Text>,
@@ -89,9 +89,9 @@ pub(crate) fn remove_from(variable: &mut Variable, element: usize)
     }
 }
 
-/// What a scalar, or an element, is read as; None where there is no such value.
+/// What a scalar, or an element, is read as; None if there is no such value.
 ///
-/// `NoMemory` where memory is refused.
+/// `NoMemory` if memory is refused.
 pub(crate) fn read_in<R: Reading>(
     alloc: Global,
     variable: &mut Variable,
@@ -112,9 +112,9 @@ pub(crate) fn read_in<R: Reading>(
     }
 }
 
-/// Puts texts at the end of a scalar, or of an element; None where there is no such value.
+/// Puts texts at the end of a scalar, or of an element; None if there is no such value.
 ///
-/// `NoMemory` where memory is refused; then some of the texts may be there.
+/// `NoMemory` if memory is refused; then some of the texts may be there.
 pub(crate) fn grow_in(
     alloc: Global,
     variable: &mut Variable,

@@ -45,7 +45,7 @@ impl Model for Vars {
 impl Vars {
     /// The global frame alone, with no variables.
     ///
-    /// `NoMemory` where memory for it is refused.
+    /// `NoMemory` if memory for it is refused.
     pub fn new(alloc: Global) -> Result<Self, NoMemory>
         ensures one { IfOk result (λ vars. vars ≡ [] ∷ []) }
     {
@@ -56,7 +56,7 @@ impl Vars {
 
     /// Adds a frame above all others.
     ///
-    /// `NoMemory` where memory for it is refused; then nothing has changed.
+    /// `NoMemory` if memory for it is refused; then nothing has changed.
     pub fn push_frame(&mut self) -> Result<(), NoMemory>
         ensures pushed { OnOk result (self.new ≡ self.old ++ [] ∷ []) }
         ensures unchanged { OnErr result (self.new ≡ self.old) }
@@ -93,7 +93,7 @@ impl Vars {
 
     /// Writes a value to a name (set(n)).
     ///
-    /// `NoMemory` where memory for it is refused; then nothing has changed.
+    /// `NoMemory` if memory for it is refused; then nothing has changed.
     pub fn write(
         &mut self,
         frame: u64,
@@ -126,7 +126,7 @@ impl Vars {
     /// Puts texts at the end of the value of a name, as bytes (append(n)) or as items (lappend(n)), with the answers of
     /// `Value::grow` and the faults of `read`. The value grows where it stands. No frame comes or goes.
     ///
-    /// `NoMemory` where memory is refused; then some of the texts may be there.
+    /// `NoMemory` if memory is refused; then some of the texts may be there.
     pub fn grow(
         &mut self,
         frame: u64,
@@ -151,7 +151,7 @@ impl Vars {
     /// Makes a name a link to what another name stands for after its own links (upvar(n)). A name that is a link is
     /// linked anew. A link makes no variable.
     ///
-    /// `NoMemory` where memory for it is refused; then nothing has changed.
+    /// `NoMemory` if memory for it is refused; then nothing has changed.
     pub fn link(
         &mut self,
         frame: u64,
@@ -190,9 +190,9 @@ impl Vars {
         Ok(answer)
     }
 
-    /// The indices of an array, in order of insertion (array(n), names); None where the name is no array.
+    /// The indices of an array, in order of insertion (array(n), names); None if the name is no array.
     ///
-    /// `NoMemory` where memory for them is refused.
+    /// `NoMemory` if memory for them is refused.
     pub fn names(&self, frame: u64, array: &Text) -> Result<Option<Texts>, NoMemory>
         requires { frame < length self.now }
         ensures { IfOk result (λ names. HasNames self.now (place_of frame array.now None) names) }
@@ -218,7 +218,7 @@ impl Vars {
         }
     }
 
-    /// How many elements an array has (array(n), size); None where the name is no array.
+    /// How many elements an array has (array(n), size); None if the name is no array.
     pub fn size(&self, frame: u64, array: &Text) -> Option<usize>
         requires { frame < length self.now }
         ensures { HasSize self.now (place_of frame array.now None) result }
@@ -269,7 +269,7 @@ impl Vars {
 
     /// What the value of a name is read as, with the faults of `read`. No text changes.
     ///
-    /// `NoMemory` where memory is refused.
+    /// `NoMemory` if memory is refused.
     pub(crate) fn read_as<R: Reading>(
         &mut self,
         frame: u64,

@@ -13,7 +13,9 @@ use Rattle.tt_words.specs.declared.setting.Setting.{Setting}
 use Rattle.tt_words.proofs.KindLemmas.{HasChar, Kind, is_mark, kind_of, option_name, option_value, plain, unknown_long, unknown_short}
 use Rattle.tt_words.specs.inside.Program.{bare, words_name}
 use Rattle.tt_words.proofs.RuleLemmas.{by_id, by_long, long_joined, long_name, option_of, option_takes, top}
-use Rattle.tt_words.proofs.StepLemmas.{IsFree, at, joined_refused, joined_walked, long_refused, mark_walked, named_fault, named_walked, pending_fault, plain_walked, short_refused, trailing_fault, value_walked, with_pending}
+use Rattle.tt_words.proofs.StepLemmas.{IsFree, at, joined_refused, joined_walked, long_refused, mark_walked}
+use Rattle.tt_words.proofs.StepLemmas.{named_fault, named_walked, pending_fault, plain_walked, short_refused}
+use Rattle.tt_words.proofs.StepLemmas.{trailing_fault, value_walked, with_pending}
 use Rattle.tt_words.proofs.WalkLemmas.{fault_end, fault_from, fault_step, joined_not_mark, name_not_mark, pending_lacks}
 
 or_else_left : (a b : Kinds) → or_else a b ≡ [] → a ≡ []

@@ -93,7 +93,7 @@ naming name = by_tests name _ _ _ _ _ _ refl refl refl refl refl refl
 
 -- ---- characters
 
--- after `-` there is a character where there is a byte
+-- after `-` there is a character if there is a byte
 pub record HasChar (flags : Text) : Type 0 where
   pub first : ℕ
   pub rest : Text

@@ -1,6 +1,7 @@
 -- Options and ordinary words ask for one thing at most.
 use Rattle.std.proofs.Common.{◌≡◌, ℕ, List, [], ◌∷◌, Option, Some, None, refl, sym, ap, ◌∙◌, subst}
-use Rattle.tt_words.specs.Asked.{Asked, plain, replay, generate, Plain, Replay, Generate, PartsAskFor, HasFile, HasNumber, IsPlain, IsReplay, IsGenerate, WordsAskFor, Values, WritesWithin}
+use Rattle.tt_words.specs.Asked.{Asked, plain, replay, generate, Plain, Replay, Generate, PartsAskFor, HasFile}
+use Rattle.tt_words.specs.Asked.{HasNumber, IsPlain, IsReplay, IsGenerate, WordsAskFor, Values, WritesWithin}
 use Rattle.tt_words.proofs.ReadingLemmas.{asks_of}
 
 -- ---- numbers, files and scripts

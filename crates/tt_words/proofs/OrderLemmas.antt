@@ -9,7 +9,7 @@ use Rattle.tt_words.proofs.SplitLemmas.{only_option, only_word}
 
 -- ---- options in another order
 
--- where an option comes at most once, it has the same values
+-- if an option comes at most once, it has the same values
 abbrev pub IsMoved : List Given → List Given → Type 0
 IsMoved options others =
     (setting : Setting) → length (values_of setting options) ≤ 1 → values_of setting others ≡ values_of setting options

@@ -26,7 +26,7 @@ once_of words options ordinary asked splits reads =
     let same = one_split words reads.options options reads.ordinary ordinary reads.splits splits in
     subst (λ (o : List Given). (setting : Setting) → length (values_of setting o) ≤ 1) same.0 reads.once
 
--- what the code answers to words that split, where each option comes at most once
+-- what the code answers to words that split, if each option comes at most once
 pub reading_is : (words : List (List ℕ)) (options : List Given) (ordinary : List (List ℕ)) →
     Splits words options ordinary → ((setting : Setting) → length (values_of setting options) ≤ 1) → (asked : Option CodeAsked) →
     IfSome asked (λ a. PartsAskFor (values_in options) ordinary (told_asked a)) →

@@ -166,9 +166,12 @@ module _ (rows : List Row) (pending : Option (Text × List Text)) (word id : Tex
 
   pub joined_fault : (value : Text) (waiting : Waiting) → long_of word ≡ Some (id, Some value) → pending_fault rows pending ≡ [] →
       turn_fault top [] (at rows pending waiting false) word ≡ []
-  joined_fault value idle is fine = rw (no_mark, is, found, one.takes, fine, use_is_right top.args_override_self rule id value (with_pending rows pending) one) refl
-  joined_fault value (option other) is fine = rw (no_mark, is, found, one.takes, fine, use_is_right top.args_override_self rule id value (with_pending rows pending) one) refl
-  joined_fault value positional is fine = rw (no_mark, is, found, one.takes, fine, use_is_right top.args_override_self rule id value (with_pending rows pending) one) refl
+  joined_fault value idle is fine =
+      rw (no_mark, is, found, one.takes, fine, use_is_right top.args_override_self rule id value (with_pending rows pending) one) refl
+  joined_fault value (option other) is fine =
+      rw (no_mark, is, found, one.takes, fine, use_is_right top.args_override_self rule id value (with_pending rows pending) one) refl
+  joined_fault value positional is fine =
+      rw (no_mark, is, found, one.takes, fine, use_is_right top.args_override_self rule id value (with_pending rows pending) one) refl
 
   pub joined_refused : (value : Text) (waiting : Waiting) (k : ErrorKind) (more : Kinds) → long_of word ≡ Some (id, Some value) →
       pending_fault rows pending ≡ k ∷ more → turn_fault top [] (at rows pending waiting false) word ≡ k ∷ more

@@ -1,5 +1,6 @@
 -- The walk of the parser over words that split.
-use Rattle.std.proofs.Common.{◌≡◌, ◌≢◌, ◌==◌, ◌&&◌, ℕ, Bool, true, false, List, [], ◌∷◌, ◌++◌, length, Option, Some, None, bytes_eq, codes, refl, sym, ap, ◌∙◌, subst, append_assoc, append-nil}
+use Rattle.std.proofs.Common.{◌≡◌, ◌≢◌, ◌==◌, ◌&&◌, ℕ, Bool, true, false, List, [], ◌∷◌, ◌++◌, length, Option, Some}
+use Rattle.std.proofs.Common.{None, bytes_eq, codes, refl, sym, ap, ◌∙◌, subst, append_assoc, append-nil}
 use Rattle.std.specs.List.{fold}
 use Rattle.clap.specs.Faults.{settle_fault, turn_fault, walk_fault}
 use Rattle.clap.specs.Kinds.{Kinds, or_else}
@@ -16,7 +17,10 @@ use Rattle.tt_words.proofs.FrontLemmas.{mark_no_name, mark_not_joined}
 use Rattle.tt_words.proofs.RowLemmas.{same_text, values_at, values_more, values_same}
 use Rattle.tt_words.specs.inside.Program.{bare, words_name}
 use Rattle.tt_words.proofs.RuleLemmas.{TakesOne, by_id, by_long, by_words, long_joined, long_name, option_of, option_takes, top, words, words_take}
-use Rattle.tt_words.proofs.StepLemmas.{IsFree, at, joined_walked, mark_fault, mark_walked, named_fault, named_walked, pending_fault, plain_fault, plain_walked, trailing_fault, trailing_walked, use_is_right, use_lacks, used_is, value_fault, value_walked, with_pending, joined_fault}
+use Rattle.tt_words.proofs.StepLemmas.{IsFree, at, joined_walked, mark_fault, mark_walked, named_fault, named_walked}
+use Rattle.tt_words.proofs.StepLemmas.{pending_fault, plain_fault, plain_walked, trailing_fault, trailing_walked}
+use Rattle.tt_words.proofs.StepLemmas.{use_is_right, use_lacks, used_is, value_fault, value_walked, with_pending}
+use Rattle.tt_words.proofs.StepLemmas.{joined_fault}
 
 -- ---- the whole walk
 
@@ -116,12 +120,60 @@ pub data Compared : Setting → Setting → Type 0 where
       Compared one two
 
 compare : (one two : Setting) → Compared one two
-compare Workers two = elim two as (λ t. Compared Workers t) [ Workers ↦ same | Steps ↦ other refl refl | Limit ↦ other refl refl | Record ↦ other refl refl | Replay ↦ other refl refl | Generate ↦ other refl refl ]
-compare Steps two = elim two as (λ t. Compared Steps t) [ Workers ↦ other refl refl | Steps ↦ same | Limit ↦ other refl refl | Record ↦ other refl refl | Replay ↦ other refl refl | Generate ↦ other refl refl ]
-compare Limit two = elim two as (λ t. Compared Limit t) [ Workers ↦ other refl refl | Steps ↦ other refl refl | Limit ↦ same | Record ↦ other refl refl | Replay ↦ other refl refl | Generate ↦ other refl refl ]
-compare Record two = elim two as (λ t. Compared Record t) [ Workers ↦ other refl refl | Steps ↦ other refl refl | Limit ↦ other refl refl | Record ↦ same | Replay ↦ other refl refl | Generate ↦ other refl refl ]
-compare Replay two = elim two as (λ t. Compared Replay t) [ Workers ↦ other refl refl | Steps ↦ other refl refl | Limit ↦ other refl refl | Record ↦ other refl refl | Replay ↦ same | Generate ↦ other refl refl ]
-compare Generate two = elim two as (λ t. Compared Generate t) [ Workers ↦ other refl refl | Steps ↦ other refl refl | Limit ↦ other refl refl | Record ↦ other refl refl | Replay ↦ other refl refl | Generate ↦ same ]
+compare Workers two =
+    elim two as (λ t. Compared Workers t) [
+      | Workers ↦ same
+      | Steps ↦ other refl refl
+      | Limit ↦ other refl refl
+      | Record ↦ other refl refl
+      | Replay ↦ other refl refl
+      | Generate ↦ other refl refl
+    ]
+compare Steps two =
+    elim two as (λ t. Compared Steps t) [
+      | Workers ↦ other refl refl
+      | Steps ↦ same
+      | Limit ↦ other refl refl
+      | Record ↦ other refl refl
+      | Replay ↦ other refl refl
+      | Generate ↦ other refl refl
+    ]
+compare Limit two =
+    elim two as (λ t. Compared Limit t) [
+      | Workers ↦ other refl refl
+      | Steps ↦ other refl refl
+      | Limit ↦ same
+      | Record ↦ other refl refl
+      | Replay ↦ other refl refl
+      | Generate ↦ other refl refl
+    ]
+compare Record two =
+    elim two as (λ t. Compared Record t) [
+      | Workers ↦ other refl refl
+      | Steps ↦ other refl refl
+      | Limit ↦ other refl refl
+      | Record ↦ same
+      | Replay ↦ other refl refl
+      | Generate ↦ other refl refl
+    ]
+compare Replay two =
+    elim two as (λ t. Compared Replay t) [
+      | Workers ↦ other refl refl
+      | Steps ↦ other refl refl
+      | Limit ↦ other refl refl
+      | Record ↦ other refl refl
+      | Replay ↦ same
+      | Generate ↦ other refl refl
+    ]
+compare Generate two =
+    elim two as (λ t. Compared Generate t) [
+      | Workers ↦ other refl refl
+      | Steps ↦ other refl refl
+      | Limit ↦ other refl refl
+      | Record ↦ other refl refl
+      | Replay ↦ other refl refl
+      | Generate ↦ same
+    ]
 
 own_name : (setting : Setting) → bytes_eq (name_of setting) (name_of setting) ≡ true
 own_name Workers = refl

@@ -7,8 +7,8 @@ use tt_calls::{Reply, Request, Start};
 use tt_interp::{Interp, Setup};
 use tt_text::NoMemory;
 
-/// The interpreter of a thread, behind a pointer, so that what holds it is small and a move costs little. Contracts see the
-/// interpreter.
+/// The interpreter of a thread, behind a pointer, so that what holds it is small and a move costs little. Contracts see
+/// the interpreter.
 #[derive(Debug, Drop)]
 pub struct BoxedInterp {
     inside: Box<Interp>,
@@ -52,7 +52,8 @@ impl BoxedInterp {
         self.inside.resume(reply)
     }
 
-    /// Whether it can be resumed with this: at first without a reply, and then with one, but after its end with nothing.
+    /// Whether it can be resumed with this: at first without a reply, and then with one, but after its end with
+    /// nothing.
     pub(crate) fn can_resume(&self, reply: &Option<Reply>) -> bool
         ensures fits { result ≡ interps.fits self.now.standing reply.now }
     {

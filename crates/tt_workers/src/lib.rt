@@ -1,5 +1,5 @@
-//! A run of a script on workers (thread(n)): each takes a thread that can go on, in a turn under one lock, and evaluates it
-//! outside the lock up to what it asks next.
+//! A run of a script on workers (thread(n)): each takes a thread that can go on, in a turn under one lock, and
+//! evaluates it outside the lock up to what it asks next.
 #![tactic(auto)]
 
 mod boxed_interp;

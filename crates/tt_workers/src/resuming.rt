@@ -34,7 +34,8 @@ impl Model for Resuming {
       done = record { thread = slice.thread; interp = slice.interp; resumption = slice.resumption };
     } };
 
-    ghost invariant = { λ slice. IsResuming slice.gone slice.thread slice.interp slice.reply slice.resumption slice.given.value };
+    ghost invariant = { λ slice.
+        IsResuming slice.gone slice.thread slice.interp slice.reply slice.resumption slice.given.value };
 }
 
 impl Slice for Resuming {

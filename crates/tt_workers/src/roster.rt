@@ -84,7 +84,7 @@ impl Roster {
     ) -> Result<(), NoMemory>
         ensures begin { OnOk result (AllMade (IsFreshPlace setup.now) desk.now.shared.rows self.old self.new) }
     {
-        while self.len() < desk.made() {
+        while self.len() < desk.thread_count() {
             let number = self.len() + 1;
             self.begin(alloc, desk.start_of(number), number, setup)?;
         }
@@ -220,8 +220,8 @@ fn take_fresh(place: &mut Place, pass: u32) -> BoxedInterp
     }
 }
 
-/// The interpreter of a parked thread, which is then out at this pass; or `None` if it can't be resumed with what is given,
-/// and then the thread is gone.
+/// The interpreter of a parked thread, which is then out at this pass; or `None` if it can't be resumed with what is
+/// given, and then the thread is gone.
 fn take_parked(place: &mut Place, pass: u32, given: &Option<Reply>) -> Option<BoxedInterp>
     requires parked { IsSome (asked_at (Some place.old)) }
     ensures taken { TakesParked pass given.now place.old place.new result }

@@ -23,8 +23,8 @@ use tt_noted::{Noted, Pass};
 use tt_run::NewFault;
 use tt_schedule::Schedule;
 
-/// Runs a script on workers, 1 to 64 of them, over these devices, in at most so many steps, 1 to 16,777,216. Each thread that
-/// a worker has taken passes the gate before it goes on. It may wait.
+/// Runs a script on workers, 1 to 64 of them, over these devices, in at most so many steps, 1 to 16,777,216. Each
+/// thread that a worker has taken passes the gate before it goes on. It may wait.
 ///
 /// The workers are threads of their own if threads can be made, and else run one after another. `Memory` is the end too
 /// if there is no memory for the run or the lock.

@@ -59,8 +59,8 @@ impl<S: Source, K: Sink, E: Sink> Model for World<S, K, E> {
 }
 
 impl<S: Source, K: Sink, E: Sink> World<S, K, E> {
-    /// A run of this script over these devices, of at most so many steps, 1 to 16,777,216. Its main thread is fresh, and no
-    /// step was taken.
+    /// A run of this script over these devices, of at most so many steps, 1 to 16,777,216. Its main thread is fresh,
+    /// and no step was taken.
     ///
     /// `NewFault` if memory is refused, with the devices as they were given.
     pub fn new(
@@ -82,7 +82,8 @@ impl<S: Source, K: Sink, E: Sink> World<S, K, E> {
         ensures no_step { IfOk result (λ world. (world.desk.schedule ≡ []) × (world.end ≡ None)) }
         ensures tied { IfOk result (λ world.
             (count : ℕ) → IsTied S.Source K.Sink E.Sink world (replicate count (note_after world None))) }
-        ensures handed_back { IfErr result (λ fault. fault ≡ record { input = input; output = output; errors = errors }) }
+        ensures handed_back { IfErr result (λ fault.
+            fault ≡ record { input = input; output = output; errors = errors }) }
     {
         let devices = Began::of(&input, &output, &errors);
         match begun(alloc, &setup) {
@@ -107,9 +108,10 @@ impl<S: Source, K: Sink, E: Sink> World<S, K, E> {
         }
     }
 
-    /// One turn of the worker with this pass: it hands back the thread that it had, and takes one that can go on. Which one
-    /// is free. A parked thread is handed out with the reply of the action that was just done and added to the schedule, and
-    /// a fresh one without a reply and without an entry. If an action ends its thread, the turn goes on to another.
+    /// One turn of the worker with this pass: it hands back the thread that it had, and takes one that can go on. Which
+    /// one is free. A parked thread is handed out with the reply of the action that was just done and added to the
+    /// schedule, and a fresh one without a reply and without an entry. If an action ends its thread, the turn goes on
+    /// to another.
     ///
     /// `Rest` if no thread can go on and another worker has one; `Over` exactly if the run has its end.
     pub fn turn(&mut self, pass: u32, done: Option<Done>) -> Next

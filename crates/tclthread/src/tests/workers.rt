@@ -139,7 +139,9 @@ const ROWS: [Row; 11] = [
     },
     Row {
         script: MUTEX,
-        output: b"1 locking the same exclusive mutex twice from the same thread\n1 mutex is owned by another thread\n1 mutex is not locked\n",
+        output: b"1 locking the same exclusive mutex twice from the same thread\n\
+            1 mutex is owned by another thread\n\
+            1 mutex is not locked\n",
         ..STALLED
     },
     Row {
@@ -156,7 +158,8 @@ const ROWS: [Row; 11] = [
         ..OVER
     },
     Row {
-        script: b"set p [tpool::create]; set j [tpool::post $p {expr 1+1}]; tpool::wait $p $j; puts [tpool::get $p $j]; puts \"[catch {tpool::get $p $j} e] $e\"",
+        script: b"set p [tpool::create]; set j [tpool::post $p {expr 1+1}]; tpool::wait $p $j; \
+            puts [tpool::get $p $j]; puts \"[catch {tpool::get $p $j} e] $e\"",
         output: b"2\n1 no such job \"1\"\n",
         ..OVER
     },
@@ -250,8 +253,8 @@ fn is_replayed<R: Threads + Wait + Sync + AllocGlobal + Abort>(
 /// The most turns that a worker is held for.
 const MOST_TURNS: u64 = 100_000_000;
 
-/// A gate that holds the first slice of thread 2 until one of thread 1 has gone that another worker passed meanwhile: then
-/// it met both threads at once.
+/// A gate that holds the first slice of thread 2 until one of thread 1 has gone that another worker passed meanwhile:
+/// then it met both threads at once.
 #[derive(Drop)]
 struct Meeting {
     // The worker that is held or was, from 1, and 0 before that.

@@ -1,4 +1,4 @@
--- What reading a file to its end takes from it, and when it is too long, if its bytes are told.
+-- What reading a file to its end takes from it, and when it is too long, if its bytes are shown.
 use Rattle.std.specs.Prelude.{◌≡◌, ◌<◌, ℕ, List, length, Option, Some, None}
 use Rattle.std.specs.Io.KnownBytes.{Consumes, IsAtEnd}
 use Rattle.tt_devices.specs.Names.{Names}

@@ -25,7 +25,7 @@ pub fn boolean(text: &[u8]) -> Option<bool>
 /// The truth of a condition, or of an operand of `&&`, `||` or `? :`, as `boolean` reads it (expr(n),
 /// Operators); or the message `expected boolean value but got "x"` of its error.
 ///
-/// `NoMemory` where the memory for the message is refused.
+/// `NoMemory` if the memory for the message is refused.
 #[tactic(auto, unfolding(crate::specs::Apply::truth_of))]
 pub fn truth(alloc: Global, text: &[u8]) -> Result<Result<bool, Text>, NoMemory>
     ensures answer { IfOk result (λ truth. truth ≡ truth_of text.now) }

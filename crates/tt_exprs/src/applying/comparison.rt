@@ -9,7 +9,7 @@ use tt_lists::{Split, split};
 use tt_number::{NumberFault, read_whole};
 use tt_text::{NoMemory, Text};
 
-/// How the two operands compare: as numbers where both are whole, else as texts.
+/// How the two operands compare: as numbers if both are whole, else as texts.
 pub(super) fn order(operands: &[Text]) -> Result<Ordering, Refusal>
     requires { length operands.now ≡ 2 }
     ensures { result ≡ order_of operands.now }

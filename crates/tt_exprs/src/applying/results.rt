@@ -10,10 +10,10 @@ use tt_text::{NoMemory, Text};
 /// The result of a whole expression that has this value, by expr(n): a whole number is written in
 /// decimal, and a text that is no number stays as it is.
 ///
-/// The outcome is `Failed`, its message also its trace, where the value is a whole number past 64 bits
+/// The outcome is `Failed`, its message also its trace, if the value is a whole number past 64 bits
 /// (`integer overflow`) or a floating-point number (`floating-point number refused`).
 ///
-/// `NoMemory` where the memory for the outcome is refused.
+/// `NoMemory` if the memory for the outcome is refused.
 #[tactic(auto, unfolding(crate::specs::Apply::result_of))]
 pub fn result(alloc: Global, value: Text) -> Result<Outcome, NoMemory>
     ensures answer { IfOk result (λ outcome. outcome ≡ result_of value) }

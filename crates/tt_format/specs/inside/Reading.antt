@@ -13,7 +13,7 @@ use Rattle.tt_format.specs.declared.fields.Part.{Part}
 use Rattle.tt_format.specs.declared.fields.Part.TheVariants.{Prints, Refuses}
 use Rattle.tt_format.specs.declared.specifier.Specifier.{Specifier}
 
--- a number, or the greatest of 64 bits where it is past that
+-- a number, or the greatest of 64 bits if it is past that
 abbrev pub capped : ℕ → ℕ
 capped n = min n (2 ^ 64 - 1)
 
@@ -59,7 +59,7 @@ abbrev pub IsShorter : Part → List ℕ → Type 0
 IsShorter (Prints field rest later) template = length rest.now < length template
 IsShorter (Refuses message) template = Unit {0}
 
--- the number that the next value tells, and the values after it, or why it tells none
+-- the number that the next value gives, and the values after it, or why it gives none
 abbrev pub IsGiven : Given → List (List ℕ) → Type 0
 IsGiven (Number number later) values = (go : ℤ → List (List ℕ) → Piece) → with_number values go ≡ go number later.now
 IsGiven (Fails message) values = (go : ℤ → List (List ℕ) → Piece) → with_number values go ≡ Refused message

@@ -1,4 +1,4 @@
--- The rule of the table under the lock, and what its steps tell. The table has one word and one slot.
+-- The rule of the table under the lock, and what its steps say. The table has one word and one slot.
 -- While a pass has its turn word 0 is odd, and the slot is with that pass. Else it is even, and the slot has the state.
 use Rattle.std.specs.Prelude.{◌≡◌, ◌≢◌, ℕ, ◌%◌, ◌<◌, List, [], ◌∷◌, ◌++◌, map, length, take, drop, replicate, slice_get}
 use Rattle.std.specs.Prelude.{slice_index, slice_set, Option, Some, None, IfSome}
@@ -23,7 +23,7 @@ held_with None = []
 held_with (Some state) = (0, None) ∷ []
 
 module _ {S N : Type 0} where
-  -- the view with these notes, which is the holder's where it has a turn
+  -- the view with these notes, which is the holder's if it has a turn
   abbrev pub view : ℕ → List (ℕ × N) → Option S → View S N
   view count notes turn = record { count = count; notes = notes; turn = turn }
 
@@ -31,7 +31,7 @@ module _ {S N : Type 0} where
   abbrev pub first_view : Opening N → View S N
   first_view o = view o.count (enumerate_from 0 (replicate o.count o.note.value)) None
 
-  -- what a view keeps where its first note goes to another
+  -- what a view keeps if its first note goes to another
   abbrev pub rest_of : View S N → View S N
   rest_of v = view v.count (drop 1 v.notes) v.turn
 
@@ -108,7 +108,7 @@ module _ {S N : Type 0} where
     pub has : get_elem? views (owner place).0 ≡ some own
     pub at : slice_get own.notes (owner place).1 ≡ Some (place, note)
 
-  -- `notes` has the notes of all views, each at its place. Where word 0 is even, the slot has a state that fits them.
+  -- `notes` has the notes of all views, each at its place. If word 0 is even, the slot has a state that fits them.
   -- If it is odd, exactly one view is the holder's, and the state as it was taken, which is in that view, fits them
   pub record IsKept (fits : S → List N → Type 0) (count : ℕ) (s : Board S N) : Type 0 where
     pub notes : List N
@@ -124,7 +124,7 @@ module _ {S N : Type 0} where
     pub free : slice_index s.words 0 % 2 ≡ 0 → IsFree fits notes s
     pub held : slice_index s.words 0 % 2 ≡ 1 → IsHeld fits notes s
 
-  -- the seat is the holder's, and has the slot with a state that fits all notes. Where the word had changed, so did
+  -- the seat is the holder's, and has the slot with a state that fits all notes. If the word had changed, so did
   -- nothing
   abbrev pub took : (S → List N → Type 0) → Step (Option S) → Sat S N → ℕ → Sat S N → Type 0
   took fits st m found m' =

@@ -1,5 +1,6 @@
 -- The decimal text of a number is read as that number.
-use Rattle.std.proofs.Common.{◌≡◌, ℕ, suc, ◌^◌, ◌<◌, true, ℤ, pos, negsuc, neg_ℤ, List, [], ◌∷◌, ◌++◌, length, Ok, refl, sym, ap, subst, ◌∙◌, inl, inr, arith, append-nil}
+use Rattle.std.proofs.Common.{◌≡◌, ℕ, suc, ◌^◌, ◌<◌, true, ℤ, pos, negsuc, neg_ℤ, List, [], ◌∷◌, ◌++◌, length, Ok, refl}
+use Rattle.std.proofs.Common.{sym, ap, subst, ◌∙◌, inl, inr, arith, append-nil}
 use Rattle.std.specs.Fmt.{decimal, signed_decimal}
 use Rattle.std.specs.Int.{w64}
 use Rattle.std.specs.Int.RustNames.{FitsSigned}
@@ -34,7 +35,9 @@ unsigned n small = go (decimal n) refl
 
     go : (digits : List ℕ) → decimal n ≡ digits → IsUnsigned digits 10 digits
     go [] e = absurd (omega (arith, decimal_nonempty n small, ap length e))
-    go (d ∷ rest) e = by_decimal (and_from (nat_lt 0 (length (d ∷ rest))) (all_digits 10 (d ∷ rest)) (lt-ltb 0 (length (d ∷ rest)) (omega arith)) (all_from_AllDigits (d ∷ rest) (subst (AllDigits 10) e (digits_decimal own n small)))) (zero_alone d rest e)
+    go (d ∷ rest) e =
+        by_decimal (and_from (nat_lt 0 (length (d ∷ rest))) (all_digits 10 (d ∷ rest)) (lt-ltb 0 (length (d ∷ rest)) (omega arith))
+        (all_from_AllDigits (d ∷ rest) (subst (AllDigits 10) e (digits_decimal own n small)))) (zero_alone d rest e)
 
 value : (n : ℕ) → n < 2 ^ 64 → digit_sum 10 (decimal n) ≡ n
 value n small = sym (digit_sum_is 10 (decimal n)) ∙ digits_value-decimal own n small

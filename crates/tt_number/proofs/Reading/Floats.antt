@@ -1,5 +1,7 @@
--- The grammar of floating-point numbers against the function that tells them.
-use Rattle.std.proofs.Common.{◌≡◌, ℕ, ◌+◌, ◌<◌, ◌≤◌, Bool, true, false, not, ◌&&◌, List, [], ◌∷◌, ◌++◌, length, get_or, take, drop, Option, Some, None, refl, ap, ◌∙◌, inl, inr, append_assoc, arith, ◌==◌, ◌||◌, length-append, length-take, length-drop, add-one, ℤ}
+-- The grammar of floating-point numbers against the function that finds them.
+use Rattle.std.proofs.Common.{◌≡◌, ℕ, ◌+◌, ◌<◌, ◌≤◌, Bool, true, false, not, ◌&&◌, List, [], ◌∷◌, ◌++◌, length, get_or}
+use Rattle.std.proofs.Common.{take, drop, Option, Some, None, refl, ap, ◌∙◌, inl, inr, append_assoc, arith, ◌==◌, ◌||◌}
+use Rattle.std.proofs.Common.{length-append, length-take, length-drop, add-one, ℤ}
 use Rattle.std.specs.Char.{is_digit}
 use Rattle.std.specs.List.{list_all, position, position_or_len}
 use Rattle.std.specs.Prelude.{nat_lt, ◌⊎◌}
@@ -7,7 +9,9 @@ use Rattle.std.proofs.lemmas.Bool.{cases_Bool, eqb-true, or_cases, or_left, or_r
 use Rattle.std.proofs.lemmas.Bool.Decides.{nat_tests}
 use Rattle.std.proofs.lemmas.List.Sums.{passes_at_first}
 use Rattle.std.proofs.Math.Seq.{take-append_seam, drop-append-add, split_at}
-use Rattle.tt_number.specs.Numerals.{IsPointed, IsFloat, IsSign, all_digits, is_numeral, number_of, base_and_digits, base_of_mark, after_zero, is_point, is_pointed, divides_digits, is_exponent_mark, is_float, is_float_with, is_scaled, unsigned_part}
+use Rattle.tt_number.specs.Numerals.{IsPointed, IsFloat, IsSign, all_digits, is_numeral, number_of, base_and_digits}
+use Rattle.tt_number.specs.Numerals.{base_of_mark, after_zero, is_point, is_pointed, divides_digits, is_exponent_mark}
+use Rattle.tt_number.specs.Numerals.{is_float, is_float_with, is_scaled, unsigned_part}
 use Rattle.tt_number.specs.Numerals.IsFloat.{pointed, scaled}
 use Rattle.tt_number.proofs.Trims.{and_false}
 use Rattle.tt_number.proofs.Reading.Trimming.{not_white, is_plain, all_parts, all_from, digits_plain, plain_append}
@@ -80,7 +84,8 @@ pointed_yes front back h =
     let all = digits_append 10 front back (numeral_digits 10 (front ++ back) h) in
     let some = ltb-true 0 (length (front ++ back)) (and_parts (nat_lt 0 (length (front ++ back))) (all_digits 10 (front ++ back)) h).0 in
     let long : nat_lt 1 (length (front ++ (46 ∷ back))) ≡ true = lt-ltb 1 _ (omega (arith, length-append front back, length-append front (46 ∷ back))) in
-    ap (divides_digits (front ++ (46 ∷ back))) (place is_point front 46 back (no_point front all.0) refl) ∙ rw (long, take-append_seam front (46 ∷ back), back_of front 46 back, all.0, all.1) refl
+    ap (divides_digits (front ++ (46 ∷ back))) (place is_point front 46 back (no_point front all.0) refl)
+    ∙ rw (long, take-append_seam front (46 ∷ back), back_of front 46 back, all.0, all.1) refl
 
 pub to_pointed : (text : List ℕ) → is_pointed text ≡ true → IsPointed text
 to_pointed text h = go (position is_point text) refl h
@@ -98,7 +103,9 @@ to_pointed text h = go (position is_point text) refl h
           front = take at text;
           back = drop (at + 1) text;
           spelled = rw (point, ← add-one at) at cut;
-          digits = and_from (nat_lt 0 (length (take at text ++ drop (at + 1) text))) (all_digits 10 (take at text ++ drop (at + 1) text)) (lt-ltb 0 _ (omega (arith, length-append (take at text) (drop (at + 1) text), length-take at text, length-drop (at + 1) text))) (append_digits 10 (take at text) (drop (at + 1) text) r.1 q.1);
+          digits = and_from (nat_lt 0 (length (take at text ++ drop (at + 1) text))) (all_digits 10 (take at text ++ drop (at + 1) text))
+              (lt-ltb 0 _ (omega (arith, length-append (take at text) (drop (at + 1) text), length-take at text, length-drop (at + 1) text)))
+              (append_digits 10 (take at text) (drop (at + 1) text) r.1 q.1);
         }
 
 -- ---- no float is a whole number
@@ -121,7 +128,12 @@ bad_point : IsBad 46
 bad_point = record { no_decimal = refl; no_octal = refl; no_base = refl; no_zero = refl }
 
 bad_mark : (mark : ℕ) → is_exponent_mark mark ≡ true → IsBad mark
-bad_mark mark m = elim (or_cases (mark == 101) (mark == 69) m) [ inl p ↦ rw (eqb-true mark 101 p) (record { no_decimal = refl; no_octal = refl; no_base = refl; no_zero = refl }) | inr p ↦ rw (eqb-true mark 69 p) (record { no_decimal = refl; no_octal = refl; no_base = refl; no_zero = refl }) ]
+bad_mark mark m =
+    elim (or_cases (mark == 101) (mark == 69) m) [
+      | inl p ↦
+          rw (eqb-true mark 101 p) (record { no_decimal = refl; no_octal = refl; no_base = refl; no_zero = refl })
+      | inr p ↦ rw (eqb-true mark 69 p) (record { no_decimal = refl; no_octal = refl; no_base = refl; no_zero = refl })
+    ]
 
 no_number : (front : List ℕ) (bad : ℕ) (rest : List ℕ) → all_digits 10 front ≡ true → IsBad bad → number_of (base_and_digits (front ++ (bad ∷ rest))) ≡ None
 no_number [] bad [] h b = number_none 10 (bad ∷ []) (not_all_digits 10 [] bad [] b.no_decimal)
@@ -135,7 +147,9 @@ no_number (c ∷ d ∷ fs) bad rest h b =
     let p = all_parts (λ digit. is_digit digit 10) c (d ∷ fs) h in
     let q = all_parts (λ digit. is_digit digit 10) d fs p.1 in
     elim (cases_Bool (c == 48)) [
-      | inl p ↦ rw p (ap (λ o. number_of (after_zero o d (fs ++ (bad ∷ rest)))) (digit_no_mark d 10 (omega arith) q.0) ∙ number_none 8 (d ∷ (fs ++ (bad ∷ rest))) (not_all_digits 8 (d ∷ fs) bad rest b.no_octal))
+      | inl p ↦ rw p
+          (ap (λ o. number_of (after_zero o d (fs ++ (bad ∷ rest)))) (digit_no_mark d 10 (omega arith) q.0)
+          ∙ number_none 8 (d ∷ (fs ++ (bad ∷ rest))) (not_all_digits 8 (d ∷ fs) bad rest b.no_octal))
       | inr p ↦ rw p (number_none 10 (c ∷ d ∷ (fs ++ (bad ∷ rest))) (not_all_digits 10 (c ∷ d ∷ fs) bad rest b.no_decimal))
     ]
 
@@ -156,7 +170,21 @@ front_numeral : (front : List ℕ) → is_numeral 10 front ≡ true → IsFront 
 front_numeral [] h = absurd (both_ways false refl h)
 front_numeral (d ∷ ds) h =
     let all = numeral_digits 10 (d ∷ ds) h in
-    record { first = d; others = ds; begins = refl; no_sign = digit_no_sign d 10 (omega arith) (all_parts (λ digit. is_digit digit 10) d ds all).0; plain = digits_plain 10 (d ∷ ds) (omega arith) all; unmarked = no_mark (d ∷ ds) all; is = or_left (is_numeral 10 (d ∷ ds)) (is_pointed (d ∷ ds)) h; none = λ bad rest b. no_number (d ∷ ds) bad rest all b }
+    record {
+      first =
+          d;
+      others = ds;
+      begins =
+          refl;
+      no_sign =
+          digit_no_sign d 10 (omega arith) (all_parts (λ digit. is_digit digit 10) d ds all).0;
+      plain =
+          digits_plain 10 (d ∷ ds) (omega arith) all;
+      unmarked =
+          no_mark (d ∷ ds) all;
+      is = or_left (is_numeral 10 (d ∷ ds)) (is_pointed (d ∷ ds)) h;
+      none = λ bad rest b. no_number (d ∷ ds) bad rest all b;
+    }
 
 front_pointed : (front back : List ℕ) → is_numeral 10 (front ++ back) ≡ true → IsFront (front ++ (46 ∷ back))
 front_pointed front back h = go front h
@@ -165,20 +193,51 @@ front_pointed front back h = go front h
     parts front h = digits_append 10 front back (numeral_digits 10 (front ++ back) h)
 
     plain_of : (front : List ℕ) → is_numeral 10 (front ++ back) ≡ true → is_plain (front ++ (46 ∷ back)) ≡ true
-    plain_of front h = plain_append front (46 ∷ back) (digits_plain 10 front (omega arith) (parts front h).0) (all_from not_white 46 back refl (digits_plain 10 back (omega arith) (parts front h).1))
+    plain_of front h =
+        plain_append front (46 ∷ back) (digits_plain 10 front (omega arith) (parts front h).0)
+        (all_from not_white 46 back refl (digits_plain 10 back (omega arith) (parts front h).1))
 
     unmarked_of : (front : List ℕ) → is_numeral 10 (front ++ back) ≡ true → fails is_exponent_mark (front ++ (46 ∷ back)) ≡ true
-    unmarked_of front h = fails_append is_exponent_mark front (46 ∷ back) (no_mark front (parts front h).0) (all_from (λ b. not (is_exponent_mark b)) 46 back refl (no_mark back (parts front h).1))
+    unmarked_of front h =
+        fails_append is_exponent_mark front (46 ∷ back) (no_mark front (parts front h).0)
+        (all_from (λ b. not (is_exponent_mark b)) 46 back refl (no_mark back (parts front h).1))
 
     is_of : (front : List ℕ) → is_numeral 10 (front ++ back) ≡ true → (is_numeral 10 (front ++ (46 ∷ back)) || is_pointed (front ++ (46 ∷ back))) ≡ true
     is_of front h = or_right (is_numeral 10 (front ++ (46 ∷ back))) (is_pointed (front ++ (46 ∷ back))) (pointed_yes front back h)
 
-    none_of : (front : List ℕ) → is_numeral 10 (front ++ back) ≡ true → (bad : ℕ) (rest : List ℕ) → IsBad bad → number_of (base_and_digits ((front ++ (46 ∷ back)) ++ (bad ∷ rest))) ≡ None
-    none_of front h bad rest b = ap (λ t. number_of (base_and_digits t)) (append_assoc front (46 ∷ back) (bad ∷ rest)) ∙ no_number front 46 (back ++ (bad ∷ rest)) (parts front h).0 bad_point
+    none_of : (front : List ℕ) → is_numeral 10 (front ++ back) ≡ true → (bad : ℕ) (rest : List ℕ) → IsBad bad →
+        number_of (base_and_digits ((front ++ (46 ∷ back)) ++ (bad ∷ rest))) ≡ None
+    none_of front h bad rest b =
+        ap (λ t. number_of (base_and_digits t)) (append_assoc front (46 ∷ back) (bad ∷ rest))
+        ∙ no_number front 46 (back ++ (bad ∷ rest)) (parts front h).0 bad_point
 
     go : (front : List ℕ) → is_numeral 10 (front ++ back) ≡ true → IsFront (front ++ (46 ∷ back))
-    go [] h = record { first = 46; others = back; begins = refl; no_sign = refl; plain = plain_of [] h; unmarked = unmarked_of [] h; is = is_of [] h; none = none_of [] h }
-    go (d ∷ ds) h = record { first = d; others = ds ++ (46 ∷ back); begins = refl; no_sign = digit_no_sign d 10 (omega arith) (all_parts (λ digit. is_digit digit 10) d ds (parts (d ∷ ds) h).0).0; plain = plain_of (d ∷ ds) h; unmarked = unmarked_of (d ∷ ds) h; is = is_of (d ∷ ds) h; none = none_of (d ∷ ds) h }
+    go [] h = record {
+      first =
+          46;
+      others = back;
+      begins = refl;
+      no_sign = refl;
+      plain = plain_of [] h;
+      unmarked = unmarked_of [] h;
+      is = is_of [] h;
+      none = none_of [] h;
+    }
+    go (d ∷ ds) h =
+        record {
+          first =
+              d;
+          others = ds ++ (46 ∷ back);
+          begins =
+              refl;
+          no_sign =
+              digit_no_sign d 10 (omega arith) (all_parts (λ digit. is_digit digit 10) d ds (parts (d ∷ ds) h).0).0;
+          plain =
+              plain_of (d ∷ ds) h;
+          unmarked = unmarked_of (d ∷ ds) h;
+          is = is_of (d ∷ ds) h;
+          none = none_of (d ∷ ds) h;
+        }
 
 -- a float as the function sees it
 pub record IsFloatRead (text : List ℕ) : Type 0 where
@@ -195,27 +254,49 @@ unfolding is_float
 read_pointed front back h =
     let f = front_pointed front back h in
     let all = digits_append 10 front back (numeral_digits 10 (front ++ back) h) in
-    record { first = f.first; rest = f.others; begins = f.begins; no_sign = f.no_sign; plain = f.plain; is = ap (is_float_with (front ++ (46 ∷ back))) (no_place is_exponent_mark (front ++ (46 ∷ back)) f.unmarked) ∙ pointed_yes front back h; none = no_number front 46 back all.0 bad_point }
+    record {
+      first =
+          f.first;
+      rest =
+          f.others;
+      begins =
+          f.begins;
+      no_sign =
+          f.no_sign;
+      plain =
+          f.plain;
+      is =
+          ap (is_float_with (front ++ (46 ∷ back))) (no_place is_exponent_mark (front ++ (46 ∷ back)) f.unmarked) ∙ pointed_yes front back h;
+      none =
+          no_number front 46 back all.0 bad_point;
+    }
 
 mark_plain : (mark : ℕ) → is_exponent_mark mark ≡ true → not_white mark ≡ true
 mark_plain mark m = elim (or_cases (mark == 101) (mark == 69) m) [ inl p ↦ rw (eqb-true mark 101 p) refl | inr p ↦ rw (eqb-true mark 69 p) refl ]
 
-exponent_digits : {sign : List ℕ} {signed : ℕ → ℤ} → IsSign sign signed → (digits : List ℕ) → is_numeral 10 digits ≡ true → is_numeral 10 (unsigned_part (sign ++ digits)) ≡ true
+exponent_digits : {sign : List ℕ} {signed : ℕ → ℤ} → IsSign sign signed → (digits : List ℕ) → is_numeral 10 digits ≡ true →
+    is_numeral 10 (unsigned_part (sign ++ digits)) ≡ true
 exponent_digits s [] h = absurd (both_ways false refl h)
-exponent_digits s (d ∷ ds) h = rw (after_sign s d ds (digit_no_sign d 10 (omega arith) (all_parts (λ digit. is_digit digit 10) d ds (numeral_digits 10 (d ∷ ds) h)).0)) h
+exponent_digits s (d ∷ ds) h =
+    rw (after_sign s d ds (digit_no_sign d 10 (omega arith) (all_parts (λ digit. is_digit digit 10) d ds (numeral_digits 10 (d ∷ ds) h)).0)) h
 
-read_scaled : {sign : List ℕ} {signed : ℕ → ℤ} (front : List ℕ) (mark : ℕ) (digits : List ℕ) → IsFront front → is_exponent_mark mark ≡ true → IsSign sign signed → is_numeral 10 digits ≡ true → IsFloatRead (front ++ (mark ∷ (sign ++ digits)))
+read_scaled : {sign : List ℕ} {signed : ℕ → ℤ} (front : List ℕ) (mark : ℕ) (digits : List ℕ) → IsFront front → is_exponent_mark mark ≡ true →
+    IsSign sign signed → is_numeral 10 digits ≡ true → IsFloatRead (front ++ (mark ∷ (sign ++ digits)))
 unfolding is_float
 read_scaled {sign} front mark digits f m s h =
     let text = front ++ (mark ∷ (sign ++ digits)) in
     let back = exponent_digits s digits h in
-    let parts : is_scaled (take (length front) text) (drop (length front + 1) text) ≡ true = rw (take-append_seam front (mark ∷ (sign ++ digits)), back_of front mark (sign ++ digits)) (and_from (is_numeral 10 front || is_pointed front) (is_numeral 10 (unsigned_part (sign ++ digits))) f.is back) in
+    let parts : is_scaled (take (length front) text) (drop (length front + 1) text) ≡ true =
+    rw (take-append_seam front (mark ∷ (sign ++ digits)), back_of front mark (sign ++ digits))
+    (and_from (is_numeral 10 front || is_pointed front) (is_numeral 10 (unsigned_part (sign ++ digits))) f.is back) in
     record {
       first = f.first;
       rest = f.others ++ (mark ∷ (sign ++ digits));
       begins = ap (λ t. t ++ (mark ∷ (sign ++ digits))) f.begins;
       no_sign = f.no_sign;
-      plain = plain_append front (mark ∷ (sign ++ digits)) f.plain (all_from not_white mark (sign ++ digits) (mark_plain mark m) (plain_append sign digits (sign_plain s) (digits_plain 10 digits (omega arith) (numeral_digits 10 digits h))));
+      plain = plain_append front (mark ∷ (sign ++ digits)) f.plain
+          (all_from not_white mark (sign ++ digits) (mark_plain mark m)
+          (plain_append sign digits (sign_plain s) (digits_plain 10 digits (omega arith) (numeral_digits 10 digits h))));
       is = ap (is_float_with text) (place is_exponent_mark front mark (sign ++ digits) f.unmarked m) ∙ parts;
       none = f.none mark (sign ++ digits) (bad_mark mark m);
     }
@@ -242,4 +323,5 @@ find_float text h = go (position is_exponent_mark text) refl h
         let q = and_parts (is_numeral 10 (take at text) || is_pointed (take at text)) (is_numeral 10 (unsigned_part (drop (at + 1) text))) h in
         let s = sign_of (drop (at + 1) text) in
         let cut = rw (← add-one at) at (split_at text at 0 p.0) in
-        scaled (take at text) s.sign (unsigned_part (drop (at + 1) text)) (get_or text at 0) s.signed (cut ∙ ap (λ t. take at text ++ (get_or text at 0 ∷ t)) s.spelled) (front_of (take at text) q.0) p.1 s.has q.1
+        scaled (take at text) s.sign (unsigned_part (drop (at + 1) text)) (get_or text at 0) s.signed
+        (cut ∙ ap (λ t. take at text ++ (get_or text at 0 ∷ t)) s.spelled) (front_of (take at text) q.0) p.1 s.has q.1

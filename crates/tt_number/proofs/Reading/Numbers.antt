@@ -4,7 +4,8 @@ use Rattle.std.specs.Char.{is_digit}
 use Rattle.std.specs.Prelude.{nat_lt}
 use Rattle.std.proofs.lemmas.Bool.{cases_Bool, eqb-true, eqb-false, ne_eqb, or_cases, and_parts, both_ways}
 use Rattle.std.proofs.lemmas.Bool.Decides.{nat_tests}
-use Rattle.tt_number.specs.Numerals.{IsUnsigned, digit_sum, all_digits, is_numeral, number_of, base_and_digits, base_of_mark, after_zero, is_hexadecimal_mark, is_octal_mark, is_binary_mark}
+use Rattle.tt_number.specs.Numerals.{IsUnsigned, digit_sum, all_digits, is_numeral, number_of, base_and_digits}
+use Rattle.tt_number.specs.Numerals.{base_of_mark, after_zero, is_hexadecimal_mark, is_octal_mark, is_binary_mark}
 use Rattle.tt_number.specs.Numerals.IsUnsigned.{hexadecimal, octal, binary, leading_zero, decimal}
 use Rattle.tt_number.proofs.Reading.Trimming.{not_white, nonempty, is_plain, all_parts, all_from, digits_plain}
 use Rattle.tt_number.proofs.Reading.Signs.{is_sign_byte}
@@ -29,13 +30,40 @@ pub record IsRead (text : List ℕ) (base : ℕ) (digits : List ℕ) : Type 0 wh
   pub parts : base_and_digits text ≡ (base, digits)
   pub numeral : is_numeral base digits ≡ true
 
-marked : (mark base : ℕ) (digits : List ℕ) → base ≤ 16 → not_white mark ≡ true → base_of_mark mark ≡ Some base → is_numeral base digits ≡ true → IsRead (48 ∷ mark ∷ digits) base digits
-marked mark base digits small white is h = record { first = 48; rest = mark ∷ digits; begins = refl; no_sign = refl; plain = all_from not_white mark digits white (digits_plain base digits small (numeral_digits base digits h)); parts = ap (λ o. after_zero o mark digits) is; numeral = h }
+marked : (mark base : ℕ) (digits : List ℕ) → base ≤ 16 → not_white mark ≡ true → base_of_mark mark ≡ Some base → is_numeral base digits ≡ true →
+    IsRead (48 ∷ mark ∷ digits) base digits
+marked mark base digits small white is h =
+    record {
+      first =
+          48;
+      rest = mark ∷ digits;
+      begins =
+          refl;
+      no_sign =
+          refl;
+      plain =
+          all_from not_white mark digits white (digits_plain base digits small (numeral_digits base digits h));
+      parts =
+          ap (λ o. after_zero o mark digits) is;
+      numeral = h;
+    }
 
 pub read_unsigned : {text : List ℕ} {base : ℕ} {digits : List ℕ} → IsUnsigned text base digits → IsRead text base digits
-read_unsigned (hexadecimal {mark} {digits} m h) = elim (or_cases (mark == 120) (mark == 88) m) [ inl p ↦ rw (eqb-true mark 120 p) (marked 120 16 digits (omega arith) refl refl h) | inr p ↦ rw (eqb-true mark 88 p) (marked 88 16 digits (omega arith) refl refl h) ]
-read_unsigned (octal {mark} {digits} m h) = elim (or_cases (mark == 111) (mark == 79) m) [ inl p ↦ rw (eqb-true mark 111 p) (marked 111 8 digits (omega arith) refl refl h) | inr p ↦ rw (eqb-true mark 79 p) (marked 79 8 digits (omega arith) refl refl h) ]
-read_unsigned (binary {mark} {digits} m h) = elim (or_cases (mark == 98) (mark == 66) m) [ inl p ↦ rw (eqb-true mark 98 p) (marked 98 2 digits (omega arith) refl refl h) | inr p ↦ rw (eqb-true mark 66 p) (marked 66 2 digits (omega arith) refl refl h) ]
+read_unsigned (hexadecimal {mark} {digits} m h) =
+    elim (or_cases (mark == 120) (mark == 88) m) [
+      | inl p ↦ rw (eqb-true mark 120 p) (marked 120 16 digits (omega arith) refl refl h)
+      | inr p ↦ rw (eqb-true mark 88 p) (marked 88 16 digits (omega arith) refl refl h)
+    ]
+read_unsigned (octal {mark} {digits} m h) =
+    elim (or_cases (mark == 111) (mark == 79) m) [
+      | inl p ↦ rw (eqb-true mark 111 p) (marked 111 8 digits (omega arith) refl refl h)
+      | inr p ↦ rw (eqb-true mark 79 p) (marked 79 8 digits (omega arith) refl refl h)
+    ]
+read_unsigned (binary {mark} {digits} m h) =
+    elim (or_cases (mark == 98) (mark == 66) m) [
+      | inl p ↦ rw (eqb-true mark 98 p) (marked 98 2 digits (omega arith) refl refl h)
+      | inr p ↦ rw (eqb-true mark 66 p) (marked 66 2 digits (omega arith) refl refl h)
+    ]
 read_unsigned (leading_zero {digits} h) = zero_first digits h
   where
     zero_first : (digits : List ℕ) → is_numeral 8 digits ≡ true → IsRead (48 ∷ digits) 8 digits
@@ -58,10 +86,12 @@ pub record IsFound (text : List ℕ) (n : ℕ) : Type 0 where
   pub unsigned : IsUnsigned text base digits
   pub value : n ≡ digit_sum base digits
 
-found : (text : List ℕ) (base : ℕ) (digits : List ℕ) (n : ℕ) → number_of (base, digits) ≡ Some n → (is_numeral base digits ≡ true → IsUnsigned text base digits) → IsFound text n
+found : (text : List ℕ) (base : ℕ) (digits : List ℕ) (n : ℕ) → number_of (base, digits) ≡ Some n →
+    (is_numeral base digits ≡ true → IsUnsigned text base digits) → IsFound text n
 found text base digits n h make = let p = number_some base digits n h in record { base = base; digits = digits; unsigned = make p.0; value = p.1 }
 
-after_mark : (mark : ℕ) (ds : List ℕ) (n : ℕ) (o : Option ℕ) → base_of_mark mark ≡ o → number_of (after_zero (base_of_mark mark) mark ds) ≡ Some n → number_of (after_zero o mark ds) ≡ Some n
+after_mark : (mark : ℕ) (ds : List ℕ) (n : ℕ) (o : Option ℕ) → base_of_mark mark ≡ o → number_of (after_zero (base_of_mark mark) mark ds) ≡ Some n →
+    number_of (after_zero o mark ds) ≡ Some n
 after_mark mark ds n o e h = subst (λ o. number_of (after_zero o mark ds) ≡ Some n) e h
 
 found_after_zero : (mark : ℕ) (ds : List ℕ) (n : ℕ) → number_of (after_zero (base_of_mark mark) mark ds) ≡ Some n → IsFound (48 ∷ mark ∷ ds) n

@@ -26,12 +26,14 @@ bounded z = cond (fits z) (Ok z) (Err TooLarge)
 abbrev pub is_sign_byte : ℕ → Bool
 is_sign_byte b = b == 43 || b == 45
 
-pub after_sign : {sign : List ℕ} {signed : ℕ → ℤ} → IsSign sign signed → (b : ℕ) (rest : List ℕ) → is_sign_byte b ≡ false → unsigned_part (sign ++ (b ∷ rest)) ≡ b ∷ rest
+pub after_sign : {sign : List ℕ} {signed : ℕ → ℤ} → IsSign sign signed → (b : ℕ) (rest : List ℕ) → is_sign_byte b ≡ false →
+    unsigned_part (sign ++ (b ∷ rest)) ≡ b ∷ rest
 after_sign none b rest h = rw h
 after_sign plus b rest h = refl
 after_sign minus b rest h = refl
 
-pub signed_cut : {sign : List ℕ} {signed : ℕ → ℤ} → IsSign sign signed → (b : ℕ) (rest : List ℕ) (n : ℕ) → is_sign_byte b ≡ false → cut (is_minus_first (sign ++ (b ∷ rest))) n ≡ bounded (signed n)
+pub signed_cut : {sign : List ℕ} {signed : ℕ → ℤ} → IsSign sign signed → (b : ℕ) (rest : List ℕ) (n : ℕ) → is_sign_byte b ≡ false →
+    cut (is_minus_first (sign ++ (b ∷ rest))) n ≡ bounded (signed n)
 signed_cut none b rest n h = rw ((or_parts (b == 43) (b == 45) h).1)
 signed_cut plus b rest n h = refl
 signed_cut minus b rest n h = refl

@@ -39,11 +39,13 @@ back_kept : (mid after : List ℕ) → is_plain mid ≡ true → list_all is_whi
 back_kept [] after plain white = back_gone after white
 back_kept (b ∷ mid) after plain white = let p = all_parts not_white b mid plain in rw (turned (is_white_space b) p.0, back_kept mid after p.1 white)
 
-pub trimmed_plain : (before : List ℕ) (b : ℕ) (mid after : List ℕ) → list_all is_white_space before ≡ true → is_plain (b ∷ mid) ≡ true → list_all is_white_space after ≡ true → trimmed (before ++ ((b ∷ mid) ++ after)) ≡ b ∷ mid
+pub trimmed_plain : (before : List ℕ) (b : ℕ) (mid after : List ℕ) → list_all is_white_space before ≡ true → is_plain (b ∷ mid) ≡ true →
+    list_all is_white_space after ≡ true → trimmed (before ++ ((b ∷ mid) ++ after)) ≡ b ∷ mid
 unfolding trimmed
 trimmed_plain before b mid after front plain back =
     let p = all_parts not_white b mid plain in
-    let front : without_white_front (before ++ ((b ∷ mid) ++ after)) ≡ (b ∷ mid) ++ after = front_skipped before ((b ∷ mid) ++ after) front ∙ rw (turned (is_white_space b) p.0, without_white_front) in
+    let front : without_white_front (before ++ ((b ∷ mid) ++ after)) ≡ (b ∷ mid) ++ after =
+    front_skipped before ((b ∷ mid) ++ after) front ∙ rw (turned (is_white_space b) p.0, without_white_front) in
     ap without_white_back front ∙ back_kept (b ∷ mid) after plain back
 
 -- a text is what is left of it with white space on that side

@@ -14,7 +14,7 @@ use tt_lists::{ListAnswer, bad_index, count_text, index};
 use tt_strings::{Side, WHITE_SPACE, character_at, lower, range, reversed, trim, upper};
 use tt_text::{NoMemory, Text, char_count};
 
-fn made(alloc: Global, text: &[u8]) -> Result<ListAnswer, NoMemory>
+fn made_text(alloc: Global, text: &[u8]) -> Result<ListAnswer, NoMemory>
     ensures { IfOk result (λ answer. answer ≡ ListAnswer.Made text.now) }
 {
     let text = Text::from_bytes(alloc, text)?;
@@ -72,7 +72,7 @@ fn character_answer(alloc: Global, text: &[u8], word: &[u8]) -> Result<ListAnswe
     ensures { IfOk result (λ answer. answer ≡ answers.character_answer text.now word.now) }
 {
     match place_in(text, word) {
-        Some(place) => made(alloc, character_at(text, place)),
+        Some(place) => made_text(alloc, character_at(text, place)),
         None => no_index(alloc, word),
     }
 }
@@ -106,7 +106,7 @@ fn part_answer(
     let Some(to) = place_in(text, last) else {
         return no_index(alloc, last);
     };
-    made(alloc, range(text, from, to))
+    made_text(alloc, range(text, from, to))
 }
 
 pub(crate) fn reverse_answer(
@@ -157,8 +157,8 @@ pub(crate) fn trim_answer(
     ensures { IfOk result (λ answer. answer ≡ answers.trim_answer side (wrong_number usage.now) words.now) }
 {
     match words {
-        [text] => made(alloc, trim(text.as_bytes(), WHITE_SPACE, side)),
-        [text, trimmed] => made(alloc, trim(text.as_bytes(), trimmed.as_bytes(), side)),
+        [text] => made_text(alloc, trim(text.as_bytes(), WHITE_SPACE, side)),
+        [text, trimmed] => made_text(alloc, trim(text.as_bytes(), trimmed.as_bytes(), side)),
         _ => wrong_number(alloc, usage),
     }
 }

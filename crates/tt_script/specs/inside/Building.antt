@@ -19,12 +19,12 @@ before (part ∷ parts) rest = more (plain_part part) (before parts rest)
 abbrev pub so_far : Builder → PlainParts → PlainParts
 so_far builder rest = before builder.done.items (with_letters builder.letters rest)
 
--- letters as a part of their own, where there are any
+-- letters as a part of their own, if there are any
 abbrev pub apart : List ℕ → PlainParts → PlainParts
 apart [] rest = rest
 apart (b ∷ bs) rest = more (letters (b ∷ bs)) rest
 
--- it went on to a place, and added to the builder, where that keeps them, what stands before that place
+-- it went on to a place, and added to the builder, if that keeps them, what stands before that place
 abbrev pub Adds : Level → Ending → List ℕ → Builder → Builder → Result ℕ Stop → ℕ → Type 0
 Adds level ending text old new (Ok next) at =
     (add : PlainParts → PlainParts)

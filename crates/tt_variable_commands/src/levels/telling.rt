@@ -1,4 +1,4 @@
-//! What info(n) tells of variables and levels.
+//! What info(n) reports of variables and levels.
 ghost use Rattle.std.specs.Prelude.{◌≡◌, IfOk};
 ghost use Rattle.tt_variable_commands.specs.Telling as telling;
 
@@ -9,7 +9,7 @@ use tt_lists::count_text;
 use tt_store::{Answer, Store};
 use tt_text::{NoMemory, Text};
 
-/// What info(n) tells of.
+/// What info(n) reports of.
 #[derive(Clone, Copy, Debug, PartialEq, Eq)]
 pub(crate) enum Topic {
     Exists,

@@ -4,14 +4,14 @@ ghost use Rattle.tt_variable_commands.specs.LevelWords as given;
 
 use tt_text::Text;
 
-/// Whether upvar(n) has a level: where the number of words is odd.
+/// Whether upvar(n) has a level: if the number of words is odd.
 pub(crate) fn is_odd(words: &[Text]) -> bool
     ensures { result ≡ given.is_odd words.now }
 {
     words.len() % 2 == 1
 }
 
-/// Whether uplevel(n) has a level: where the first of several words begins with `#` or a digit.
+/// Whether uplevel(n) has a level: if the first of several words begins with `#` or a digit.
 pub(crate) fn is_levelled(words: &[Text]) -> bool
     ensures { result ≡ given.is_levelled words.now }
 {

@@ -53,7 +53,7 @@ put_by frame place (Some variable) element text = set_value_at frame place (put_
 abbrev pub put_at : Frame → Found → List ℕ → Frame
 put_at frame found text = put_by frame found.variable (slice_get (values_of frame) found.variable) found.element text
 
--- a variable, elements or a frame after a value in them grew: with the longer text, where one was made
+-- a variable, elements or a frame after a value in them grew: with the longer text, if one was made
 abbrev pub after_growing : {X : Type 0} → (put : List ℕ → X) → (old : X) → Option ListAnswer → X
 after_growing put old (Some (Made text)) = put text
 after_growing put old (Some (Bad message)) = old

@@ -1,5 +1,6 @@
 -- What becomes of places.
-use Rattle.std.specs.Prelude.{◌≡◌, ◌==◌, ◌++◌, ℕ, suc, Bool, false, not, IsTrue, IsFalse, List, [], ◌∷◌, length, Option, Some, None}
+use Rattle.std.specs.Prelude.{◌≡◌, ◌==◌, ◌++◌, ℕ, suc, Bool, false, not, IsTrue, IsFalse, List, [], ◌∷◌, length, Option}
+use Rattle.std.specs.Prelude.{Some, None}
 use Rattle.tt_calls.specs.Numbers.{at_number, with_at}
 use Rattle.tt_calls.specs.declared.reply.Reply.{Reply}
 use Rattle.tt_calls.specs.declared.start.Start.{Start}

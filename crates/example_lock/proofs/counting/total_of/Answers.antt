@@ -11,12 +11,14 @@ for_each_mut-requires-clause-accepts g c κs within i p inside at =
 
 pub close-requires-clause-all : goal.close-requires-clause-all
 close-requires-clause-all g c κs =
-    all_written c.in-Ok.lock _ _ _ _ (all_fresh c.in-Ok.lock c.args.threads _ _ c.in-Ok.ensures.passes c.in-Ok.ensures.count) c.as_mut_slice.ensures.value c.for_each_mut.auto.s c.in-Ok.passes.ok.0
+    all_written c.in-Ok.lock _ _ _ _
+    (all_fresh c.in-Ok.lock c.args.threads _ _ c.in-Ok.ensures.passes c.in-Ok.ensures.count) c.as_mut_slice.ensures.value c.for_each_mut.auto.s c.in-Ok.passes.ok.0
     (λ i d inside. let did = (c.for_each_mut.ensures i d inside).1 in (did.argument.now, did.after_call.now, did.argument_is, did.left, did.call.0, did.call.1))
 
 pub returns : goal.returns
 returns g c =
-    let all = all_written c.in-Ok.lock _ _ _ _ (all_fresh c.in-Ok.lock c.args.threads _ _ c.in-Ok.ensures.passes c.in-Ok.ensures.count) c.as_mut_slice.ensures.value c.for_each_mut.auto.s c.in-Ok.passes.ok.0
+    let all = all_written c.in-Ok.lock _ _ _ _
+    (all_fresh c.in-Ok.lock c.args.threads _ _ c.in-Ok.ensures.passes c.in-Ok.ensures.count) c.as_mut_slice.ensures.value c.for_each_mut.auto.s c.in-Ok.passes.ok.0
     (λ i d inside. let did = (c.for_each_mut.ensures i d inside).1 in (did.argument.now, did.after_call.now, did.argument_is, did.left, did.call.0, did.call.1)) in
     let noted = all_with c.in-Ok.lock (λ p. note_of p ≡ Some c.args.rounds) _ _ _ _ c.as_mut_slice.ensures.value c.for_each_mut.auto.s c.in-Ok.passes.ok.0
     (λ i d inside. let did = (c.for_each_mut.ensures i d inside).1 in (did.after_call.now, did.left, did.call.2)) in

@@ -18,7 +18,8 @@ returns-in-Some-clause-others c other differs =
 pub returns-in_ok-push-in-None-clause-added : goal.returns-in_ok-push-in-None-clause-added
 returns-in_ok-push-in-None-clause-added c =
     let none = rw c.deref.ensures.value at c.in-None.ensures.none in
-    rw (c.in_ok-push-in-None.ensures.items, c.in_ok-name-in-None.ensures.items, c.in_ok-bytes.ensures.items) (under-more c.args.files.now.items c.args.name.now c.args.bytes.now none)
+    rw (c.in_ok-push-in-None.ensures.items, c.in_ok-name-in-None.ensures.items, c.in_ok-bytes.ensures.items)
+    (under-more c.args.files.now.items c.args.name.now c.args.bytes.now none)
 
 pub returns-in_ok-push-in-None-clause-others : goal.returns-in_ok-push-in-None-clause-others
 returns-in_ok-push-in-None-clause-others c other differs =

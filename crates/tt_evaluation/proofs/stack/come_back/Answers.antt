@@ -11,4 +11,5 @@ returns-in_ok-next-in-Some-clause-same g c =
     let next = plan_of language.after language.on_got c.in_ok-next-in-Some.next c.go_on.new.state in
     let popped : c.args.calls.now.items ≡ c.pop.new.self.items ++ call ∷ [] = search rules in
     let goes_on : language.after call.frame c.args.outcome c.args.state.now ≡ next = search rules in
-    λ answers. came_back (eval language.plan) language.after c.args.calls.now.items c.pop.new.self.items call c.args.outcome c.args.state.now c.args.steps.now answers next popped goes_on
+    λ answers. came_back
+    (eval language.plan) language.after c.args.calls.now.items c.pop.new.self.items call c.args.outcome c.args.state.now c.args.steps.now answers next popped goes_on

@@ -12,7 +12,8 @@ loop-last-preserved c =
     let value = plain_value c.loop-last.value in
     ap (gathered bound stack) c.in_ok-value.ensures
     ∙ sym (gathered-takes bound (plain_pending c.in-Some.last) stack value (sym c.binds.ensures ∙ c.if-not-binds.false))
-    ∙ ap (λ s. gathered bound s value) (sym (stack-popped c.loop-last.pending.items c.pop.new.self.items c.pop.result c.in-Some.last c.pop.ensures.items c.in-Some.is))
+    ∙ ap (λ s. gathered bound s value)
+    (sym (stack-popped c.loop-last.pending.items c.pop.new.self.items c.pop.result c.in-Some.last c.pop.ensures.items c.in-Some.is))
     ∙ c.loop-last.invariant
 
 pub returns : goal.returns
@@ -25,7 +26,8 @@ returns c =
           ap (λ p. plain_waiting p.items c.loop-last.value) w.pending-is
           ∙ ap (λ s. record { pending = s; value = value }) (stack-pushed c.pop.new.self.items _ w.in-Some.last w.in_ok-push.ensures.items)
           ∙ sym (gathered-stops bound (plain_pending w.in-Some.last) stack value (sym w.binds.ensures ∙ w.if-not-binds.true))
-          ∙ ap (λ s. gathered bound s value) (sym (stack-popped c.loop-last.pending.items c.pop.new.self.items c.pop.result w.in-Some.last c.pop.ensures.items w.in-Some.is))
+          ∙ ap (λ s. gathered bound s value)
+          (sym (stack-popped c.loop-last.pending.items c.pop.new.self.items c.pop.result w.in-Some.last c.pop.ensures.items w.in-Some.is))
           ∙ c.loop-last.invariant
       | in_default w ↦
           let none : c.loop-last.pending.items ≡ [] = length-zero c.loop-last.pending.items (sym c.loop-last.pending.ok.0 ∙ w.in_default.ensures.cases.0) in

@@ -11,7 +11,8 @@ loop-at-preserved-then-is_white_space c =
     let state = plain_state c.loop-at.state in
     record {
       within = omega arith;
-      read = ap (comes_to state) (sym (white-at c.args.text.now c.loop-at.at (omega arith) (sym c.is_white_space.ensures ∙ c.if-is_white_space.true))) ∙ c.loop-at.invariant.read;
+      read = ap (comes_to state) (sym (white-at c.args.text.now c.loop-at.at (omega arith) (sym c.is_white_space.ensures ∙ c.if-is_white_space.true)))
+          ∙ c.loop-at.invariant.read;
     }
 
 pub loop-at-preserved : goal.loop-at-preserved
@@ -26,20 +27,26 @@ loop-at-preserved c =
       read =
           ap (λ next. comes_to next later) c.in_ok-step-in-One.ensures
           ∙ sym (comes_to-one state (plain_token c.in-One.token) later)
-          ∙ ap (comes_to state) (sym (one-at text at (plain_token c.in-One.token) c.in-One.n (omega arith) (sym c.is_white_space.ensures ∙ c.if-is_white_space.false) (sym c.in_ok-token.ensures.read ∙ ap plain_cut c.in-One.is) sized.0))
+          ∙ ap (comes_to state)
+          (sym (one-at text at (plain_token c.in-One.token) c.in-One.n (omega arith) (sym c.is_white_space.ensures ∙ c.if-is_white_space.false)
+          (sym c.in_ok-token.ensures.read ∙ ap plain_cut c.in-One.is) sized.0))
           ∙ c.loop-at.invariant.read;
     }
 
 pub returns-in-Refused : goal.returns-in-Refused
 returns-in-Refused c =
     let state = plain_state c.loop-at.state in
-    ap (comes_to state) (sym (refused-at c.args.text.now c.loop-at.at c.in-Refused.word (omega arith) (sym c.is_white_space.ensures ∙ c.if-is_white_space.false) (sym c.in_ok-token.ensures.read ∙ ap plain_cut c.in-Refused.is)))
+    ap (comes_to state)
+    (sym (refused-at c.args.text.now c.loop-at.at c.in-Refused.word (omega arith) (sym c.is_white_space.ensures ∙ c.if-is_white_space.false)
+    (sym c.in_ok-token.ensures.read ∙ ap plain_cut c.in-Refused.is)))
     ∙ c.loop-at.invariant.read
 
 pub returns-in-NoneHere : goal.returns-in-NoneHere
 returns-in-NoneHere c =
     let state = plain_state c.loop-at.state in
-    ap (comes_to state) (sym (stopped-at c.args.text.now c.loop-at.at (omega arith) (sym c.is_white_space.ensures ∙ c.if-is_white_space.false) (sym c.in_ok-token.ensures.read ∙ ap plain_cut c.in-NoneHere.is)))
+    ap (comes_to state)
+    (sym (stopped-at c.args.text.now c.loop-at.at (omega arith) (sym c.is_white_space.ensures ∙ c.if-is_white_space.false)
+    (sym c.in_ok-token.ensures.read ∙ ap plain_cut c.in-NoneHere.is)))
     ∙ c.loop-at.invariant.read
 
 pub returns : goal.returns

@@ -6,12 +6,14 @@ use Rattle.tt_exprs.proofs.Spellings.{first_spelled-cut, spelled_within, spellin
 use Rattle.tt_exprs.proofs.signs.sign.Goals as goal
 
 pub returns-in_default-clause-read : goal.returns-in_default-clause-read
-returns-in_default-clause-read c = subst (λ text. none_here ≡ sign text) (sym (length-zero c.args.text.now (omega (arith, c.in_default.len_below)))) (sym sign-none)
+returns-in_default-clause-read c =
+    subst (λ text. none_here ≡ sign text) (sym (length-zero c.args.text.now (omega (arith, c.in_default.len_below)))) (sym sign-none)
 
 pub returns-in-Some-clause-read : goal.returns-in-Some-clause-read
 returns-in-Some-clause-read c =
     ap (λ s. one (operator c.in-Some.op) (length s)) c.spelling.ensures
-    ∙ sign-operator c.args.text.now c.begun_by.result.now (get_or c.args.text.now 0 0) c.in-len1-up.len_at_least refl c.begun_by.ensures c.in-Some.op (sym c.first_spelled.ensures ∙ c.in-Some.is)
+    ∙ sign-operator c.args.text.now c.begun_by.result.now (get_or c.args.text.now 0 0) c.in-len1-up.len_at_least refl c.begun_by.ensures c.in-Some.op
+    (sym c.first_spelled.ensures ∙ c.in-Some.is)
 
 pub returns-in-Some-clause-within : goal.returns-in-Some-clause-within
 returns-in-Some-clause-within c =
@@ -24,4 +26,5 @@ returns-in-Some-clause-within c =
 
 pub returns-in-None-clause-read : goal.returns-in-None-clause-read
 returns-in-None-clause-read c =
-    sign-mark c.args.text.now c.begun_by.result.now (get_or c.args.text.now 0 0) c.in-len1-up.len_at_least refl c.begun_by.ensures _ c.mark.ensures.read (sym c.first_spelled.ensures ∙ c.in-None.is)
+    sign-mark c.args.text.now c.begun_by.result.now (get_or c.args.text.now 0 0) c.in-len1-up.len_at_least refl c.begun_by.ensures _ c.mark.ensures.read
+    (sym c.first_spelled.ensures ∙ c.in-None.is)

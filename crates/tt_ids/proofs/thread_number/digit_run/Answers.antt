@@ -18,4 +18,5 @@ pub loop-place-preserved : goal.loop-place-preserved
 loop-place-preserved c =
     let digit : is_ascii_digit (get_or c.args.text.now c.loop-place.place 0) ≡ true = cc in
     let short : c.loop-place.place < length c.args.text.now = omega arith in
-    rw (take_more c.args.text.now c.loop-place.place 0) (all-more (take c.loop-place.place c.args.text.now) (get_or c.args.text.now c.loop-place.place 0) c.loop-place.invariant digit)
+    rw (take_more c.args.text.now c.loop-place.place 0)
+    (all-more (take c.loop-place.place c.args.text.now) (get_or c.args.text.now c.loop-place.place 0) c.loop-place.invariant digit)

@@ -8,7 +8,8 @@ overflow_mul-value c =
     omega (arith, step.fits)
 
 pub overflow_sub-digit : goal.overflow_sub-digit
-overflow_sub-digit c = (next_step c.args.digits.now c.loop-digit.digit-index c.loop-digit.value c.requires.short c.requires.digits c.loop-digit-test.true c.loop-digit.invariant.0 c.loop-digit.invariant.1).low
+overflow_sub-digit c =
+    (next_step c.args.digits.now c.loop-digit.digit-index c.loop-digit.value c.requires.short c.requires.digits c.loop-digit-test.true c.loop-digit.invariant.0 c.loop-digit.invariant.1).low
 
 pub overflow_add-value : goal.overflow_add-value
 overflow_add-value c =

@@ -19,7 +19,8 @@ returns-in_err-number c =
     let value = c.in_ok-value.ensures.value in
     let digit = ap digit_value c.from.ensures in
     let none : c.from_residual-in_err-number.result ≡ None = search rules in
-    none ∙ too_great digits (i + 1) (omega (arith, c.in_err-number.ensures, c.in_ok-checked_mul.ensures, value, digit, c.from-in-loop-digit.ensures, digits_value_more 10 digits i (omega arith)))
+    none ∙ too_great digits (i + 1)
+    (omega (arith, c.in_err-number.ensures, c.in_ok-checked_mul.ensures, value, digit, c.from-in-loop-digit.ensures, digits_value_more 10 digits i (omega arith)))
 
 pub loop-digit-preserved : goal.loop-digit-preserved
 loop-digit-preserved c =
@@ -35,4 +36,5 @@ loop-digit-preserved c =
     }
 
 pub returns : goal.returns
-returns c = whole_number c.args.digits.now c.loop-digit.digit-index c.loop-digit.number (grind (arith, nat_tests, c.if-is_empty.ensures)) (omega arith) c.loop-digit.invariant.decimal c.loop-digit.invariant.number c.loop-digit.invariant.fits
+returns c = whole_number c.args.digits.now c.loop-digit.digit-index c.loop-digit.number (grind (arith, nat_tests, c.if-is_empty.ensures))
+    (omega arith) c.loop-digit.invariant.decimal c.loop-digit.invariant.number c.loop-digit.invariant.fits

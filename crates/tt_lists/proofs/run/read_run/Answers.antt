@@ -11,7 +11,12 @@ loop-at-preserved-then-text-at-eq92 c =
     let pushed = c.in_ok-push_bytes.ensures.pushed in
     let sequence = c.backslash-sequence.ensures in
     let value = pushed ∙ ap (λ t. c.loop-at.value ++ t) (ap (λ n. take n c.backslash-sequence.result.bytes) c.from.ensures ∙ sequence.value) in
-    record { within = omega (arith, sequence.next, backslash_le (drop (c.loop-at.at + 1) text), length-drop (c.loop-at.at + 1) text); run = c.loop-at.invariant.run ∙ read ∙ (cc (value, sequence.next)) }
+    record {
+      within =
+          omega (arith, sequence.next, backslash_le (drop (c.loop-at.at + 1) text), length-drop (c.loop-at.at + 1) text);
+      run =
+          c.loop-at.invariant.run ∙ read ∙ (cc (value, sequence.next));
+    }
 
 pub loop-at-preserved : goal.loop-at-preserved
 loop-at-preserved c =

@@ -41,7 +41,8 @@ loop-rest-preserved c =
 pub returns-in-Wrong-clause-answer : goal.returns-in-Wrong-clause-answer
 returns-in-Wrong-clause-answer c =
     let some : 0 < length c.loop-rest.rest.now = grind (arith, nat_tests, c.loop-rest-test.ensures) in
-    sym (c.loop-rest.invariant.split ∙ reads_fault c.loop-rest.rest.now c.in-Wrong.fault c.loop-rest.items some c.loop-rest.invariant.front (sym c.in_ok-item.ensures ∙ c.in-Wrong.is))
+    sym (c.loop-rest.invariant.split
+    ∙ reads_fault c.loop-rest.rest.now c.in-Wrong.fault c.loop-rest.items some c.loop-rest.invariant.front (sym c.in_ok-item.ensures ∙ c.in-Wrong.is))
 
 pub returns-clause-answer : goal.returns-clause-answer
 returns-clause-answer c =

@@ -12,4 +12,5 @@ loop-digit-preserved c =
     (all_more c.args.base c.args.digits.now c.loop-digit.digit-index within c.loop-digit.invariant.0 fits, (cc (more, digit.1)))
 
 pub returns : goal.returns
-returns c = whole_number c.args.base c.args.digits.now c.loop-digit.digit-index _ c.if-is_empty.ensures (omega arith) (omega arith) c.loop-digit.invariant.0 c.loop-digit.invariant.1
+returns c = whole_number c.args.base c.args.digits.now c.loop-digit.digit-index _ c.if-is_empty.ensures (omega arith)
+    (omega arith) c.loop-digit.invariant.0 c.loop-digit.invariant.1

@@ -25,7 +25,8 @@ returns-then-not-can_follow c =
     record {
       exact = (
         rest-within c.args.text.now c.loop-rest.runs.items c.loop-rest.rest.now c.loop-rest.invariant,
-        stops-before c.args.text.now c.loop-rest.runs.items c.loop-rest.rest.now c.loop-rest.invariant some (none-may c.loop-rest.runs.items c.loop-rest.rest.now c.in-Some.after.now c.in-Some.line c.loop-rest.invariant.runs found.0 found.1 not),
+        stops-before c.args.text.now c.loop-rest.runs.items c.loop-rest.rest.now c.loop-rest.invariant some
+            (none-may c.loop-rest.runs.items c.loop-rest.rest.now c.in-Some.after.now c.in-Some.line c.loop-rest.invariant.runs found.0 found.1 not),
         read-refused c.args.text.now c.loop-rest.runs.items c.loop-rest.rest.now c.in-Some.after.now c.in-Some.line c.loop-rest.invariant found.0 found.1 not,
       );
     }

@@ -9,7 +9,8 @@ loop-low-init c = around-all c.args.runs.now c.args.place c.requires.within
 pub loop-low-preserved-then-runs-middle : goal.loop-low-preserved-then-runs-middle
 loop-low-preserved-then-runs-middle c =
     let middle = c.loop-low.low + (c.loop-low.high - c.loop-low.low) / 2 in
-    around-after c.args.runs.now c.args.place c.loop-low.low middle c.loop-low.high _ c.requires.runs c.loop-low.invariant (omega arith) (omega arith) c.if-runs-middle.true
+    around-after c.args.runs.now c.args.place c.loop-low.low middle c.loop-low.high _ c.requires.runs c.loop-low.invariant (omega arith)
+    (omega arith) c.if-runs-middle.true
 
 pub returns-clause-thread : goal.returns-clause-thread
 returns-clause-thread c =

@@ -19,8 +19,17 @@ loop-at-init c =
 pub loop-at-preserved : goal.loop-at-preserved
 loop-at-preserved c =
     let text = c.args.text.now in
-    let told : Deepens _ c.loop-at.depth (Some c.in-Some.inner) = record { opens = c.in-Some.ensures.opens; closes_outer = c.in-Some.ensures.closes_outer; closes_inner = c.in-Some.ensures.closes_inner; other = c.in-Some.ensures.other } in
-    let passed = closing_at-passed text c.loop-at.at c.loop-at.depth c.after_escape.result c.in-Some.inner c.loop-at-test.true c.loop-at.invariant.depth c.after_escape.ensures.escaped c.after_escape.ensures.single told in
+    let told : Deepens _ c.loop-at.depth (Some c.in-Some.inner) =
+    record {
+      opens =
+          c.in-Some.ensures.opens;
+      closes_outer =
+          c.in-Some.ensures.closes_outer;
+      closes_inner = c.in-Some.ensures.closes_inner;
+      other = c.in-Some.ensures.other;
+    } in
+    let passed =
+    closing_at-passed text c.loop-at.at c.loop-at.depth c.after_escape.result c.in-Some.inner c.loop-at-test.true c.loop-at.invariant.depth c.after_escape.ensures.escaped c.after_escape.ensures.single told in
     let bounds = next_brace-bounds text c.after_escape.result passed.within in
     record {
       begun = omega (arith, bounds.0, c.next_brace-at-in-loop-at.ensures, passed.later);
@@ -29,7 +38,8 @@ loop-at-preserved c =
       plain = λ joined room.
           let neither = or_false c.loop-at.joins c.continues_line-joins.result joined in
           plain_on text c.args.from c.loop-at.at c.after_escape.result c.next_brace-at-in-loop-at.result c.loop-at.invariant.begun passed.later c.loop-at-test.true c.next_brace-at-in-loop-at.ensures room c.after_escape.ensures.escaped c.after_escape.ensures.single (sym c.continues_line-joins.ensures ∙ neither.1) (c.loop-at.invariant.plain neither.0 c.loop-at-test.true);
-      place = c.loop-at.invariant.place ∙ passed.place ∙ closing-run text c.after_escape.result c.next_brace-at-in-loop-at.result c.in-Some.inner passed.within c.next_brace-at-in-loop-at.ensures;
+      place = c.loop-at.invariant.place ∙ passed.place
+          ∙ closing-run text c.after_escape.result c.next_brace-at-in-loop-at.result c.in-Some.inner passed.within c.next_brace-at-in-loop-at.ensures;
     }
 
 pub returns-in-None-clause-plain : goal.returns-in-None-clause-plain

@@ -12,7 +12,8 @@ loop-at-preserved-then-text-at-ne92 c =
     let bounds = next_brace-bounds text (c.loop-at.at + 1) (omega arith) in
     record {
       within = omega (arith, bounds.1, c.next_brace-next.ensures);
-      joined = joined_on text c.loop-at.at next _ _ _ _ c.loop-at.invariant.joined c.in_ok-push_bytes.ensures.pushed (joined_at-letter text c.loop-at.at next c.loop-at-test.true c.if-text-at-ne92.true c.next_brace-next.ensures);
+      joined = joined_on text c.loop-at.at next _ _ _ _ c.loop-at.invariant.joined c.in_ok-push_bytes.ensures.pushed
+          (joined_at-letter text c.loop-at.at next c.loop-at-test.true c.if-text-at-ne92.true c.next_brace-next.ensures);
     }
 
 pub backslash-at-requires : goal.backslash-at-requires
@@ -24,7 +25,9 @@ loop-at-preserved-then-begins c =
     let next = c.backslash-at.result.next in
     record {
       within = omega (arith, backslash_at_within text c.loop-at.at c.loop-at-test.true, c.backslash-at.ensures.next);
-      joined = joined_on text c.loop-at.at next _ _ _ _ c.loop-at.invariant.joined c.in_ok-push_bytes-2.ensures.pushed (joined_at-newline text c.loop-at.at next c.loop-at-test.true c.if-text-at-ne92.false (sym c.begins.ensures ∙ c.if-begins.true) c.backslash-at.ensures.next);
+      joined = joined_on text c.loop-at.at next _ _ _ _ c.loop-at.invariant.joined c.in_ok-push_bytes-2.ensures.pushed
+          (joined_at-newline text c.loop-at.at next c.loop-at-test.true c.if-text-at-ne92.false
+          (sym c.begins.ensures ∙ c.if-begins.true) c.backslash-at.ensures.next);
     }
 
 pub loop-at-preserved : goal.loop-at-preserved
@@ -33,8 +36,11 @@ loop-at-preserved c =
     let next = c.after_escape-next.result in
     record {
       within = omega (arith, c.after_escape-next.ensures.escaped c.if-text-at-ne92.false);
-      joined = joined_on text c.loop-at.at next _ _ _ _ c.loop-at.invariant.joined c.in_ok-push_bytes-3.ensures.pushed (joined_at-pair text c.loop-at.at next c.loop-at-test.true c.if-text-at-ne92.false (sym c.begins.ensures ∙ c.if-begins.false) (c.after_escape-next.ensures.escaped c.if-text-at-ne92.false));
+      joined = joined_on text c.loop-at.at next _ _ _ _ c.loop-at.invariant.joined c.in_ok-push_bytes-3.ensures.pushed
+          (joined_at-pair text c.loop-at.at next c.loop-at-test.true c.if-text-at-ne92.false (sym c.begins.ensures ∙ c.if-begins.false)
+          (c.after_escape-next.ensures.escaped c.if-text-at-ne92.false));
     }
 
 pub returns : goal.returns
-returns c = sym (ap (λ rest. c.loop-at.joined ++ rest) (joined_at-end c.args.text.now c.loop-at.at c.loop-at-test.false) ∙ append-nil c.loop-at.joined) ∙ c.loop-at.invariant.joined
+returns c = sym (ap (λ rest. c.loop-at.joined ++ rest) (joined_at-end c.args.text.now c.loop-at.at c.loop-at-test.false) ∙ append-nil c.loop-at.joined)
+    ∙ c.loop-at.invariant.joined

@@ -11,5 +11,8 @@ returns-in-Ok-clause-read c =
     ∙ ap (λ part. takes part (c.in-Ok.end + 1)) (sym (plain_script c.in-Ok.inside))
 
 pub returns-in-Err-Fault-clause-read : goal.returns-in-Err-Fault-clause-read
-returns-in-Err-Fault-clause-read c =
-    (c.in-Err-Fault.field-0-0, script-fault (level most_open) c.args.text.now _ (refused _ _ ((level most_open).brackets c.args.text.now) c.in-Err-Fault.field-0-is c.in-Err-Fault.ensures.read))
+returns-in-Err-Fault-clause-read c = (
+  c.in-Err-Fault.field-0-0,
+  script-fault (level most_open) c.args.text.now _
+      (refused _ _ ((level most_open).brackets c.args.text.now) c.in-Err-Fault.field-0-is c.in-Err-Fault.ensures.read),
+)

@@ -47,7 +47,8 @@ abbrev pub invariant-commands-next_command : goal.invariant-commands-next_comman
 invariant-commands-next_command l = record {
   begun : l.from ≤ l.at;
   within : l.at ≤ length l.text;
-  read : reading.after l.from (reading.commands (reading.level l.depth) 0 (drop l.from l.text)) ≡ reading.after l.at (reading.commands (reading.level l.depth) 0 (drop l.at l.text));
+  read : reading.after l.from (reading.commands (reading.level l.depth) 0 (drop l.from l.text)) ≡ reading.after l.at
+      (reading.commands (reading.level l.depth) 0 (drop l.at l.text));
 }
 
 abbrev pub decreases-commands-next_command : goal.decreases-commands-next_command

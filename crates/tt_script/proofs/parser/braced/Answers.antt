@@ -14,7 +14,9 @@ returns-clause-read c = (
 
 pub returns-in_default-clause-read : goal.returns-in_default-clause-read
 returns-in_default-clause-read c =
-    braced_at-open c.args.place c.args.text.now c.args.from (ap (λ (o : Option Closing). option_map (λ closing. closing.end) o) (sym c.in_default.is) ∙ c.closing_brace.ensures.place)
+    braced_at-open c.args.place c.args.text.now c.args.from
+    (ap (λ (o : Option Closing). option_map (λ closing. closing.end) o) (sym c.in_default.is) ∙ c.closing_brace.ensures.place)
 
 pub returns-then-not-separates-clause-read : goal.returns-then-not-separates-clause-read
-returns-then-not-separates-clause-read c = braced_at-after c.args.place c.args.text.now c.args.from c.in-Some.closing.end c.in-Some.ensures.place (sym c.separates.ensures ∙ c.if-not-separates.true)
+returns-then-not-separates-clause-read c =
+    braced_at-after c.args.place c.args.text.now c.args.from c.in-Some.closing.end c.in-Some.ensures.place (sym c.separates.ensures ∙ c.if-not-separates.true)

@@ -14,7 +14,8 @@ returns-then-ends_parts c =
     let within = run-within (ends_run c.args.ending) text c.args.from c.requires in
     let ends = sym c.ends_parts.ensures ∙ c.if-ends_parts.true in
     record {
-      read = λ level. plain_parts_at level c.args.ending text c.args.from end (omega (arith, c.letters_end-end.ensures)) (omega (arith, within, c.letters_end-end.ensures)) (omega (arith, c.letters_end-end.ensures)) ends;
+      read = λ level. plain_parts_at level c.args.ending text c.args.from end (omega (arith, c.letters_end-end.ensures))
+          (omega (arith, within, c.letters_end-end.ensures)) (omega (arith, c.letters_end-end.ensures)) ends;
       within = (omega (arith, c.letters_end-end.ensures), ended_within c.args.ending text end (omega (arith, within, c.letters_end-end.ensures)) ends);
       ends = ends;
     }

@@ -6,7 +6,8 @@ pub loop-at-preserved : goal.loop-at-preserved
 loop-at-preserved c =
     let text = c.args.text.now in
     let next = c.after_escape.result in
-    let passed = comment_at-passed text c.loop-at.at next c.loop-at-test.true c.if-text-at-ne10.true c.after_escape.ensures.escaped c.after_escape.ensures.single in
+    let passed =
+    comment_at-passed text c.loop-at.at next c.loop-at-test.true c.if-text-at-ne10.true c.after_escape.ensures.escaped c.after_escape.ensures.single in
     let stop = c.next_special-at-in-loop-at.result in
     let bounds = next_special-bounds text next passed.1 in
     record {

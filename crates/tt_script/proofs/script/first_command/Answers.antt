@@ -20,5 +20,6 @@ pub returns-in-Err-Fault : goal.returns-in-Err-Fault
 returns-in-Err-Fault c =
     let room : c.skip_end-start.result < length c.args.text.now = omega arith in
     record {
-      exact = sym (first_at-fault c.args.text.now c.args.from c.skip_end-start.result c.skip_end-start.ensures.place room c.in-Err-Fault.fault (rw c.in-Err-Fault.field-0-is at c.in-Err-Fault.ensures.read));
+      exact = sym (first_at-fault c.args.text.now c.args.from c.skip_end-start.result c.skip_end-start.ensures.place room c.in-Err-Fault.fault
+          (rw c.in-Err-Fault.field-0-is at c.in-Err-Fault.ensures.read));
     }

@@ -7,7 +7,8 @@ pub returns-then-is_whole : goal.returns-then-is_whole
 returns-then-is_whole c =
     let P : List ℕ → Type 0 = λ n. FoundFrom n c.args.text.now c.starts.from c.in-Some.at in
     let found = subst P c.new-finder.ensures (found_from c.new-finder.result c.args.text.now c.starts.from c.in-Some.at c.in-Some.ensures) in
-    first_found c.args.needle.now c.args.text.now c.starts.from c.in-Some.at c.starts.invariant.within c.starts.invariant.none found (sym c.is_whole.ensures ∙ c.if-is_whole.true)
+    first_found c.args.needle.now c.args.text.now c.starts.from c.in-Some.at c.starts.invariant.within c.starts.invariant.none found
+    (sym c.is_whole.ensures ∙ c.if-is_whole.true)
 
 pub starts-preserved : goal.starts-preserved
 starts-preserved c =
@@ -15,7 +16,8 @@ starts-preserved c =
     let found = subst P c.new-finder.ensures (found_from c.new-finder.result c.args.text.now c.starts.from c.in-Some.at c.in-Some.ensures) in
     record {
       within = first_within c.args.needle.now c.args.text.now c.starts.from c.in-Some.at c.requires.some c.starts.invariant.within found;
-      none = first_on c.args.needle.now c.args.text.now c.starts.from c.in-Some.at (some_bytes c.args.needle.now c.requires.some) c.starts.invariant.within c.starts.invariant.none
+      none = first_on c.args.needle.now c.args.text.now c.starts.from c.in-Some.at
+          (some_bytes c.args.needle.now c.requires.some) c.starts.invariant.within c.starts.invariant.none
           found (sym c.is_whole.ensures ∙ c.if-is_whole.false);
     }
 

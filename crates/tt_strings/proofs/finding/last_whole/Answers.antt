@@ -21,7 +21,8 @@ starts-preserved c =
     let within = c.starts.invariant.within in
     record {
       within = omega (arith, ends, within);
-      none = last_on c.args.needle.now c.args.text.now c.starts.end c.in-Some.start (some_bytes c.args.needle.now c.requires.some) within c.starts.invariant.none
+      none = last_on c.args.needle.now c.args.text.now c.starts.end c.in-Some.start
+          (some_bytes c.args.needle.now c.requires.some) within c.starts.invariant.none
           found (sym c.is_whole.ensures ∙ c.if-is_whole.false);
     }
 
@@ -29,4 +30,5 @@ pub returns : goal.returns
 returns c =
     let text = c.args.text.now in
     let P : List ℕ → Type 0 = λ n. Nowhere (OccursAt (take c.starts.end text) n) 0 (length (take c.starts.end text) + 1) in
-    last_none c.args.needle.now c.args.text.now c.starts.end c.starts.invariant.within c.starts.invariant.none (subst P c.new-finder.ensures c.in_default.ensures)
+    last_none c.args.needle.now c.args.text.now c.starts.end c.starts.invariant.within c.starts.invariant.none
+    (subst P c.new-finder.ensures c.in_default.ensures)

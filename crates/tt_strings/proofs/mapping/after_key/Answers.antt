@@ -9,4 +9,5 @@ pub returns-in_default-after_bytes-clause-cases : goal.returns-in_default-after_
 returns-in_default-after_bytes-clause-cases c = no_bytes c.args.text.now c.args.key.now c.in_default-after_bytes.ensures
 
 pub returns-then-goes_on-clause-cases : goal.returns-then-goes_on-clause-cases
-returns-then-goes_on-clause-cases c = cut_character c.args.text.now c.args.key.now c.in-Some.after.now c.in-Some.ensures (sym c.goes_on.ensures ∙ c.if-goes_on.true)
+returns-then-goes_on-clause-cases c =
+    cut_character c.args.text.now c.args.key.now c.in-Some.after.now c.in-Some.ensures (sym c.goes_on.ensures ∙ c.if-goes_on.true)

@@ -20,7 +20,8 @@ loop-digit-preserved c =
     let digit = digit_at c.args.radix c.args.digits.now c.loop-digit.digit-index c.requires.digits (omega arith) in
     let read = c.unwrap_or-value.ensures ∙ digit_read _ _ _ c.to_digit.ensures.value digit in
     record {
-      value = digit_pushed c.args.radix c.args.digits.now c.loop-digit.digit-index c.loop-digit.number c.unwrap_or-value.result (omega arith) c.loop-digit.invariant.value read;
+      value = digit_pushed c.args.radix c.args.digits.now c.loop-digit.digit-index c.loop-digit.number c.unwrap_or-value.result
+          (omega arith) c.loop-digit.invariant.value read;
       bound = more_digits c.loop-digit.number c.args.radix c.unwrap_or-value.result c.loop-digit.digit-index c.loop-digit.invariant.bound c.requires.hexadecimal_or_less (omega (arith, read, digit));
     }
 

@@ -14,8 +14,11 @@ returns-then-not-is_byte-clause-means c =
 
 pub returns-in-Some-clause-means : goal.returns-in-Some-clause-means
 returns-in-Some-clause-means c =
-    rw c.in-Some.ensures.cases (escape_means c.args.first.now c.in-Some.escaped.now (characters c.in-Some.after.now) (is_this c.args.first.now 92 (sym c.is_byte.ensures ∙ c.if-not-is_byte.false)))
+    rw c.in-Some.ensures.cases
+    (escape_means c.args.first.now c.in-Some.escaped.now (characters c.in-Some.after.now)
+    (is_this c.args.first.now 92 (sym c.is_byte.ensures ∙ c.if-not-is_byte.false)))
 
 pub returns-in-None-clause-means : goal.returns-in-None-clause-means
 returns-in-None-clause-means c =
-    lone_means c.args.first.now (characters c.args.rest.now) (is_this c.args.first.now 92 (sym c.is_byte.ensures ∙ c.if-not-is_byte.false)) (ap characters c.in-None.ensures.cases)
+    lone_means c.args.first.now (characters c.args.rest.now) (is_this c.args.first.now 92 (sym c.is_byte.ensures ∙ c.if-not-is_byte.false))
+    (ap characters c.in-None.ensures.cases)

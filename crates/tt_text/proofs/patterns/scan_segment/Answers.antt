@@ -15,11 +15,14 @@ returns-in-Some-clause-cases c =
 
 pub returns-then-is_empty-clause-cases : goal.returns-then-is_empty-clause-cases
 returns-then-is_empty-clause-cases c =
-    c.pieces.invariant.here.1 (whole_matches c.pieces.left.now c.pieces.rest.now (is_nothing _ (sym c.is_empty.ensures ∙ c.if-is_empty.true)) c.in_default-split_character.ensures.cases)
+    c.pieces.invariant.here.1
+    (whole_matches c.pieces.left.now c.pieces.rest.now
+    (is_nothing _ (sym c.is_empty.ensures ∙ c.if-is_empty.true)) c.in_default-split_character.ensures.cases)
 
 pub returns-else-is_empty-clause-cases : goal.returns-else-is_empty-clause-cases
 returns-else-is_empty-clause-cases c =
-    λ m. end_needs_nothing c.pieces.left.now c.pieces.rest.now c.in_default-split_character.ensures.cases c.in_default.ensures.cases (is_something _ (sym c.is_empty.ensures ∙ c.if-is_empty.false)) (c.pieces.invariant.here.0 m)
+    λ m. end_needs_nothing c.pieces.left.now c.pieces.rest.now c.in_default-split_character.ensures.cases c.in_default.ensures.cases
+    (is_something _ (sym c.is_empty.ensures ∙ c.if-is_empty.false)) (c.pieces.invariant.here.0 m)
 
 pub pieces-preserved : goal.pieces-preserved
 pieces-preserved c =

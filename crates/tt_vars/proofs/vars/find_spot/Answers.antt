@@ -9,6 +9,7 @@ returns c = (
   search rules,
   search rules,
   search rules,
-  found-written c.args.frames.now (option_map place_at c.args.spot) (place_at c.in-Some.spot) c.frame_in.result.now c.in_ok-found.found (search rules) (search rules)
+  found-written c.args.frames.now (option_map place_at c.args.spot) (place_at c.in-Some.spot) c.frame_in.result.now c.in_ok-found.found
+      (search rules) (search rules)
       c.in_ok-found.ensures.written,
 )

@@ -14,10 +14,17 @@ returns c =
     let none : app_of c.disable_version_flag.result ≡ base =
     ap app_of_fields c.disable_version_flag.ensures ∙ ap (on_top (λ s. record s { disable_version_flag = true })) helpless in
     let word_is : rule_of c.action-words.result ≡ words_rule = search rules in
-    let workers = c.in_ok-arg.ensures.shape c.option-workers.ensures.local ∙ ap₂ with_rule none (c.option-workers.ensures.rule ∙ ap option_rule c.name.ensures) in
-    let steps = c.in_ok-arg-2.ensures.shape c.option-steps.ensures.local ∙ ap₂ with_rule workers (c.option-steps.ensures.rule ∙ ap option_rule c.name-2.ensures) in
-    let limit = c.in_ok-arg-3.ensures.shape c.option-limit.ensures.local ∙ ap₂ with_rule steps (c.option-limit.ensures.rule ∙ ap option_rule c.name-3.ensures) in
-    let kept = c.in_ok-arg-4.ensures.shape c.option-record.ensures.local ∙ ap₂ with_rule limit (c.option-record.ensures.rule ∙ ap option_rule c.name-4.ensures) in
-    let replay = c.in_ok-arg-5.ensures.shape c.option-replay.ensures.local ∙ ap₂ with_rule kept (c.option-replay.ensures.rule ∙ ap option_rule c.name-5.ensures) in
-    let generate = c.in_ok-arg-6.ensures.shape c.option-generate.ensures.local ∙ ap₂ with_rule replay (c.option-generate.ensures.rule ∙ ap option_rule c.name-6.ensures) in
+    let workers =
+    c.in_ok-arg.ensures.shape c.option-workers.ensures.local ∙ ap₂ with_rule none (c.option-workers.ensures.rule ∙ ap option_rule c.name.ensures) in
+    let steps = c.in_ok-arg-2.ensures.shape c.option-steps.ensures.local
+    ∙ ap₂ with_rule workers (c.option-steps.ensures.rule ∙ ap option_rule c.name-2.ensures) in
+    let limit = c.in_ok-arg-3.ensures.shape c.option-limit.ensures.local
+    ∙ ap₂ with_rule steps (c.option-limit.ensures.rule ∙ ap option_rule c.name-3.ensures) in
+    let kept = c.in_ok-arg-4.ensures.shape c.option-record.ensures.local
+    ∙ ap₂ with_rule limit (c.option-record.ensures.rule ∙ ap option_rule c.name-4.ensures) in
+    let replay =
+    c.in_ok-arg-5.ensures.shape c.option-replay.ensures.local ∙ ap₂ with_rule kept (c.option-replay.ensures.rule ∙ ap option_rule c.name-5.ensures) in
+    let generate =
+    c.in_ok-arg-6.ensures.shape c.option-generate.ensures.local
+    ∙ ap₂ with_rule replay (c.option-generate.ensures.rule ∙ ap option_rule c.name-6.ensures) in
     c.in_ok-command.ensures.shape (search rules) ∙ ap₂ with_rule generate word_is

@@ -9,7 +9,7 @@ use Rattle.tt_run.specs.declared.fault.StepFault.TheVariants as fault
 
 pub returns-in_default-request-clause-not_enabled : goal.returns-in_default-request-clause-not_enabled
 returns-in_default-request-clause-not_enabled g c e =
-    let kept : c.self.inside.desk.kept ≡ None = sym c.kept.ensures.kept ∙ c.in_default.is in
+    let kept : c.self.inside.desk.kept ≡ None = sym c.kept_fault.ensures.kept ∙ c.in_default.is in
     let asks : None ≡ asked_by c.self.inside.crew c.args.thread = c.in_default-request.ensures.asks in (
       rw (← c.self.view_is) kept,
       rw (← c.self.view_is)
@@ -19,7 +19,7 @@ returns-in_default-request-clause-not_enabled g c e =
 
 pub invariant_of-self : goal.invariant_of-self
 invariant_of-self g c =
-    let kept : c.self.inside.desk.kept ≡ None = sym c.kept.ensures.kept ∙ c.in_default.is in
+    let kept : c.self.inside.desk.kept ≡ None = sym c.kept_fault.ensures.kept ∙ c.in_default.is in
     failed g.S.Source.held g.K.Sink.got g.E.Sink.got c.self.inside.setup c.self.inside.began c.self.inside.desk c.act.new.self c.args.thread
     c.in-Some-request.request.now c.self.inside.crew c.act.result c.in-Err.fault
     c.in-Some-request.ensures.asks c.in-Err.is (record {
@@ -73,7 +73,7 @@ returns-in-Err-clause-not_enabled g c e =
 
 pub returns-in-Err-clause-tried : goal.returns-in-Err-clause-tried
 returns-in-Err-clause-tried g c = λ other was_none.
-    let kept : c.self.inside.desk.kept ≡ None = sym c.kept.ensures.kept ∙ c.in_default.is in
+    let kept : c.self.inside.desk.kept ≡ None = sym c.kept_fault.ensures.kept ∙ c.in_default.is in
     rw (← c.self.view_is)
     (asked-could g.S.Source.held g.K.Sink.got g.E.Sink.got c.self.inside.setup c.self.inside.began c.self.inside.desk c.args.thread
     c.in-Some-request.request.now c.self.inside.crew
@@ -92,7 +92,7 @@ pub returns-in-Err-clause-a_line : goal.returns-in-Err-clause-a_line
 returns-in-Err-clause-a_line g c e = λ was_none.
     let same : c.in-Err.fault ≡ fault.ReadFault = cc e in
     let was : c.act.result ≡ Err fault.ReadFault = c.in-Err.is ∙ ap Err same in
-    let kept : c.self.inside.desk.kept ≡ None = sym c.kept.ensures.kept ∙ c.in_default.is in
+    let kept : c.self.inside.desk.kept ≡ None = sym c.kept_fault.ensures.kept ∙ c.in_default.is in
     rw (← c.self.view_is)
     (asked-line g.S.Source.held g.K.Sink.got g.E.Sink.got c.self.inside.setup c.self.inside.began c.self.inside.desk c.args.thread
     c.in-Some-request.request.now c.self.inside.crew
@@ -104,7 +104,7 @@ pub returns-in-Err-clause-a_piece : goal.returns-in-Err-clause-a_piece
 returns-in-Err-clause-a_piece g c e = λ was_none.
     let same : c.in-Err.fault ≡ fault.WriteFault = cc e in
     let was : c.act.result ≡ Err fault.WriteFault = c.in-Err.is ∙ ap Err same in
-    let kept : c.self.inside.desk.kept ≡ None = sym c.kept.ensures.kept ∙ c.in_default.is in
+    let kept : c.self.inside.desk.kept ≡ None = sym c.kept_fault.ensures.kept ∙ c.in_default.is in
     rw (← c.self.view_is)
     (wrote g.S.Source.held g.K.Sink.got g.E.Sink.got c.self.inside.setup c.self.inside.began c.self.inside.desk c.act.new.self
     c.args.thread c.in-Some-request.request.now c.self.inside.crew

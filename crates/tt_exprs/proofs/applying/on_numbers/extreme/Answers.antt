@@ -10,4 +10,5 @@ loop-number-preserved c =
     let i = c.loop-number.number-index in
     let p : to_z w64 (of_z w64 c.picked-best.result) ≡ c.picked-best.result = search (arith, ints, to_z-of_z) in
     let q : c.picked-best.result ≡ picked op (to_z w64 c.loop-number.best-bits) (get_or c.args.later.now i (pos 0)) = search rules in
-    p ∙ q ∙ ap (λ b. picked op b (get_or c.args.later.now i (pos 0))) c.loop-number.invariant ∙ sym (fold_more (picked op) (to_z w64 (of_z w64 c.args.first)) c.args.later.now i (pos 0) c.loop-number-test.true)
+    p ∙ q ∙ ap (λ b. picked op b (get_or c.args.later.now i (pos 0))) c.loop-number.invariant
+    ∙ sym (fold_more (picked op) (to_z w64 (of_z w64 c.args.first)) c.args.later.now i (pos 0) c.loop-number-test.true)

@@ -10,4 +10,5 @@ returns c =
     let v = chunk c.args.at 16 c.args.bytes.now in
     let long = length-chunk c.args.at 16 c.args.bytes.now c.requires in
     run_is is_brace_or_backslash c.args.bytes.now c.args.at 16 c.requires (omega arith) c.type_inv.bytes _
-    (zip2_of_maps _ _ _ v (zip2_of_maps _ _ _ v (zip2_splat {Y = ℕ} _ v 16 123 long) (zip2_splat {Y = ℕ} _ v 16 125 long)) (zip2_splat {Y = ℕ} _ v 16 92 long)) refl _ c.first_set.ensures
+    (zip2_of_maps _ _ _ v (zip2_of_maps _ _ _ v (zip2_splat {Y = ℕ} _ v 16 123 long) (zip2_splat {Y = ℕ} _ v 16 125 long))
+    (zip2_splat {Y = ℕ} _ v 16 92 long)) refl _ c.first_set.ensures

@@ -11,5 +11,6 @@ returns c =
     let long = length-chunk c.args.at 16 c.args.bytes.now c.requires in
     run_is (λ b. not (is_blank b)) c.args.bytes.now c.args.at 16 c.requires (omega arith) c.type_inv.bytes _
     (zip2_of_maps _ _ _ v
-    (zip2_of_maps _ _ _ v (zip2_of_maps {X = ℕ} {Y = ℕ} (λ a b. cond (leb a b) 255 0) _ _ v (splat_is_map v 16 5 long) (zip2_splat {Y = ℕ} _ v 16 9 long)) (zip2_splat {Y = ℕ} _ v 16 10 long))
+    (zip2_of_maps _ _ _ v (zip2_of_maps {X = ℕ} {Y = ℕ} (λ a b. cond (leb a b) 255 0) _ _ v (splat_is_map v 16 5 long) (zip2_splat {Y = ℕ} _ v 16 9 long))
+    (zip2_splat {Y = ℕ} _ v 16 10 long))
     (zip2_splat {Y = ℕ} _ v 16 32 long)) refl _ c.first_set.ensures

@@ -10,7 +10,8 @@ first_newline-requires-clause-within g c =
 
 pub first_newline-requires-clause-searched : goal.first_newline-requires-clause-searched
 first_newline-requires-clause-searched g c =
-    front-searched c.has_more.new.self c.front.result.now c.loop-searched.searched 16777217 c.front.ensures c.loop-searched.invariant.2 (rw c.in_ok-has_more.ensures.same c.loop-searched.invariant.0)
+    front-searched c.has_more.new.self c.front.result.now c.loop-searched.searched 16777217 c.front.ensures c.loop-searched.invariant.2
+    (rw c.in_ok-has_more.ensures.same c.loop-searched.invariant.0)
 
 pub take_line-requires : goal.take_line-requires
 take_line-requires g c =
@@ -20,12 +21,14 @@ take_line-requires g c =
 pub returns-in-Some-clause-line : goal.returns-in-Some-clause-line
 returns-in-Some-clause-line g c =
     let keeps = c.in_ok-has_more.ensures.kept (λ same. cc same) in
-    whole-line _ _ _ c.has_more.new.self c.front.result.now _ c.in-Some.place 16777217 c.take_line.result (omega arith) c.front.ensures c.in-Some.ensures.0 c.in-Some.ensures.1 c.in-Some.ensures.2 c.loop-searched.invariant.3 keeps c.take_line.ensures.line c.take_line.ensures.left
+    whole-line _ _ _ c.has_more.new.self c.front.result.now _ c.in-Some.place 16777217 c.take_line.result
+    (omega arith) c.front.ensures c.in-Some.ensures.0 c.in-Some.ensures.1 c.in-Some.ensures.2 c.loop-searched.invariant.3 keeps c.take_line.ensures.line c.take_line.ensures.left
 
 pub loop-searched-smaller : goal.loop-searched-smaller
 loop-searched-smaller g c =
     let more : c.loop-searched.searched < length c.has_more.new.self = search (rules, c.in_ok-has_more.ensures.more, c.if-not-branch.false) in
-    let there = front-holds c.has_more.new.self c.front-searched.result.now (c.loop-searched.searched + 1) 16777217 c.front-searched.ensures (omega (arith, more)) (omega (arith, c.loop-searched-test.true)) in
+    let there = front-holds c.has_more.new.self c.front-searched.result.now (c.loop-searched.searched + 1) 16777217 c.front-searched.ensures
+    (omega (arith, more)) (omega (arith, c.loop-searched-test.true)) in
     omega (arith, there, c.loop-searched-test.true)
 
 pub loop-searched-preserved : goal.loop-searched-preserved

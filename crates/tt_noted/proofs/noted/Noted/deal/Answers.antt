@@ -6,7 +6,8 @@ use Rattle.tt_noted.proofs.Passes.{fresh_pass, one_more}
 use Rattle.tt_noted.proofs.noted.Noted.deal.Goals as goal
 
 pub split_seat-own-requires : goal.split_seat-own-requires
-split_seat-own-requires g c = (search rules, search rules, split_keeps g.T.Tie.fits _ c.loop-k.seat.id c.loop-k.seat.me.0 (ap (λ m. m.0.turn) c.loop-k.invariant.1))
+split_seat-own-requires g c =
+    (search rules, search rules, split_keeps g.T.Tie.fits _ c.loop-k.seat.id c.loop-k.seat.me.0 (ap (λ m. m.0.turn) c.loop-k.invariant.1))
 
 pub loop-k-preserved : goal.loop-k-preserved
 loop-k-preserved g c = let was = c.loop-k.invariant in let did = c.split_seat-own.ensures in let n = c.args.n in let k = c.loop-k.k in let note = c.args.note.now in (
@@ -15,5 +16,6 @@ loop-k-preserved g c = let was = c.loop-k.invariant in let did = c.split_seat-ow
   search rules,
   ap length c.push_reserved.ensures.items ∙ (length-append _ _ ∙ ap (λ m. m + 1) was.3),
   one_more c.args.self.now note k _ _ _ c.push_reserved.ensures.items was.3
-      (fresh_pass c.args.self.now note k n _ c.loop-k.seat.me.0 refl (did.3 ∙ was.0) (ap (λ m. m.0) did.4) (ap (λ m. m.0) was.1) c.loop-k-test.true c.requires.seat.0) was.4,
+      (fresh_pass c.args.self.now note k n _ c.loop-k.seat.me.0 refl (did.3 ∙ was.0) (ap (λ m. m.0) did.4)
+      (ap (λ m. m.0) was.1) c.loop-k-test.true c.requires.seat.0) was.4,
 )

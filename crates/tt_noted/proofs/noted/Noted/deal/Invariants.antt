@@ -6,5 +6,6 @@ use Rattle.tt_noted.proofs.noted.Noted.deal.Given as goal
 
 abbrev pub invariant-loop-k : goal.invariant-loop-k
 invariant-loop-k g l =
-    (l.seat.table_id ≡ l.self.table.shared.table_id) × (l.seat.me ≡ (view l.n (enumerate_from l.k (replicate (l.n - l.k) l.note)) None, [])) × (l.n ≤ vec_capacity l.passes) × (length l.passes.items ≡ l.k)
+    (l.seat.table_id ≡ l.self.table.shared.table_id) × (l.seat.me ≡ (view l.n (enumerate_from l.k (replicate (l.n - l.k) l.note)) None, []))
+    × (l.n ≤ vec_capacity l.passes) × (length l.passes.items ≡ l.k)
     × ((i : ℕ) (p : _) → slice_get l.passes.items i ≡ Some p → IsFresh l.self l.note i p)

@@ -16,4 +16,5 @@ pub returns-clause-fits : goal.returns-clause-fits
 returns-clause-fits g c = let v = c.args.pass.now.seat.me.0 in let t = c.take.ensures.took in let now = c.exchange.ensures.3 in
     let slot : Some t.0 ≡ c.exchange.result = same_held _ _ _ _ (ap (λ m. m.1) t.1) c.exchange.ensures.2 in let filled : Some t.0 ≡ Some c.unwrap-state.result = slot ∙ c.unwrap-state.ensures in
     let same : t.0 ≡ c.unwrap-state.result = cc in
-    fits_notes g.T.Tie.fits v _ _ _ _ (ap (λ m. m.0.notes) now ∙ ap (λ m. m.0.notes) t.1) c.requires.own.1 c.args.pass.now.numbered.1 (subst (FitsAll g.T.Tie.fits v) same t.2)
+    fits_notes g.T.Tie.fits v _ _ _ _ (ap (λ m. m.0.notes) now ∙ ap (λ m. m.0.notes) t.1) c.requires.own.1 c.args.pass.now.numbered.1
+    (subst (FitsAll g.T.Tie.fits v) same t.2)

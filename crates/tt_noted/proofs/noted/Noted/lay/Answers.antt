@@ -9,4 +9,5 @@ pub new-requires : goal.new-requires
 new-requires g c = let o : Opening g.row.T-Note.Denot = record { count = c.args.n; note = c.of.result } in
     let slots = c.push_reserved.ensures.items ∙ ap (λ xs. xs ++ Some c.args.state ∷ []) c.in-Ok.ensures.items in
     subst (λ (xs : List (Option g.row.T-State.Denot)). IsKept g.T.Tie.fits c.args.n (opening (0 ∷ []) xs (first_view o))) (sym slots)
-    (opening_holds g.T.Tie.fits c.args.n o c.args.state refl (subst (λ note. g.T.Tie.fits c.args.state (replicate c.args.n note)) (sym c.of.ensures) c.requires.1))
+    (opening_holds g.T.Tie.fits c.args.n o c.args.state refl
+    (subst (λ note. g.T.Tie.fits c.args.state (replicate c.args.n note)) (sym c.of.ensures) c.requires.1))

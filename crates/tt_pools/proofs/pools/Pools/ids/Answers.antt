@@ -9,4 +9,5 @@ use Rattle.tt_pools.proofs.pools.Pools.ids.Goals as goal
 pub returns : goal.returns
 returns c =
     let e : map deref_pair c.loop-number.yielded ≡ c.args.self.now.pools = search (rules, iter_end) in
-    c.loop-number.invariant ∙ sym (map-map (λ entry. id kind.Pool entry.0) deref_pair c.loop-number.yielded) ∙ ap (λ entries. map (λ entry. id kind.Pool entry.0) entries) e
+    c.loop-number.invariant ∙ sym (map-map (λ entry. id kind.Pool entry.0) deref_pair c.loop-number.yielded)
+    ∙ ap (λ entries. map (λ entry. id kind.Pool entry.0) entries) e

@@ -14,4 +14,5 @@ pub returns-clause-count : goal.returns-clause-count
 returns-clause-count c = counted c
 
 pub returns-clause-few : goal.returns-clause-few
-returns-clause-few c = rw (counted c) (length-listed c.self.inside.runs.items c.args.self.now.threads c.self.invariant (ap (λ (l : Listing). l.threads) c.self.view_is)).1
+returns-clause-few c =
+    rw (counted c) (length-listed c.self.inside.runs.items c.args.self.now.threads c.self.invariant (ap (λ (l : Listing). l.threads) c.self.view_is)).1

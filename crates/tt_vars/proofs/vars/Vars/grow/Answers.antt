@@ -11,7 +11,8 @@ pub returns-clause-grown : goal.returns-clause-grown
 returns-clause-grown c =
     let within : c.in-Ok.found.0 < length c.self.inside.frames.items = search rules in
     let place = place_of c.args.frame c.args.name.now (option_copied c.args.index) in
-    subst (λ old. Grows c.args.growth c.args.texts.now old place (with_frame c.self.inside.frames.items c.in-Ok.found.0 c.grow_at.new.self) c.ok_or.result) c.self.view_is
+    subst (λ old. Grows c.args.growth c.args.texts.now old place
+    (with_frame c.self.inside.frames.items c.in-Ok.found.0 c.grow_at.new.self) c.ok_or.result) c.self.view_is
     (grows c.args.growth c.args.texts.now c.self.inside.frames.items place c.in-Ok.found.0 c.in-Ok.found.1
     (subst (λ old. FindsAt old place (Ok c.in-Ok.found)) (sym c.self.view_is) (search rules))
     c.index_mut.result.now c.grow_at.new.self c.in_ok-answer.answer c.ok_or.result
@@ -19,5 +20,8 @@ returns-clause-grown c =
 
 pub invariant_of-self-2 : goal.invariant_of-self-2
 invariant_of-self-2 c =
-    let within : c.in-Ok.found.0 < length c.self.inside.frames.items = search rules in
-    (search rules, ends-kept c.self.inside.frames.items c.in-Ok.found.0 _ c.grow_at.new.self c.self.invariant.1 within c.grow_at.ensures.links (c.index_mut.ensures.value ∙ get_or_default _ _ _ _ within))
+    let within : c.in-Ok.found.0 < length c.self.inside.frames.items = search rules in (
+      search rules,
+      ends-kept c.self.inside.frames.items c.in-Ok.found.0 _ c.grow_at.new.self c.self.invariant.1 within c.grow_at.ensures.links
+          (c.index_mut.ensures.value ∙ get_or_default _ _ _ _ within),
+    )

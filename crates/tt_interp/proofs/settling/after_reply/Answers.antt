@@ -1,7 +1,7 @@
 use Rattle.std.proofs.Common.{rules}
 use Rattle.tt_interp.specs.Interps.{coming}
 use Rattle.tt_interp.proofs.Following.{replied_on, stood}
-use Rattle.tt_interp.proofs.settling.replied.Goals as goal
+use Rattle.tt_interp.proofs.settling.after_reply.Goals as goal
 
 pub returns-clause-leads : goal.returns-clause-leads
 returns-clause-leads c =

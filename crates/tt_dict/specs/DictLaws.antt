@@ -1,6 +1,6 @@
 -- Laws on the command dict(n).
 use Rattle.std.specs.Prelude.{◌≡◌, ℕ, List, ◌∷◌, ◌++◌, map, Ok}
-use Rattle.tt_pairs.specs.Laws.{KeysDiffer}
+use Rattle.tt_pairs.specs.PairLaws.{KeysDiffer}
 use Rattle.tt_pairs.specs.Pairs.{Pairs}
 use Rattle.tt_pairs.specs.Reading.{Reading, reading_of}
 use Rattle.tt_calls.specs.declared.outcome.Outcome.{Outcome}
