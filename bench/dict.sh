@@ -1,8 +1,8 @@
 #!/usr/bin/env bash
 # Prints the time of a turn with `dict set`, `dict get`, `dict incr` and `dict exists` on a variable whose dictionary has
-# 1,000 and 100,000 keys, with TURNS turns among 1,000 and a hundredth of them among 100,000; and the time of `dict for`
-# over 100,000 pairs. Each is the least of RUNS runs, less that of the same script without turns.
-# Where tclsh is installed, the time of the same script in it stands beside each.
+# 1,000 and 100,000 keys, with TURNS turns among 1,000 and a hundredth of them among 100,000; and the time of a whole
+# `dict for` over 100,000 pairs. Each is the least of RUNS runs, less that of the same script without turns.
+# Where tclsh is installed, its time of such a turn stands beside each, over 100 times TURNS turns.
 # Further runs differ by what else the machine does.
 # Usage: bench/dict.sh [RUNS [TURNS]]
 set -euo pipefail
@@ -40,22 +40,26 @@ turn() {
     echo $(((with - without) / count))
 }
 
-# A line on so many turns of a command among so many keys.
+# A line on so many turns of a command among so many keys, and on so many in tclsh.
 tell() {
-    local what=$1 keys=$2 command=$4
+    local what=$1 keys=$2 command=$5
+    write none "$keys" 0 "$command"
     count=$3
     write turns "$keys" "$count" "$command"
-    write none "$keys" 0 "$command"
     printf '%s, %d keys: %d ns' "$what" "$keys" "$(turn ./crates/tclthread/out/tclthread)"
-    if command -v tclsh >/dev/null; then printf ', tclsh %d' "$(turn tclsh)"; fi
+    if command -v tclsh >/dev/null; then
+        count=$4
+        write turns "$keys" "$count" "$command"
+        printf ', tclsh %d' "$(turn tclsh)"
+    fi
     printf '\n'
 }
 
 for keys in 1000 100000; do
-    count=$((turns * 1000 / keys))
-    tell 'dict set' $keys $count 'dict set d k500 $i'
-    tell 'dict get' $keys $count 'dict get $d k500'
-    tell 'dict incr' $keys $count 'dict incr d k500'
-    tell 'dict exists' $keys $count 'dict exists $d k500'
+    here=$((turns * 1000 / keys)) there=$((turns * 100))
+    tell 'dict set' $keys $here $there 'dict set d k500 $i'
+    tell 'dict get' $keys $here $there 'dict get $d k500'
+    tell 'dict incr' $keys $here $there 'dict incr d k500'
+    tell 'dict exists' $keys $here $there 'dict exists $d k500'
 done
-tell 'dict for, all pairs' 100000 1 'dict for {k v} $d {}'
+tell 'dict for, all pairs' 100000 5 5 'dict for {k v} $d {}'
