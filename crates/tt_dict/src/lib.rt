@@ -13,6 +13,8 @@ mod reading;
 mod row;
 mod subcommand;
 mod telling;
+#[cfg(test)]
+mod tests;
 mod variables;
 
 pub use call::DictCall;
