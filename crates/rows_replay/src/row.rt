@@ -12,7 +12,7 @@ pub(crate) struct Row {
     pub(crate) input: Text,
     pub(crate) limit: u64,
     pub(crate) fails: Fails,
-    /// The steps that its threads take; nothing where they take them in turn.
+    /// The steps that its threads take; nothing if they take them in turn.
     pub(crate) schedule: Option<Vec<Steps>>,
     /// What it comes to.
     pub(crate) wanted: Came,
