@@ -3,10 +3,10 @@
 use crate::row::{Came, Row, Steps};
 use rows_reader::copies;
 use std::alloc::Global;
-use tt_core::{NewFault, Setup, StepFault, System};
+use tt_core::{Setup, StepFault, System};
 use tt_devices::{MemorySink, MemorySource};
-use tt_schedule::print;
-use tt_text::Text;
+use tt_schedule::{Schedule, print};
+use tt_text::{NoMemory, Text};
 
 /// How many steps a run takes at most.
 const MOST_STEPS: u32 = 200_000;
@@ -34,40 +34,68 @@ enum End {
 
 /// Runs a row.
 pub(crate) fn run(alloc: Global, row: &Row) -> anyhow::Result<Ran> {
-    let Ok(mut system) = begin(alloc, row)? else {
-        anyhow::bail!("no memory");
-    };
-    let end = match &row.schedule {
-        Some(schedule) => follow(&mut system, schedule.as_slice())?,
-        None => take_turns(&mut system)?,
-    };
-    let (schedule, _input, output, errors) = system.finish();
-    let ran = Ran {
-        came: Came {
-            out: Text::from_bytes(alloc, output.bytes())?,
-            err: Text::from_bytes(alloc, errors.bytes())?,
-            end: end_text(alloc, end)?,
-        },
-        schedule: print(alloc, &schedule)?,
-    };
-    Ok(ran)
+    let mut system = begin(alloc, row)?;
+    let end = ended(&mut system, row);
+    let (schedule, _input, output, errors) = finished(system);
+    result_of(alloc, end, &schedule, output.bytes(), errors.bytes())
 }
 
-fn begin(
-    alloc: Global,
-    row: &Row,
-) -> anyhow::Result<Result<Run, NewFault<MemorySource, MemorySink, MemorySink>>> {
-    let setup = Setup {
-        script: Text::from_bytes(alloc, row.text())?,
-        name: Text::from_bytes(alloc, b"row.tcl")?,
-        arguments: copies(alloc, row.arguments.as_slice())?,
-        limit: row.limit,
-    };
+fn begin(alloc: Global, row: &Row) -> anyhow::Result<Box<Run>> {
+    let setup = setup_of(alloc, row)?;
     let input = Vec::from_slice(alloc, row.input.as_bytes())?;
     let input = MemorySource::new(input, Vec::from_slice(alloc, &[row.fails.input])?);
     let output = MemorySink::new(alloc, Vec::from_slice(alloc, &[row.fails.output])?);
     let errors = MemorySink::new(alloc, Vec::from_slice(alloc, &[row.fails.errors])?);
-    Ok(System::new(alloc, setup, input, output, errors))
+    match System::new(alloc, setup, input, output, errors) {
+        Ok(system) => boxed(alloc, system),
+        Err(_) => anyhow::bail!("out of memory"),
+    }
+}
+
+fn setup_of(alloc: Global, row: &Row) -> Result<Setup, NoMemory> {
+    Ok(Setup {
+        script: Text::from_bytes(alloc, row.text())?,
+        name: Text::from_bytes(alloc, b"row.tcl")?,
+        arguments: copies(alloc, row.arguments.as_slice())?,
+        limit: row.limit,
+    })
+}
+
+// Whoever holds a system pays for its size at each exit, so that it is moved about behind a pointer.
+fn boxed(alloc: Global, system: Run) -> anyhow::Result<Box<Run>> {
+    match Box::new(alloc, system) {
+        Ok(system) => Ok(system),
+        Err(_) => anyhow::bail!("out of memory"),
+    }
+}
+
+fn finished(system: Box<Run>) -> (Schedule, MemorySource, MemorySink, MemorySink) {
+    Box::into_inner(system).finish()
+}
+
+fn result_of(
+    alloc: Global,
+    end: anyhow::Result<End>,
+    schedule: &Schedule,
+    out: &[u8],
+    err: &[u8],
+) -> anyhow::Result<Ran> {
+    let ran = Ran {
+        came: Came {
+            out: Text::from_bytes(alloc, out)?,
+            err: Text::from_bytes(alloc, err)?,
+            end: end_text(alloc, end?)?,
+        },
+        schedule: print(alloc, schedule)?,
+    };
+    Ok(ran)
+}
+
+fn ended(system: &mut Run, row: &Row) -> anyhow::Result<End> {
+    match &row.schedule {
+        Some(schedule) => follow(system, schedule.as_slice()),
+        None => take_turns(system),
+    }
 }
 
 fn follow(system: &mut Run, schedule: &[Steps]) -> anyhow::Result<End> {
@@ -113,7 +141,7 @@ fn step(system: &mut Run, thread: u32) -> anyhow::Result<Option<End>> {
         Err(StepFault::NotEnabled) => Ok(Some(End::BadEntry(taken + 1))),
         Err(StepFault::ReadFault) => Ok(Some(End::ReadFault)),
         Err(StepFault::WriteFault) => Ok(Some(End::WriteFault)),
-        Err(StepFault::NoMemory) => anyhow::bail!("no memory"),
+        Err(StepFault::NoMemory) => anyhow::bail!("out of memory"),
     }
 }
 
