@@ -157,7 +157,7 @@ pub(crate) fn remove(alloc: Global, usage: &[u8], words: &[Text]) -> Result<Outc
 fn remove_from(alloc: Global, dictionary: &Text, keys: &[Text]) -> Result<Outcome, NoMemory>
     ensures { IfOk result (λ outcome.
         outcome ≡ telling.text_answer (λ pairs.
-            text_of (telling.without_keys pairs keys.now)) (reading_of dictionary.now)) }
+        text_of (telling.without_keys pairs keys.now)) (reading_of dictionary.now)) }
 {
     match read(alloc, dictionary.as_bytes())? {
         Ok(mut pairs) => {
