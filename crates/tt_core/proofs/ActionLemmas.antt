@@ -20,7 +20,7 @@ use Rattle.tt_machine.proofs.RunActionLemmas.{few_channels, steps_orderly}
 use Rattle.tt_machine.proofs.Steps.{one_more}
 use Rattle.tt_machine.specs.RunActions.{StepsOrderly}
 use Rattle.tt_schedule.specs.ScheduleText.{most_steps}
-use Rattle.tt_machine.specs.Machine.{Asks, CanStep, IsBarred, Machine, ReadsInput, Runs, Steps, after_act, with_new_threads, none}
+use Rattle.tt_machine.specs.Machine.{ThreadAsks, CanStep, IsBarred, Machine, ReadsInput, Runs, Steps, after_act, with_new_threads, none}
 use Rattle.tt_machine.specs.Machine.{with_reply, start_machine, over, silent, waits}
 use Rattle.tt_shared.specs.Acts.{act}
 use Rattle.tt_shared.specs.Enabled.{enabled}
@@ -110,12 +110,12 @@ was-read held false old new input line told reads = record {
 -- wherever its threads are, this one asks so, if it lives
 abbrev pub AsksIn : (Machine → Type 0) → (number : ℕ) → Request → (serving : List ℕ) → Type 0
 AsksIn Where number request serving =
-    (machine : Machine) → Where machine → IsTrue (is_living machine.shared.rows number) → Asks machine number request serving
+    (machine : Machine) → Where machine → IsTrue (is_living machine.shared.rows number) → ThreadAsks machine number request serving
 
 pub can-go : {S K E : Type 0} (held : S → Option (List ℕ)) (desk : Ground S K E) (number : ℕ) (request : Request) (serving : List ℕ) (machine : Machine)
     → IsIts desk.shared (unread held desk.devices) machine
     → Able desk number request
-    → Asks machine number request serving
+    → ThreadAsks machine number request serving
     → CanStep machine number
 can-go held desk number request serving machine its can asking = record {
   request = request;
@@ -141,7 +141,7 @@ goes : {S K E : Type 0} (held : S → Option (List ℕ)) (old new : Ground S K E
     (line : Line) (machine : Machine)
     → IsIts old.shared (unread held old.devices) machine
     → Able old number request
-    → Asks machine number request serving
+    → ThreadAsks machine number request serving
     → ReadsBy (reads_line request) held old.devices new.devices line
     → new.shared ≡ (act old.shared number request line).state
     → Goes held old new number request line machine
@@ -173,7 +173,7 @@ goes held old new number request serving line machine its can asking read did =
 -- a thread that is asked nothing that can be answered takes no step
 pub barred-asking : {S K E : Type 0} (held : S → Option (List ℕ)) (desk : Ground S K E) (number : ℕ) (request : Request) (serving : List ℕ) (machine : Machine)
     → IsIts desk.shared (unread held desk.devices) machine → desk.kept ≡ None
-    → (IsTrue (is_living machine.shared.rows number) → Asks machine number request serving)
+    → (IsTrue (is_living machine.shared.rows number) → ThreadAsks machine number request serving)
     → IsFalse (can_act desk number request)
     → IsBarred machine number
 barred-asking held desk number request serving machine its kept asking unable =

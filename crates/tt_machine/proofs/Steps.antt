@@ -4,7 +4,7 @@ use Rattle.tt_calls.specs.Numbers.{at_number}
 use Rattle.tt_calls.specs.declared.request.Request.{Request}
 use Rattle.tt_lines.proofs.LineLemmas.{one-line}
 use Rattle.tt_machine.proofs.OneRequest.{one_request}
-use Rattle.tt_machine.specs.Machine.{Asks, CanStep, IsBarred, Machine, ReadsInput, Runs, Steps, Thread, over, silent, waits, none, more}
+use Rattle.tt_machine.specs.Machine.{ThreadAsks, CanStep, IsBarred, Machine, ReadsInput, Runs, Steps, Thread, over, silent, waits, none, more}
 use Rattle.tt_lines.specs.Lines.{reads_line}
 use Rattle.tt_interp.specs.Beginning.{IsNext}
 use Rattle.tt_shared.specs.Enabled.{enabled}
@@ -16,7 +16,7 @@ same_thread threads number one other is also = let same : Some one ≡ Some othe
 
 -- a thread asks one request
 pub same_request : (machine : Machine) (number : ℕ) (one other : Request) (serving during : List ℕ)
-    → Asks machine number one serving → Asks machine number other during → one ≡ other
+    → ThreadAsks machine number one serving → ThreadAsks machine number other during → one ≡ other
 same_request machine number one other serving during a b =
     let same : b.thread ≡ a.thread = same_thread machine.threads number b.thread a.thread b.made a.made in
     let next = subst (λ (thread : Thread). IsNext machine.setup number thread.start thread.replies other during) same b.next in

@@ -50,7 +50,7 @@ start_machine setup input = record {
 -- ---- what a thread asks ----
 
 -- a thread that lives asks this next, and serves these posts meanwhile
-pub record Asks (machine : Machine) (number : ℕ) (request : Request) (serving : List ℕ) : Type 0 where
+pub record ThreadAsks (machine : Machine) (number : ℕ) (request : Request) (serving : List ℕ) : Type 0 where
   pub thread : Thread
   pub made : at_number machine.threads number ≡ Some thread
   pub lives : IsTrue (is_living machine.shared.rows number)
@@ -93,7 +93,7 @@ pub record CanStep (machine : Machine) (number : ℕ) : Type 0 where
   pub request : Request
   pub serving : List ℕ
   pub going : machine.shared.over ≡ None
-  pub asks : Asks machine number request serving
+  pub asks : ThreadAsks machine number request serving
   pub enabled : IsTrue (enabled machine.shared number request)
 
 -- one step of a thread: its next request is answered
@@ -108,10 +108,10 @@ pub record Steps (old : Machine) (number : ℕ) (new : Machine) : Type 0 where
 pub data IsBarred (machine : Machine) (number : ℕ) : Type 0 where
   over : {code : ℕ} → machine.shared.over ≡ Some code → IsBarred machine number
   silent :
-      ((request : Request) (serving : List ℕ) → ¬ (Asks machine number request serving)) →
+      ((request : Request) (serving : List ℕ) → ¬ (ThreadAsks machine number request serving)) →
       IsBarred machine number
   waits : {request : Request} {serving : List ℕ} →
-      Asks machine number request serving →
+      ThreadAsks machine number request serving →
       IsFalse (enabled machine.shared number request) →
       IsBarred machine number
 

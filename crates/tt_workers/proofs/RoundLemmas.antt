@@ -16,7 +16,7 @@ use Rattle.tt_devices.specs.Streams.{Grows}
 use Rattle.tt_devices.specs.declared.sink.Sink.{Ghosts as OfSink}
 use Rattle.tt_devices.specs.declared.source.Source.{Ghosts as OfSource}
 use Rattle.tt_interp.specs.Interps.{serving_of}
-use Rattle.tt_machine.specs.Machine.{Asks}
+use Rattle.tt_machine.specs.Machine.{ThreadAsks}
 use Rattle.tt_threads.specs.Rows.{is_living}
 use Rattle.tt_shared.specs.Acts.{act}
 use Rattle.tt_shared.specs.declared.applied.Line.{Line}
@@ -248,7 +248,7 @@ module _ {S K E : Type 0} (source : OfSource S) (output : OfSink K) (errors : Of
       (λ machine its are.
       let can = able desk number request (can-act desk places number request is able_to) in
       let lives : IsTrue (is_living machine.shared.rows number) = rw (← its.is_shared) can.lives in
-      let asks : Asks machine number request (serving_of is.interp.standing) =
+      let asks : ThreadAsks machine number request (serving_of is.interp.standing) =
       rw is.asked (asks-parked notes number places is.interp is.found machine are lives) in
       record {
         full = full;
