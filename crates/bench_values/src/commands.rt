@@ -9,6 +9,7 @@ use tt_lists::join_list;
 use tt_number::whole_text;
 use tt_pure::{is_pure, pure};
 use tt_text::{Text, Texts};
+use tt_value::{Value, Values};
 
 /// A word of a command.
 #[derive(Clone, Copy)]
@@ -58,7 +59,7 @@ fn tell(rt: &impl Print, alloc: Global) -> anyhow::Result<()> {
     for (name, words) in COMMANDS {
         let words = words_of(alloc, words, &list, &bytes)?;
         let outcome = answer(alloc, name, &words)?;
-        let length = outcome.value.len();
+        let length = outcome.value.to_text(alloc)?.len();
         println!(rt; "{name}: {length} bytes")?;
     }
     Ok(())
@@ -84,7 +85,12 @@ fn run(
 }
 
 // The least of some times, in nanoseconds.
-fn least_time(rt: &impl Clock, alloc: Global, name: &str, words: &Texts) -> anyhow::Result<u128> {
+fn least_time(
+    rt: &impl Clock,
+    alloc: Global,
+    name: &str,
+    words: &Values,
+) -> anyhow::Result<u128> {
     let mut least = u128::MAX;
     for _ in 0..ROUNDS {
         let start = Instant::now(rt)?;
@@ -94,22 +100,22 @@ fn least_time(rt: &impl Clock, alloc: Global, name: &str, words: &Texts) -> anyh
     Ok(least)
 }
 
-fn answer(alloc: Global, name: &str, words: &Texts) -> anyhow::Result<Outcome> {
+fn answer(alloc: Global, name: &str, words: &Values) -> anyhow::Result<Outcome> {
     anyhow::ensure!(is_pure(name.as_bytes()), "no such command");
     let outcome = pure(alloc, name.as_bytes(), words.as_slice())?;
     Ok(outcome)
 }
 
-fn words_of(alloc: Global, words: &[Word], list: &Text, bytes: &Text) -> anyhow::Result<Texts> {
-    let mut texts = Texts::new(alloc);
+fn words_of(alloc: Global, words: &[Word], list: &Text, bytes: &Text) -> anyhow::Result<Values> {
+    let mut values = Values::new(alloc);
     for word in words {
-        texts.push(match word {
+        values.push(Value::from_text(match word {
             Is(text) => Text::from_bytes(alloc, text.as_bytes())?,
             List => list.copy()?,
             Bytes => bytes.copy()?,
-        })?;
+        }))?;
     }
-    Ok(texts)
+    Ok(values)
 }
 
 // A list of whole numbers in no order.

@@ -6,6 +6,7 @@ use rows_reader::{Words, words_of};
 use std::alloc::Global;
 use tt_calls::{Event, Outcome, Reply, Shape};
 use tt_text::Text;
+use tt_value::Value;
 
 // How replies are written: a name, how many words follow, and which it is.
 const REPLIES: [(&str, usize, Shape); 15] = [
@@ -110,7 +111,7 @@ fn event_of(happens: Happens, words: &Words) -> anyhow::Result<Event> {
 fn outcome(words: &Words) -> anyhow::Result<Outcome> {
     Ok(Outcome {
         code: words.code(0, &CODES)?,
-        value: words.lines(1)?,
+        value: Value::from_text(words.lines(1)?),
         trace: words.lines(2)?,
         kept: words.code(3, &CODES)?,
     })

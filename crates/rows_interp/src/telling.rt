@@ -73,7 +73,7 @@ impl Telling {
     /// A code, a value, a trace and a kept code.
     pub(crate) fn outcome(&mut self, outcome: &Outcome) -> Result<(), NoMemory> {
         self.code(outcome.code)?;
-        self.text(&outcome.value)?;
+        self.text(&outcome.value.to_text(self.alloc)?)?;
         self.text(&outcome.trace)?;
         self.code(outcome.kept)
     }

@@ -95,7 +95,7 @@ fn push_outcome(alloc: Global, words: &mut Texts, outcome: &Outcome) -> anyhow::
             push(alloc, words, name)?;
         }
     }
-    words.push(outcome.value.copy()?)?;
+    words.push(outcome.value.to_text(alloc)?)?;
     if outcome.code == Code::Failed {
         words.push(outcome.trace.copy()?)?;
     }

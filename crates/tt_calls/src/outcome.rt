@@ -5,6 +5,7 @@ ghost use Rattle.tt_calls.specs.Usages as usages;
 use crate::usages;
 use std::alloc::Global;
 use tt_text::{NoMemory, Text};
+use tt_value::Value;
 
 /// How a script ended: the completion codes of return(n), which catch(n) answers as 0 to 4 in this
 /// order.
@@ -28,7 +29,7 @@ pub struct Outcome {
     /// How it ended.
     pub code: Code,
     /// Its result, or the message of its error.
-    pub value: Text,
+    pub value: Value,
     /// If `code` is `Failed`, the error's trace, as `errorInfo` of tclvars(n) has it; else it says
     /// nothing.
     pub trace: Text,
@@ -38,8 +39,15 @@ pub struct Outcome {
 }
 
 impl Outcome {
+    /// An evaluation that ran to its end, with this text as its result.
+    pub fn fine(alloc: Global, text: Text) -> Self
+        ensures fine { result ≡ fine text }
+    {
+        Outcome::with_result(alloc, Value::from_text(text))
+    }
+
     /// An evaluation that ran to its end, with this result.
-    pub fn fine(alloc: Global, value: Text) -> Self
+    pub fn with_result(alloc: Global, value: Value) -> Self
         ensures fine { result ≡ fine value }
     {
         Outcome {
@@ -59,7 +67,7 @@ impl Outcome {
         let trace = message.copy()?;
         Ok(Outcome {
             code: Code::Failed,
-            value: message,
+            value: Value::from_text(message),
             trace,
             kept: Code::Fine,
         })

@@ -10,7 +10,8 @@ use crate::stack::Stack;
 use crate::steps::{Halt, Step, perform};
 use std::alloc::Global;
 use std::sync::Arc;
-use tt_text::{NoMemory, Text};
+use tt_text::NoMemory;
+use tt_value::Value;
 
 /// Code that has come to a place, with the values so far. A contract says what it needs.
 #[derive(Debug, Drop)]
@@ -71,7 +72,7 @@ impl Running {
     /// Gives the value at which it halted.
     ///
     /// `NoMemory` if memory is refused; then it is only fit to be restarted.
-    pub fn give(&mut self, value: Text) -> Result<(), NoMemory>
+    pub fn give(&mut self, value: Value) -> Result<(), NoMemory>
         ensures given { OnOk result (needs self.new ≡ with_value self.old value) }
     {
         self.values.push(value)?;

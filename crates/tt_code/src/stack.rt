@@ -4,13 +4,14 @@ ghost use Rattle.std.specs.Prelude.{◌≡◌, ◌∷◌, ◌++◌, [], drop, re
 use std::alloc::Global;
 use std::marker::Model;
 use std::mem;
-use tt_text::{NoMemory, Text, Texts};
+use tt_text::NoMemory;
+use tt_value::{Value, Values};
 
 /// The values so far. Contracts see them with the newest first.
 #[derive(Debug, Drop)]
 pub(crate) struct Stack {
     alloc: Global,
-    values: Vec<Text>,
+    values: Vec<Value>,
 }
 
 impl Model for Stack {
@@ -31,7 +32,7 @@ impl Stack {
         }
     }
 
-    pub(crate) fn push(&mut self, value: Text) -> Result<(), NoMemory>
+    pub(crate) fn push(&mut self, value: Value) -> Result<(), NoMemory>
         ensures { OnOk result (self.new ≡ value ∷ self.old) }
     {
         self.values.push(value)?;
@@ -39,14 +40,14 @@ impl Stack {
     }
 
     /// Takes the newest.
-    pub(crate) fn pop(&mut self) -> Option<Text>
+    pub(crate) fn pop(&mut self) -> Option<Value>
         ensures { MatchOption result (self.old ≡ []) (λ value. self.old ≡ value ∷ self.new) }
     {
         self.values.pop()
     }
 
     /// Adds values, of which the last becomes the newest.
-    pub(crate) fn push_all(&mut self, values: Texts) -> Result<(), NoMemory>
+    pub(crate) fn push_all(&mut self, values: Values) -> Result<(), NoMemory>
         ensures { OnOk result (self.new ≡ reverse values ++ self.old) }
     {
         let mut values = values.into_vec();
@@ -56,7 +57,7 @@ impl Stack {
 
     #[tactic(auto, using(crate::proofs::Newest::newest, std::proofs::lemmas::List::take_rest))]
     /// So many of the newest, the newest last, or as many as there are.
-    pub(crate) fn newest(&self, count: usize) -> &[Text]
+    pub(crate) fn newest(&self, count: usize) -> &[Value]
         ensures { result.now ≡ reverse (take count self.now) }
     {
         &self.values[self.values.len().saturating_sub(count)..]
@@ -79,7 +80,7 @@ impl Stack {
     }
 
     /// Takes all, the newest last.
-    pub(crate) fn take(&mut self) -> Vec<Text>
+    pub(crate) fn take(&mut self) -> Vec<Value>
         ensures values { result.items ≡ reverse self.old }
         ensures rest { self.new ≡ [] }
     {

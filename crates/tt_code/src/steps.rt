@@ -10,8 +10,8 @@ use crate::stack::Stack;
 use std::alloc::Global;
 use tt_calls::{Code, Outcome};
 use tt_exprs::{Op, apply, result, truth};
-use tt_lists::{Split, split};
 use tt_text::{NoMemory, Text};
+use tt_value::{Value, texts_of, values_of};
 
 /// Where running code halts.
 #[derive(Debug, Drop)]
@@ -25,9 +25,9 @@ pub enum Halt {
     /// It has this error.
     Refused(Text),
     /// An expression has come to this value.
-    Value(Text),
+    Value(Value),
     /// A command's words have come to these values.
-    Values(Vec<Text>),
+    Values(Vec<Value>),
 }
 
 /// What comes after an instruction.
@@ -49,7 +49,7 @@ pub(crate) fn perform(
         → act instruction.now next values.old ≡ stepped step next values.new) }
 {
     match instruction {
-        Instruction::Push(text) => push(values, text.copy()?),
+        Instruction::Push(text) => push(values, Value::from_text(text.copy()?)),
         Instruction::Variable(name) => Ok(Step::Halts(Halt::Variable(name.copy()?))),
         Instruction::Element(name) => element(alloc, name, values),
         Instruction::Script(text) => Ok(Step::Halts(Halt::Script(text.copy()?))),
@@ -74,11 +74,11 @@ fn wrong_operands(alloc: Global) -> Result<Step, NoMemory>
     Ok(Step::Halts(Halt::Refused(message)))
 }
 
-fn push(values: &mut Stack, text: Text) -> Result<Step, NoMemory>
+fn push(values: &mut Stack, value: Value) -> Result<Step, NoMemory>
     ensures { IfOk result (λ step. (next : Next)
-        → act (code.Push text) next values.old ≡ stepped step next values.new) }
+        → act (code.Push value) next values.old ≡ stepped step next values.new) }
 {
-    values.push(text)?;
+    values.push(value)?;
     Ok(Step::Goes(0))
 }
 
@@ -87,7 +87,10 @@ fn element(alloc: Global, name: &Text, values: &mut Stack) -> Result<Step, NoMem
         → act (code.Element name.now) next values.old ≡ stepped step next values.new) }
 {
     match values.pop() {
-        Some(index) => Ok(Step::Halts(Halt::Element(name.copy()?, index))),
+        Some(index) => Ok(Step::Halts(Halt::Element(
+            name.copy()?,
+            index.into_text(alloc)?,
+        ))),
         None => wrong_operands(alloc),
     }
 }
@@ -97,9 +100,10 @@ fn append(alloc: Global, values: &mut Stack) -> Result<Step, NoMemory>
         → act code.Append next values.old ≡ stepped step next values.new) }
 {
     match (values.pop(), values.pop()) {
-        (Some(back), Some(mut front)) => {
-            front.push_bytes(back.as_bytes())?;
-            push(values, front)
+        (Some(back), Some(front)) => {
+            let mut text = front.into_text(alloc)?;
+            text.push_bytes(back.into_text(alloc)?.as_bytes())?;
+            push(values, Value::from_text(text))
         }
         _ => wrong_operands(alloc),
     }
@@ -110,21 +114,21 @@ fn expand(alloc: Global, values: &mut Stack) -> Result<Step, NoMemory>
         → act code.Expand next values.old ≡ stepped step next values.new) }
 {
     match values.pop() {
-        Some(list) => push_items(alloc, list, values),
+        Some(list) => push_items(alloc, &list, values),
         None => wrong_operands(alloc),
     }
 }
 
-fn push_items(alloc: Global, list: Text, values: &mut Stack) -> Result<Step, NoMemory>
+fn push_items(alloc: Global, list: &Value, values: &mut Stack) -> Result<Step, NoMemory>
     ensures { IfOk result (λ step. (next : Next)
-        → expanded list (λ items. next 0 (reverse items ++ values.old)) ≡ stepped step next values.new) }
+        → expanded list.now (λ items. next 0 (reverse items ++ values.old)) ≡ stepped step next values.new) }
 {
-    match split(alloc, list.as_bytes())? {
-        Split::Items(items) => {
-            values.push_all(items)?;
+    match list.to_items(alloc)? {
+        Ok(items) => {
+            values.push_all(values_of(alloc, items.as_slice())?)?;
             Ok(Step::Goes(0))
         }
-        Split::Bad(fault) => Ok(Step::Halts(Halt::Refused(fault.message(alloc)?))),
+        Err(fault) => Ok(Step::Halts(Halt::Refused(fault.message(alloc)?))),
     }
 }
 
@@ -136,20 +140,21 @@ fn apply_to(alloc: Global, op: Op, count: usize, values: &mut Stack) -> Result<S
     if op.is_lazy() || !op.takes(operands.len()) {
         return wrong_operands(alloc);
     }
-    let outcome = apply(alloc, op, operands)?;
+    let operands = texts_of(alloc, operands)?;
+    let outcome = apply(alloc, op, operands.as_slice())?;
     values.forget(count);
-    push_value(outcome, values)
+    push_value(alloc, outcome, values)
 }
 
 /// The value of an outcome, unless it has failed.
-fn push_value(outcome: Outcome, values: &mut Stack) -> Result<Step, NoMemory>
+fn push_value(alloc: Global, outcome: Outcome, values: &mut Stack) -> Result<Step, NoMemory>
     ensures { IfOk result (λ step. (next : Next)
         → unless_failed outcome (λ v. next 0 (v ∷ values.old)) ≡ stepped step next values.new) }
 {
     let Outcome { code, value, .. } = outcome;
     match code {
         Code::Fine => push(values, value),
-        _ => Ok(Step::Halts(Halt::Refused(value))),
+        _ => Ok(Step::Halts(Halt::Refused(value.into_text(alloc)?))),
     }
 }
 
@@ -159,8 +164,8 @@ fn result_of(alloc: Global, values: &mut Stack) -> Result<Step, NoMemory>
 {
     match values.pop() {
         Some(value) => {
-            let outcome = result(alloc, value)?;
-            push_value(outcome, values)
+            let outcome = result(alloc, value.into_text(alloc)?)?;
+            push_value(alloc, outcome, values)
         }
         None => wrong_operands(alloc),
     }
@@ -183,9 +188,9 @@ fn truth_of(alloc: Global, values: &mut Stack) -> Result<Step, NoMemory>
     let Some(value) = values.pop() else {
         return wrong_operands(alloc);
     };
-    match truth(alloc, value.as_bytes())? {
-        Ok(true) => push(values, Text::from_bytes(alloc, b"1")?),
-        Ok(false) => push(values, Text::from_bytes(alloc, b"0")?),
+    match truth(alloc, value.into_text(alloc)?.as_bytes())? {
+        Ok(true) => push(values, Value::from_text(Text::from_bytes(alloc, b"1")?)),
+        Ok(false) => push(values, Value::from_text(Text::from_bytes(alloc, b"0")?)),
         Err(message) => Ok(Step::Halts(Halt::Refused(message))),
     }
 }
@@ -197,7 +202,7 @@ fn skip_if_false(alloc: Global, count: usize, values: &mut Stack) -> Result<Step
     let Some(value) = values.pop() else {
         return wrong_operands(alloc);
     };
-    match truth(alloc, value.as_bytes())? {
+    match truth(alloc, value.into_text(alloc)?.as_bytes())? {
         Ok(true) => Ok(Step::Goes(0)),
         Ok(false) => Ok(Step::Goes(count)),
         Err(message) => Ok(Step::Halts(Halt::Refused(message))),
@@ -211,7 +216,7 @@ fn skip_if_true(alloc: Global, count: usize, values: &mut Stack) -> Result<Step,
     let Some(value) = values.pop() else {
         return wrong_operands(alloc);
     };
-    match truth(alloc, value.as_bytes())? {
+    match truth(alloc, value.into_text(alloc)?.as_bytes())? {
         Ok(true) => Ok(Step::Goes(count)),
         Ok(false) => Ok(Step::Goes(0)),
         Err(message) => Ok(Step::Halts(Halt::Refused(message))),

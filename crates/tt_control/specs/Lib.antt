@@ -6,3 +6,4 @@ pub mod Evaluating
 pub mod Refusals
 pub mod Table
 pub mod Turns
+pub mod inside

@@ -1,5 +1,6 @@
 use tt_calls::Code;
 use tt_text::{Text, Texts};
+use tt_value::Value;
 
 /// What the words of a command come to, if its name is that of a command which controls evaluation.
 #[derive(Debug, Drop)]
@@ -15,7 +16,7 @@ pub enum Control {
     /// The procedure returns this value, and ends with the code that is kept (return(n)).
     Return {
         kept: Code,
-        value: Text,
+        value: Value,
     },
     /// This error, whose trace begins with `info` if that is given (error(n)).
     Error {

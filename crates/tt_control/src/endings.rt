@@ -10,6 +10,7 @@ use crate::refusals::{bad_option, bad_value, wrong_number};
 use std::alloc::Global;
 use tt_calls::Code;
 use tt_text::{NoMemory, Text};
+use tt_value::{Value, texts_of};
 
 pub(crate) fn break_loop(alloc: Global, usage: &[u8], words: &[Text]) -> Result<Control, NoMemory>
     ensures { IfOk result (λ control. control ≡ endings.break_loop (wrong_number usage.now) words.now) }
@@ -60,7 +61,26 @@ fn info_of(info: &Text) -> Result<Option<Text>, NoMemory>
     Ok(Some(info))
 }
 
-pub(crate) fn return_value(alloc: Global, usage: &[u8], words: &[Text]) -> Result<Control, NoMemory>
+pub(crate) fn return_value(
+    alloc: Global,
+    usage: &[u8],
+    words: &[Value],
+) -> Result<Control, NoMemory>
+    ensures { IfOk result (λ control. control ≡ endings.return_value (wrong_number usage.now) words.now) }
+{
+    match words {
+        [value] => Ok(Control::Return {
+            kept: Code::Fine,
+            value: value.copy()?,
+        }),
+        _ => {
+            let words = texts_of(alloc, words)?;
+            return_by(alloc, usage, words.as_slice())
+        }
+    }
+}
+
+fn return_by(alloc: Global, usage: &[u8], words: &[Text]) -> Result<Control, NoMemory>
     ensures { IfOk result (λ control. control ≡ endings.return_value (wrong_number usage.now) words.now) }
 {
     match first_unknown(words) {
@@ -137,7 +157,7 @@ fn returns(alloc: Global, code: &[u8], value: &[u8]) -> Result<Control, NoMemory
 {
     match code_named(code) {
         Some(kept) => {
-            let value = Text::from_bytes(alloc, value)?;
+            let value = Value::from_text(Text::from_bytes(alloc, value)?);
             Ok(Control::Return { kept, value })
         }
         None => bad_value(alloc, code),

@@ -1,6 +1,7 @@
-ghost use Rattle.std.specs.Prelude.{◌≡◌, IfOk};
+ghost use Rattle.std.specs.Prelude.{◌≡◌, IfOk, IsTrue};
 ghost use Rattle.tt_control.specs.Refusals.{wrong_number};
 ghost use Rattle.tt_control.specs.Table as table;
+ghost use Rattle.tt_control.specs.inside.Words.{takes_texts};
 
 use crate::Control;
 use crate::branches::branch;
@@ -13,36 +14,51 @@ use crate::turns::foreach;
 use std::alloc::Global;
 use tt_script::plain_name;
 use tt_text::{NoMemory, Text};
+use tt_value::{Value, texts_of};
 
 /// What the words of a command mean, its name first. A leading `::` of the name is dropped.
 ///
 /// `Other` comes exactly if the first word is no command of the table, or is `dict` without `for` after it, or there is
 /// no word. Errors come in this order: an option that isn't known, from the left; a wrong number of words; what the
 /// words say. `NoMemory` if memory is refused.
-pub fn read_control(alloc: Global, words: &[Text]) -> Result<Control, NoMemory>
+pub fn read_control(alloc: Global, words: &[Value]) -> Result<Control, NoMemory>
     ensures control { IfOk result (λ control. control ≡ table.control_of words.now) }
 {
     match words {
-        [name, words @ ..] => by_command(alloc, command_of(plain_name(name.as_bytes())), words),
+        [name, words @ ..] => {
+            let name = name.to_text(alloc)?;
+            by_command(alloc, command_of(plain_name(name.as_bytes())), words)
+        }
         [] => Ok(Control::Other),
     }
 }
 
-fn by_command(alloc: Global, command: Option<Command>, words: &[Text]) -> Result<Control, NoMemory>
+fn by_command(
+    alloc: Global,
+    command: Option<Command>,
+    words: &[Value],
+) -> Result<Control, NoMemory>
     ensures { IfOk result (λ control. control ≡ table.by_command command words.now) }
 {
     match command {
-        Some(command) => meaning(alloc, command, usage(command), words),
+        Some(Command::Foreach) => foreach(alloc, usage(Command::Foreach), words),
+        Some(Command::Return) => return_value(alloc, usage(Command::Return), words),
+        Some(command) => {
+            let words = texts_of(alloc, words)?;
+            meaning(alloc, command, usage(command), words.as_slice())
+        }
         None => Ok(Control::Other),
     }
 }
 
+// What words mean that are taken as texts.
 fn meaning(
     alloc: Global,
     command: Command,
     usage: &[u8],
     words: &[Text],
 ) -> Result<Control, NoMemory>
+    requires texts { IsTrue (takes_texts command) }
     ensures { IfOk result (λ control. control ≡ (table.row_of command).meaning (wrong_number usage.now) words.now) }
 {
     match command {
@@ -53,10 +69,9 @@ fn meaning(
         Command::Error => error(alloc, usage, words),
         Command::Expr => expression(alloc, usage, words),
         Command::For => for_loop(alloc, usage, words),
-        Command::Foreach => foreach(alloc, usage, words),
         Command::If => branch(alloc, usage, words),
-        Command::Return => return_value(alloc, usage, words),
         Command::Switch => switch(alloc, usage, words),
         Command::While => while_loop(alloc, usage, words),
+        Command::Foreach | Command::Return => unreachable!(),
     }
 }

@@ -8,14 +8,14 @@ ghost use Rattle.tt_lists.specs.Reading.{split_of};
 use crate::Control;
 use crate::refusals::wrong_number;
 use std::alloc::Global;
-use tt_lists::{Split, split};
 use tt_text::{NoMemory, Text, Texts};
+use tt_value::{Items, Value};
 
 /// The variables of one list, and its values.
 #[derive(Debug, Drop)]
 pub(crate) struct Column {
-    pub(crate) names: Texts,
-    pub(crate) values: Texts,
+    pub(crate) names: Items,
+    pub(crate) values: Items,
 }
 
 /// A list of variables and a list of values, as they were read.
@@ -25,7 +25,7 @@ pub(crate) enum ColumnRead {
     Bad(Text),
 }
 
-pub(crate) fn foreach(alloc: Global, usage: &[u8], words: &[Text]) -> Result<Control, NoMemory>
+pub(crate) fn foreach(alloc: Global, usage: &[u8], words: &[Value]) -> Result<Control, NoMemory>
     ensures { IfOk result (λ control. control ≡ turns.foreach (wrong_number usage.now) words.now) }
 {
     if words.len() < 3 || words.len() % 2 == 0 {
@@ -34,13 +34,13 @@ pub(crate) fn foreach(alloc: Global, usage: &[u8], words: &[Text]) -> Result<Con
     read_from(alloc, usage, words)
 }
 
-fn read_from(alloc: Global, usage: &[u8], words: &[Text]) -> Result<Control, NoMemory>
+fn read_from(alloc: Global, usage: &[u8], words: &[Value]) -> Result<Control, NoMemory>
     ensures { IfOk result (λ control. control ≡ turns.read_from (wrong_number usage.now) [] words.now) }
 {
     let mut columns = Vec::new(alloc);
     let mut rest = words;
     while let [names, values, later @ ..] = rest {
-        match column_of(alloc, names.as_bytes(), values.as_bytes())? {
+        match column_of(alloc, names, values)? {
             ColumnRead::Column(column) => columns.push(column)?,
             ColumnRead::Bad(message) => return Ok(Control::Bad(message)),
         }
@@ -52,42 +52,42 @@ fn read_from(alloc: Global, usage: &[u8], words: &[Text]) -> Result<Control, NoM
     }
 }
 
-fn column_of(alloc: Global, names: &[u8], values: &[u8]) -> Result<ColumnRead, NoMemory>
+fn column_of(alloc: Global, names: &Value, values: &Value) -> Result<ColumnRead, NoMemory>
     ensures { IfOk result (λ column. column ≡ turns.column_of names.now values.now) }
 {
-    match split(alloc, names)? {
-        Split::Items(names) if names.as_slice().is_empty() => {
+    match names.to_items(alloc)? {
+        Ok(names) if names.as_slice().is_empty() => {
             let message = Text::from_bytes(alloc, b"empty variable list")?;
             Ok(ColumnRead::Bad(message))
         }
-        Split::Items(names) => with_values(alloc, names, values),
-        Split::Bad(fault) => {
+        Ok(names) => with_values(alloc, names, values),
+        Err(fault) => {
             let message = fault.message(alloc)?;
             Ok(ColumnRead::Bad(message))
         }
     }
 }
 
-fn with_values(alloc: Global, names: Texts, values: &[u8]) -> Result<ColumnRead, NoMemory>
+fn with_values(alloc: Global, names: Items, values: &Value) -> Result<ColumnRead, NoMemory>
     ensures { IfOk result (λ column. column ≡ turns.with_values names (split_of values.now)) }
 {
-    match split(alloc, values)? {
-        Split::Items(values) => Ok(ColumnRead::Column(Column { names, values })),
-        Split::Bad(fault) => {
+    match values.to_items(alloc)? {
+        Ok(values) => Ok(ColumnRead::Column(Column { names, values })),
+        Err(fault) => {
             let message = fault.message(alloc)?;
             Ok(ColumnRead::Bad(message))
         }
     }
 }
 
-fn turned(alloc: Global, columns: &[Column], body: &Text) -> Result<Control, NoMemory>
+fn turned(alloc: Global, columns: &[Column], body: &Value) -> Result<Control, NoMemory>
     ensures { IfOk result (λ control. control ≡ turns.turned columns.now body.now) }
 {
     let mut names = Texts::new(alloc);
     push_names(&mut names, columns)?;
     let mut values = Texts::new(alloc);
     push_turns(alloc, &mut values, columns, most_turns(columns))?;
-    let body = body.copy()?;
+    let body = body.to_text(alloc)?;
     Ok(Control::Foreach {
         names,
         values,
@@ -99,7 +99,7 @@ fn push_names(all: &mut Texts, columns: &[Column]) -> Result<(), NoMemory>
     ensures { OnOk result (all.new ≡ all.old ++ flat_map (λ column. column.names) columns.now) }
 {
     for column in columns {
-        push_copies(all, column.names.as_slice())?;
+        all.push_copies(column.names.as_slice())?;
     }
     Ok(())
 }
@@ -158,7 +158,7 @@ fn push_values(alloc: Global, all: &mut Texts, column: &Column, turn: usize) -> 
 {
     let width = column.names.as_slice().len();
     let left = values_from(column.values.as_slice(), turn, width);
-    push_copies(all, first_values(left, width))?;
+    all.push_copies(first_values(left, width))?;
     push_empty(alloc, all, width.saturating_sub(left.len()))
 }
 
@@ -179,15 +179,6 @@ fn first_values(values: &[Text], width: usize) -> &[Text]
         Some(first) => first,
         None => values,
     }
-}
-
-fn push_copies(all: &mut Texts, texts: &[Text]) -> Result<(), NoMemory>
-    ensures { OnOk result (all.new ≡ all.old ++ texts.now) }
-{
-    for text in texts {
-        all.push(text.copy()?)?;
-    }
-    Ok(())
 }
 
 fn push_empty(alloc: Global, all: &mut Texts, count: usize) -> Result<(), NoMemory>

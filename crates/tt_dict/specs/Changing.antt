@@ -1,10 +1,8 @@
 -- What a change makes of a dictionary (dict(n)): of what its text is read as, and never of the text.
-use Rattle.std.specs.Prelude.{ℕ, ℤ, List, [], ◌++◌, codes, Option, Some, None, Result, Ok, Err}
+use Rattle.std.specs.Prelude.{ℕ, ℤ, List, [], ◌++◌, codes, Result, Ok, Err}
 use Rattle.std.specs.Fmt.{signed_decimal}
 use Rattle.std.specs.List.{flat_map}
 use Rattle.std.specs.Option.{unwrap_or}
-use Rattle.tt_calls.specs.Outcomes.{failed, fine}
-use Rattle.tt_calls.specs.declared.outcome.Outcome.{Outcome}
 use Rattle.tt_lists.specs.Messages.{list_message}
 use Rattle.tt_lists.specs.Reading.{split_of}
 use Rattle.tt_lists.specs.Spelling.{list_of}
@@ -70,12 +68,3 @@ answer_of (Err message) = Bad message
 
 abbrev pub changed : Change → Reading → ListAnswer
 changed change reading = answer_of (for_pairs (after change) reading)
-
--- a missing dictionary counts as the empty one
-abbrev pub reading_if : (old : Option (List ℕ)) → Reading
-reading_if (Some text) = reading_of text
-reading_if None = Ok []
-
-abbrev pub outcome_of : ListAnswer → Outcome
-outcome_of (Made text) = fine text
-outcome_of (Bad message) = failed message

@@ -1,5 +1,5 @@
 //! Answers, and lists of texts.
-ghost use Rattle.std.specs.Prelude.{◌≡◌, ◌++◌, IfOk, OnOk, filter};
+ghost use Rattle.std.specs.Prelude.{◌≡◌, IfOk, filter};
 ghost use Rattle.std.specs.Option.{option_copied};
 ghost use Rattle.tt_calls.specs.Outcomes.{fine};
 ghost use Rattle.tt_dict.specs.Telling as telling;
@@ -10,16 +10,16 @@ ghost use Rattle.tt_text.specs.GlobFunction.{is_match};
 
 use std::alloc::Global;
 use tt_calls::Outcome;
-use tt_lists::join_list;
 use tt_pairs::Dictionary;
 use tt_text::{NoMemory, Text, Texts, glob};
+use tt_value::Value;
 
-/// The canonical text of a dictionary.
-pub(crate) fn whole(alloc: Global, pairs: &Dictionary) -> Result<Outcome, NoMemory>
-    ensures { IfOk result (λ outcome. outcome ≡ fine (text_of pairs.now)) }
+/// A dictionary in its canonical text.
+pub(crate) fn whole(alloc: Global, pairs: Dictionary) -> Result<Outcome, NoMemory>
+    ensures { IfOk result (λ outcome. outcome ≡ fine (text_of pairs)) }
 {
-    let text = pairs.text()?;
-    Ok(Outcome::fine(alloc, text))
+    let value = Value::from_pairs(alloc, pairs)?;
+    Ok(Outcome::with_result(alloc, value))
 }
 
 /// The same of what was read.
@@ -30,7 +30,7 @@ pub(crate) fn whole_of(
     ensures { IfOk result (λ outcome. outcome ≡ telling.text_answer text_of reading) }
 {
     match reading {
-        Ok(pairs) => whole(alloc, &pairs),
+        Ok(pairs) => whole(alloc, pairs),
         Err(message) => Outcome::failed(message),
     }
 }
@@ -71,8 +71,8 @@ pub(crate) fn like(
 fn list(alloc: Global, texts: &[Text]) -> Result<Outcome, NoMemory>
     ensures { IfOk result (λ outcome. outcome ≡ fine (list_of texts.now)) }
 {
-    let text = join_list(alloc, texts)?;
-    Ok(Outcome::fine(alloc, text))
+    let value = Value::from_copies(alloc, texts)?;
+    Ok(Outcome::with_result(alloc, value))
 }
 
 fn matching(alloc: Global, pattern: &Text, texts: &[Text]) -> Result<Texts, NoMemory>
@@ -86,23 +86,4 @@ fn matching(alloc: Global, pattern: &Text, texts: &[Text]) -> Result<Texts, NoMe
         }
     }
     Ok(like)
-}
-
-/// Adds copies of texts at the end.
-pub(crate) fn push_copies(all: &mut Texts, texts: &[Text]) -> Result<(), NoMemory>
-    ensures { OnOk result (all.new ≡ all.old ++ texts.now) }
-{
-    for text in texts {
-        all.push(text.copy()?)?;
-    }
-    Ok(())
-}
-
-/// Copies of texts.
-pub(crate) fn copies(alloc: Global, texts: &[Text]) -> Result<Texts, NoMemory>
-    ensures { IfOk result (λ copies. copies ≡ texts.now) }
-{
-    let mut copies = Texts::new(alloc);
-    push_copies(&mut copies, texts)?;
-    Ok(copies)
 }

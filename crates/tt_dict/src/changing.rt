@@ -1,158 +1,93 @@
 //! What a change makes of a dictionary.
-ghost use Rattle.std.specs.Prelude.{◌≡◌, ◌++◌, [], codes, Ok, IfOk};
-ghost use Rattle.std.specs.Option.{option_copied};
+ghost use Rattle.std.specs.Prelude.{◌≡◌, ◌++◌, [], codes, Err, IfErr, IfOk, Ok};
 ghost use Rattle.tt_dict.specs.Changing as changing;
 ghost use Rattle.tt_dict.specs.Paths as paths;
+ghost use Rattle.tt_dict.specs.inside.Steps.{stepped};
+ghost use Rattle.tt_pairs.specs.Pairs.{Pairs};
+ghost use Rattle.tt_pairs.specs.Reading.{reading_of};
+ghost use Rattle.tt_value.specs.Growing.{value_after};
 ghost use Rattle.tt_lists.specs.Reading.{split_of};
 ghost use Rattle.tt_lists.specs.Spelling.{list_of};
 ghost use Rattle.tt_number.specs.Numerals.{whole_of};
 ghost use Rattle.tt_number.specs.Operators.{binary_of};
 ghost use Rattle.tt_number.specs.declared.operators.NumOp.TheVariants.{Add};
-ghost use Rattle.tt_pairs.specs.Reading.{reading_of};
 
 use crate::Change;
-use crate::answers::push_copies;
-use crate::edit::Edit;
-use crate::paths::edited_on;
+use crate::edit::{Edit, Step};
+use crate::paths::step_on;
 use std::alloc::Global;
-use tt_calls::Outcome;
-use tt_lists::{ListAnswer, Split, join_list, split};
+use tt_lists::{Split, join_list, split};
 use tt_number::{NumOp, binary, read_whole, whole_text};
-use tt_pairs::{Dictionary, read};
+use tt_pairs::Dictionary;
 use tt_text::{NoMemory, Text, Texts};
+use tt_value::{Changing, Made, Value};
 
-/// How the change of a dictionary ends (dict(n)): with the canonical text of what becomes of it, or with the error. A
-/// missing dictionary counts as the empty one.
-///
-/// Errors come in this order: the text is no dictionary, or its list has a fault; from the outermost on, a value on the
-/// way is none, or a key of `Unset` is not there; the value is no whole number or no list; the sum is past 64 bits.
-/// `NoMemory` if memory is refused.
-pub fn change(alloc: Global, old: Option<&[u8]>, change: &Change) -> Result<Outcome, NoMemory>
-    ensures outcome { IfOk result (λ outcome.
-        outcome ≡ changing.outcome_of (changing.changed change.now (changing.reading_if (option_copied old.entry)))) }
-{
-    let answer = changed_by(alloc, reading_if(alloc, old)?, change)?;
-    let outcome = outcome_of(alloc, answer)?;
-    Ok(outcome)
-}
+impl Changing for Change {
+    ghost use Rattle.tt_dict.specs.Changing as changing;
+    ghost use Rattle.tt_pairs.specs.Reading.{reading_of};
 
-/// The same of a dictionary's text, as an answer.
-///
-/// `NoMemory` if memory is refused.
-pub fn changed(alloc: Global, old: &[u8], change: &Change) -> Result<ListAnswer, NoMemory>
-    ensures answer { IfOk result (λ answer. answer ≡ changing.changed change.now (reading_of old.now)) }
-{
-    let answer = changed_by(alloc, read(alloc, old)?, change)?;
-    Ok(answer)
-}
+    ghost meaning = { λ change text. changing.changed change (reading_of text) };
 
-fn reading_if(alloc: Global, old: Option<&[u8]>) -> Result<Result<Dictionary, Text>, NoMemory>
-    ensures { IfOk result (λ reading. reading ≡ changing.reading_if (option_copied old.entry)) }
-{
-    match old {
-        Some(text) => read(alloc, text),
-        None => Ok(Ok(Dictionary::new(alloc))),
+    fn change(&self, alloc: Global, value: &mut Value) -> Result<Made, NoMemory> {
+        let pairs = match value.pairs(alloc)? {
+            Ok(pairs) => pairs,
+            Err(message) => return Ok(Made::bad(message)),
+        };
+        let step = match step_of(alloc, self, pairs.dictionary())? {
+            Ok(step) => step,
+            Err(message) => return Ok(Made::bad(message)),
+        };
+        drop(pairs);
+        take_step(alloc, value, step)
     }
 }
 
-fn outcome_of(alloc: Global, answer: ListAnswer) -> Result<Outcome, NoMemory>
-    ensures { IfOk result (λ outcome. outcome ≡ changing.outcome_of answer) }
+// The pairs that a value is read as take a step.
+fn take_step(alloc: Global, value: &mut Value, step: Step) -> Result<Made, NoMemory>
+    ensures made { (pairs : Pairs) → reading_of value.old ≡ Ok pairs →
+        IfOk result (λ made. made ≡ changing.answer_of (Ok (stepped step pairs))) }
+    ensures left { (pairs : Pairs) → reading_of value.old ≡ Ok pairs →
+        IfOk result (λ made. value.new ≡ value_after made value.old) }
 {
-    match answer {
-        ListAnswer::Made(text) => Ok(Outcome::fine(alloc, text)),
-        ListAnswer::Bad(message) => Outcome::failed(message),
+    let taken = match step {
+        Step::Stays => value.pairs_alone(alloc)?,
+        Step::Puts(key, text) => value.put_pair(alloc, key, text)?,
+        Step::Removes(key) => value.remove_pair(alloc, &key)?,
+    };
+    match taken {
+        Ok(()) => Ok(Made::value(value.copy()?)),
+        Err(message) => Ok(Made::bad(message)),
     }
 }
 
-fn changed_by(
-    alloc: Global,
-    reading: Result<Dictionary, Text>,
-    change: &Change,
-) -> Result<ListAnswer, NoMemory>
-    ensures { IfOk result (λ answer. answer ≡ changing.changed change.now reading) }
-{
-    match reading {
-        Ok(pairs) => answer_of(after(alloc, change, pairs)?),
-        Err(message) => Ok(ListAnswer::Bad(message)),
-    }
-}
-
-fn answer_of(made: Result<Dictionary, Text>) -> Result<ListAnswer, NoMemory>
-    ensures { IfOk result (λ answer. answer ≡ changing.answer_of made) }
-{
-    match made {
-        Ok(pairs) => Ok(ListAnswer::Made(pairs.text()?)),
-        Err(message) => Ok(ListAnswer::Bad(message)),
-    }
-}
-
-fn after(
+// What a change does to the outermost dictionary; or its error.
+fn step_of(
     alloc: Global,
     change: &Change,
-    pairs: Dictionary,
-) -> Result<Result<Dictionary, Text>, NoMemory>
-    ensures { IfOk result (λ made. made ≡ changing.after change.now pairs) }
+    pairs: &Dictionary,
+) -> Result<Result<Step, Text>, NoMemory>
+    ensures step { IfOk result (λ step. IfOk step (λ step. changing.after change.now pairs.now ≡ Ok (stepped step pairs.now))) }
+    ensures bad { IfOk result (λ step. IfErr step (λ message. changing.after change.now pairs.now ≡ Err message)) }
 {
     match change {
-        Change::Set { path, value } => set(alloc, pairs, path.as_slice(), value),
-        Change::Unset { path } => edited_on(alloc, &Edit::Remove, pairs, path.as_slice()),
-        Change::Incr { key, by } => incr(alloc, pairs, key, *by),
-        Change::Append { key, pieces } => append(alloc, pairs, key, pieces.as_slice()),
-        Change::Lappend { key, items } => lappend(alloc, pairs, key, items.as_slice()),
+        Change::Set { path, value } => {
+            let edit = Edit::Put(value.copy()?);
+            step_on(alloc, &edit, pairs, path.as_slice())
+        }
+        Change::Unset { path } => step_on(alloc, &Edit::Remove, pairs, path.as_slice()),
+        Change::Incr { key, by } => {
+            let text = increased(alloc, value_or(pairs, key, b"0"), *by)?;
+            putting(key, text)
+        }
+        Change::Append { key, pieces } => {
+            let text = appended(alloc, value_or(pairs, key, b""), pieces.as_slice())?;
+            putting(key, Ok(text))
+        }
+        Change::Lappend { key, items } => {
+            let text = listed(alloc, value_or(pairs, key, b""), items.as_slice())?;
+            putting(key, text)
+        }
     }
-}
-
-fn set(
-    alloc: Global,
-    pairs: Dictionary,
-    path: &[Text],
-    value: &Text,
-) -> Result<Result<Dictionary, Text>, NoMemory>
-    ensures { IfOk result (λ made. made ≡ paths.edited_on (Edit.Put value.now) pairs path.now) }
-{
-    let edit = Edit::Put(value.copy()?);
-    edited_on(alloc, &edit, pairs, path)
-}
-
-fn incr(
-    alloc: Global,
-    pairs: Dictionary,
-    key: &Text,
-    by: i64,
-) -> Result<Result<Dictionary, Text>, NoMemory>
-    ensures { IfOk result (λ made.
-        made ≡ changing.putting pairs key.now (changing.increased (changing.value_or (codes "0") pairs key.now) by)) }
-{
-    let text = increased(alloc, value_or(&pairs, key, b"0"), by)?;
-    putting(pairs, key, text)
-}
-
-fn append(
-    alloc: Global,
-    pairs: Dictionary,
-    key: &Text,
-    pieces: &[Text],
-) -> Result<Result<Dictionary, Text>, NoMemory>
-    ensures { IfOk result (λ made.
-        made ≡ changing.putting pairs key.now
-        (Ok (changing.appended (changing.value_or [] pairs key.now) pieces.now))) }
-{
-    let text = appended(alloc, value_or(&pairs, key, b""), pieces)?;
-    putting(pairs, key, Ok(text))
-}
-
-fn lappend(
-    alloc: Global,
-    pairs: Dictionary,
-    key: &Text,
-    items: &[Text],
-) -> Result<Result<Dictionary, Text>, NoMemory>
-    ensures { IfOk result (λ made.
-        made ≡ changing.putting pairs key.now
-        (changing.listed (split_of (changing.value_or [] pairs key.now)) items.now)) }
-{
-    let text = listed(alloc, value_or(&pairs, key, b""), items)?;
-    putting(pairs, key, text)
 }
 
 // The value of a key, if a missing one counts as this text.
@@ -165,18 +100,15 @@ fn value_or<'a>(pairs: &'a Dictionary, key: &Text, missing: &'a [u8]) -> &'a [u8
     }
 }
 
-fn putting(
-    mut pairs: Dictionary,
-    key: &Text,
-    made: Result<Text, Text>,
-) -> Result<Result<Dictionary, Text>, NoMemory>
-    ensures { IfOk result (λ putting. putting ≡ changing.putting pairs key.now made) }
+// What was made is the key's value.
+fn putting(key: &Text, made: Result<Text, Text>) -> Result<Result<Step, Text>, NoMemory>
+    ensures step { (pairs : Pairs) → IfOk result (λ step. IfOk step (λ step.
+        changing.putting pairs key.now made ≡ Ok (stepped step pairs))) }
+    ensures bad { (pairs : Pairs) → IfOk result (λ step. IfErr step (λ message.
+        changing.putting pairs key.now made ≡ Err message)) }
 {
     match made {
-        Ok(text) => {
-            pairs.put(key.copy()?, text)?;
-            Ok(Ok(pairs))
-        }
+        Ok(text) => Ok(Ok(Step::Puts(key.copy()?, text))),
         Err(message) => Ok(Err(message)),
     }
 }
@@ -221,6 +153,6 @@ fn listed(alloc: Global, text: &[u8], more: &[Text]) -> Result<Result<Text, Text
 fn longer(alloc: Global, mut items: Texts, more: &[Text]) -> Result<Text, NoMemory>
     ensures { IfOk result (λ text. text ≡ list_of (items ++ more.now)) }
 {
-    push_copies(&mut items, more)?;
+    items.push_copies(more)?;
     join_list(alloc, items.as_slice())
 }

@@ -16,3 +16,14 @@ pub(crate) struct Level {
     pub(crate) pairs: Dictionary,
     pub(crate) key: Text,
 }
+
+/// What a change does to the outermost dictionary.
+#[derive(Debug, Drop)]
+pub(crate) enum Step {
+    /// It stays as it is.
+    Stays,
+    /// This key gets this value.
+    Puts(Text, Text),
+    /// This key is taken out.
+    Removes(Text),
+}

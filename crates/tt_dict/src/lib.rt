@@ -13,11 +13,8 @@ mod reading;
 mod row;
 mod subcommand;
 mod telling;
-#[cfg(test)]
-mod tests;
 mod variables;
 
 pub use call::DictCall;
 pub use changes::Change;
-pub use changing::{change, changed};
 pub use reading::read_dict;

@@ -1,12 +1,13 @@
 //! Values in dictionaries that are values of dictionaries, by keys inwards. A path may have many thousand keys, so it
 //! is gone by loops; a change takes the text of each dictionary on the way, so time in proportion to the path and to
 //! the whole text.
-ghost use Rattle.std.specs.Prelude.{◌≡◌, Ok, IfOk, OnOk};
+ghost use Rattle.std.specs.Prelude.{◌≡◌, ◌∷◌, Err, IfErr, IfOk, Ok, OnOk};
 ghost use Rattle.tt_dict.specs.Paths as paths;
 ghost use Rattle.tt_dict.specs.inside.Levels.{around};
-ghost use Rattle.tt_pairs.specs.Pairs.{text_of, value_of, with_pair};
+ghost use Rattle.tt_dict.specs.inside.Steps.{stepped};
+ghost use Rattle.tt_pairs.specs.Pairs.{Pairs, text_of, value_of, with_pair};
 
-use crate::edit::{Edit, Level};
+use crate::edit::{Edit, Level, Step};
 use crate::messages::missing;
 use std::alloc::Global;
 use std::mem;
@@ -14,8 +15,26 @@ use tt_pairs::{Dictionary, read};
 use tt_text::{NoMemory, Text};
 
 /// The value of the last key, in the dictionary that the keys before it name.
+pub(crate) fn value_on(
+    alloc: Global,
+    pairs: &Dictionary,
+    key: &Text,
+    keys: &[Text],
+) -> Result<Result<Text, Text>, NoMemory>
+    ensures { IfOk result (λ value. value ≡ paths.value_at pairs.now key.now keys.now) }
+{
+    let [next, keys @ ..] = keys else {
+        return found_in(alloc, pairs, key);
+    };
+    match inner_of(alloc, pairs, key)? {
+        Ok(inner) => value_at(alloc, inner, next, keys),
+        Err(message) => Ok(Err(message)),
+    }
+}
+
+// The same of a dictionary of its own.
 #[tactic(auto, using(crate::proofs::Inwards::value_more, crate::proofs::Inwards::value_stops, crate::proofs::Inwards::value_last))]
-pub(crate) fn value_at(
+fn value_at(
     alloc: Global,
     mut inner: Dictionary,
     key: &Text,
@@ -58,18 +77,54 @@ fn inner_of(
     }
 }
 
-/// The dictionary with its last key edited, in the dictionary that the keys before it name.
-pub(crate) fn edited_on(
+/// What an edit of the last key of a path does to the outermost dictionary; or why it can't be done.
+pub(crate) fn step_on(
     alloc: Global,
     edit: &Edit,
-    pairs: Dictionary,
+    pairs: &Dictionary,
     path: &[Text],
-) -> Result<Result<Dictionary, Text>, NoMemory>
-    ensures { IfOk result (λ made. made ≡ paths.edited_on edit.now pairs path.now) }
+) -> Result<Result<Step, Text>, NoMemory>
+    ensures step { IfOk result (λ made. IfOk made (λ step.
+        paths.edited_on edit.now pairs.now path.now ≡ Ok (stepped step pairs.now))) }
+    ensures bad { IfOk result (λ made. IfErr made (λ message.
+        paths.edited_on edit.now pairs.now path.now ≡ Err message)) }
 {
     match path {
-        [key, keys @ ..] => edited_at(alloc, edit, pairs, key, keys),
-        [] => Ok(Ok(pairs)),
+        [] => Ok(Ok(Step::Stays)),
+        [key] => Ok(Ok(last_step(edit, key)?)),
+        [key, next, keys @ ..] => step_inwards(alloc, edit, pairs, key, next, keys),
+    }
+}
+
+fn last_step(edit: &Edit, key: &Text) -> Result<Step, NoMemory>
+    ensures { (pairs : Pairs) → IfOk result (λ step. paths.edited edit.now pairs key.now ≡ stepped step pairs) }
+{
+    match edit {
+        Edit::Put(value) => Ok(Step::Puts(key.copy()?, value.copy()?)),
+        Edit::Remove => Ok(Step::Removes(key.copy()?)),
+    }
+}
+
+fn step_inwards(
+    alloc: Global,
+    edit: &Edit,
+    pairs: &Dictionary,
+    key: &Text,
+    next: &Text,
+    keys: &[Text],
+) -> Result<Result<Step, Text>, NoMemory>
+    ensures step { IfOk result (λ made. IfOk made (λ step.
+        paths.edited_at edit.now pairs.now key.now (next.now ∷ keys.now) ≡ Ok (stepped step pairs.now))) }
+    ensures bad { IfOk result (λ made. IfErr made (λ message.
+        paths.edited_at edit.now pairs.now key.now (next.now ∷ keys.now) ≡ Err message)) }
+{
+    let inner = match way_in(alloc, edit, pairs, key)? {
+        Ok(inner) => inner,
+        Err(message) => return Ok(Err(message)),
+    };
+    match edited_at(alloc, edit, inner, next, keys)? {
+        Ok(inner) => Ok(Ok(Step::Puts(key.copy()?, inner.text()?))),
+        Err(message) => Ok(Err(message)),
     }
 }
 

@@ -12,16 +12,20 @@ use std::alloc::Global;
 use tt_calls::Outcome;
 use tt_pairs::{Looping, read_loop};
 use tt_text::{NoMemory, Text};
+use tt_value::{Value, texts_of};
 
 /// What the words after `dict` come to (dict(n)).
 ///
 /// Errors come as `Done` with the code `Failed`, in this order: a subcommand that isn't known, a wrong number of words,
 /// and what the words say, from the left. `NoMemory` if memory is refused.
-pub fn read_dict(alloc: Global, words: &[Text]) -> Result<DictCall, NoMemory>
+pub fn read_dict(alloc: Global, words: &[Value]) -> Result<DictCall, NoMemory>
     ensures call { IfOk result (λ call. call ≡ table.call_of words.now) }
 {
     match words {
-        [word, words @ ..] => by_subcommand(alloc, subcommand_of(word.as_bytes()), word, words),
+        [word, words @ ..] => {
+            let word = word.to_text(alloc)?;
+            by_subcommand(alloc, subcommand_of(word.as_bytes()), &word, words)
+        }
         [] => {
             let outcome = Outcome::wrong_number(alloc, usage_of(Subcommand::Create))?;
             Ok(DictCall::Done(outcome))
@@ -33,7 +37,7 @@ fn by_subcommand(
     alloc: Global,
     subcommand: Option<Subcommand>,
     word: &Text,
-    words: &[Text],
+    words: &[Value],
 ) -> Result<DictCall, NoMemory>
     ensures { IfOk result (λ call. call ≡ table.by_subcommand subcommand word.now words.now) }
 {
@@ -50,7 +54,7 @@ fn meaning(
     alloc: Global,
     subcommand: Subcommand,
     usage: &[u8],
-    words: &[Text],
+    words: &[Value],
 ) -> Result<DictCall, NoMemory>
     ensures { IfOk result (λ call.
         call ≡ (table.row_of subcommand).meaning (failed (wrong_number usage.now)) words.now) }
@@ -65,22 +69,25 @@ fn meaning(
         Subcommand::Merge => merge(alloc, words)?,
         Subcommand::Remove => remove(alloc, usage, words)?,
         Subcommand::Replace => replace(alloc, usage, words)?,
-        Subcommand::Set => return set(alloc, usage, words),
-        Subcommand::Unset => return unset(alloc, usage, words),
-        Subcommand::Incr => return incr(alloc, usage, words),
-        Subcommand::Append => return append(alloc, usage, words),
-        Subcommand::Lappend => return lappend(alloc, usage, words),
+        Subcommand::Set => return set(alloc, usage, texts_of(alloc, words)?.as_slice()),
+        Subcommand::Unset => return unset(alloc, usage, texts_of(alloc, words)?.as_slice()),
+        Subcommand::Incr => return incr(alloc, usage, texts_of(alloc, words)?.as_slice()),
+        Subcommand::Append => return append(alloc, usage, texts_of(alloc, words)?.as_slice()),
+        Subcommand::Lappend => return lappend(alloc, usage, texts_of(alloc, words)?.as_slice()),
         Subcommand::For => return for_each(alloc, usage, words),
     };
     Ok(DictCall::Done(outcome))
 }
 
-fn for_each(alloc: Global, usage: &[u8], words: &[Text]) -> Result<DictCall, NoMemory>
+fn for_each(alloc: Global, usage: &[u8], words: &[Value]) -> Result<DictCall, NoMemory>
     ensures { IfOk result (λ call. call ≡ table.for_each (failed (wrong_number usage.now)) words.now) }
 {
     match words {
         [names, dictionary, body] => {
-            let found = read_loop(alloc, names.as_bytes(), dictionary.as_bytes(), body)?;
+            let names = names.to_text(alloc)?;
+            let dictionary = dictionary.to_text(alloc)?;
+            let body = body.to_text(alloc)?;
+            let found = read_loop(alloc, names.as_bytes(), dictionary.as_bytes(), &body)?;
             looped(found)
         }
         _ => {

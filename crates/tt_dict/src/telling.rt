@@ -11,58 +11,82 @@ ghost use Rattle.tt_pairs.specs.Pairs.{joined, text_of};
 ghost use Rattle.tt_pairs.specs.Reading.{reading_of};
 
 use crate::answers::{answered, like, truth, whole, whole_of};
-use crate::paths::value_at;
+use crate::paths::value_on;
 use std::alloc::Global;
 use tt_calls::Outcome;
 use tt_lists::count_text;
-use tt_pairs::{Dictionary, paired, read};
+use tt_pairs::{Dictionary, paired};
 use tt_text::{NoMemory, Text};
+use tt_value::{Value, texts_of};
 
 /// `dict create`.
-pub(crate) fn create(alloc: Global, usage: &[u8], words: &[Text]) -> Result<Outcome, NoMemory>
+pub(crate) fn create(alloc: Global, usage: &[u8], words: &[Value]) -> Result<Outcome, NoMemory>
     ensures { IfOk result (λ outcome. outcome ≡ telling.create (failed (wrong_number usage.now)) words.now) }
 {
-    match paired(alloc, words)? {
-        Some(pairs) => whole(alloc, &pairs),
+    let words = texts_of(alloc, words)?;
+    match paired(alloc, words.as_slice())? {
+        Some(pairs) => whole(alloc, pairs),
         None => Outcome::wrong_number(alloc, usage),
     }
 }
 
 /// `dict get`.
-pub(crate) fn get(alloc: Global, usage: &[u8], words: &[Text]) -> Result<Outcome, NoMemory>
+pub(crate) fn get(alloc: Global, usage: &[u8], words: &[Value]) -> Result<Outcome, NoMemory>
     ensures { IfOk result (λ outcome. outcome ≡ reads telling.get (failed (wrong_number usage.now)) words.now) }
 {
     match words {
-        [dictionary] => whole_of(alloc, read(alloc, dictionary.as_bytes())?),
-        [dictionary, key, keys @ ..] => get_at(alloc, dictionary, key, keys),
+        [dictionary] => canonical(alloc, dictionary),
+        [dictionary, key, keys @ ..] => {
+            let key = key.to_text(alloc)?;
+            let keys = texts_of(alloc, keys)?;
+            get_at(alloc, dictionary, &key, keys.as_slice())
+        }
         [] => Outcome::wrong_number(alloc, usage),
     }
 }
 
-fn get_at(alloc: Global, dictionary: &Text, key: &Text, keys: &[Text]) -> Result<Outcome, NoMemory>
+fn canonical(alloc: Global, dictionary: &Value) -> Result<Outcome, NoMemory>
+    ensures { IfOk result (λ outcome. outcome ≡ telling.text_answer text_of (reading_of dictionary.now)) }
+{
+    match dictionary.to_pairs(alloc)? {
+        Ok(pairs) => whole(alloc, pairs.dictionary().copy()?),
+        Err(message) => Outcome::failed(message),
+    }
+}
+
+fn get_at(
+    alloc: Global,
+    dictionary: &Value,
+    key: &Text,
+    keys: &[Text],
+) -> Result<Outcome, NoMemory>
     ensures { IfOk result (λ outcome.
         outcome ≡ telling.answered
         (paths.for_pairs (λ pairs. paths.value_at pairs key.now keys.now) (reading_of dictionary.now))) }
 {
-    match read(alloc, dictionary.as_bytes())? {
-        Ok(pairs) => answered(alloc, value_at(alloc, pairs, key, keys)?),
+    match dictionary.to_pairs(alloc)? {
+        Ok(pairs) => answered(alloc, value_on(alloc, pairs.dictionary(), key, keys)?),
         Err(message) => Outcome::failed(message),
     }
 }
 
 /// `dict exists`.
-pub(crate) fn exists(alloc: Global, usage: &[u8], words: &[Text]) -> Result<Outcome, NoMemory>
+pub(crate) fn exists(alloc: Global, usage: &[u8], words: &[Value]) -> Result<Outcome, NoMemory>
     ensures { IfOk result (λ outcome. outcome ≡ reads telling.exists (failed (wrong_number usage.now)) words.now) }
 {
     match words {
-        [dictionary, key, keys @ ..] => exists_at(alloc, dictionary, key, keys),
+        [dictionary, key, keys @ ..] => {
+            let key = key.to_text(alloc)?;
+            let keys = texts_of(alloc, keys)?;
+            exists_at(alloc, dictionary, &key, keys.as_slice())
+        }
         _ => Outcome::wrong_number(alloc, usage),
     }
 }
 
 fn exists_at(
     alloc: Global,
-    dictionary: &Text,
+    dictionary: &Value,
     key: &Text,
     keys: &[Text],
 ) -> Result<Outcome, NoMemory>
@@ -70,14 +94,14 @@ fn exists_at(
         outcome ≡ telling.text_answer (λ pairs. telling.truth (is_ok (paths.value_at pairs key.now keys.now)))
         (reading_of dictionary.now)) }
 {
-    match read(alloc, dictionary.as_bytes())? {
-        Ok(pairs) => truth(alloc, value_at(alloc, pairs, key, keys)?.is_ok()),
+    match dictionary.to_pairs(alloc)? {
+        Ok(pairs) => truth(alloc, value_on(alloc, pairs.dictionary(), key, keys)?.is_ok()),
         Err(message) => Outcome::failed(message),
     }
 }
 
 /// `dict size`.
-pub(crate) fn size(alloc: Global, usage: &[u8], words: &[Text]) -> Result<Outcome, NoMemory>
+pub(crate) fn size(alloc: Global, usage: &[u8], words: &[Value]) -> Result<Outcome, NoMemory>
     ensures { IfOk result (λ outcome. outcome ≡ reads telling.size (failed (wrong_number usage.now)) words.now) }
 {
     match words {
@@ -86,83 +110,100 @@ pub(crate) fn size(alloc: Global, usage: &[u8], words: &[Text]) -> Result<Outcom
     }
 }
 
-fn size_of(alloc: Global, dictionary: &Text) -> Result<Outcome, NoMemory>
+fn size_of(alloc: Global, dictionary: &Value) -> Result<Outcome, NoMemory>
     ensures { IfOk result (λ outcome.
         outcome ≡ telling.text_answer (λ pairs. decimal (length pairs)) (reading_of dictionary.now)) }
 {
-    match read(alloc, dictionary.as_bytes())? {
-        Ok(pairs) => Ok(Outcome::fine(alloc, count_text(alloc, pairs.len())?)),
+    match dictionary.to_pairs(alloc)? {
+        Ok(pairs) => {
+            let count = count_text(alloc, pairs.dictionary().len())?;
+            Ok(Outcome::fine(alloc, count))
+        }
         Err(message) => Outcome::failed(message),
     }
 }
 
 /// `dict keys`.
-pub(crate) fn keys(alloc: Global, usage: &[u8], words: &[Text]) -> Result<Outcome, NoMemory>
+pub(crate) fn keys(alloc: Global, usage: &[u8], words: &[Value]) -> Result<Outcome, NoMemory>
     ensures { IfOk result (λ outcome. outcome ≡ reads telling.keys (failed (wrong_number usage.now)) words.now) }
 {
     match words {
         [dictionary] => keys_like(alloc, dictionary, None),
-        [dictionary, pattern] => keys_like(alloc, dictionary, Some(pattern)),
+        [dictionary, pattern] => {
+            let pattern = pattern.to_text(alloc)?;
+            keys_like(alloc, dictionary, Some(&pattern))
+        }
         _ => Outcome::wrong_number(alloc, usage),
     }
 }
 
-fn keys_like(alloc: Global, dictionary: &Text, pattern: Option<&Text>) -> Result<Outcome, NoMemory>
+fn keys_like(
+    alloc: Global,
+    dictionary: &Value,
+    pattern: Option<&Text>,
+) -> Result<Outcome, NoMemory>
     ensures { IfOk result (λ outcome.
         outcome ≡ telling.text_answer (λ pairs. telling.like (option_copied pattern.entry) (keys_of pairs))
         (reading_of dictionary.now)) }
 {
-    match read(alloc, dictionary.as_bytes())? {
-        Ok(pairs) => like(alloc, pattern, pairs.keys()?.as_slice()),
+    match dictionary.to_pairs(alloc)? {
+        Ok(pairs) => like(alloc, pattern, pairs.dictionary().keys()?.as_slice()),
         Err(message) => Outcome::failed(message),
     }
 }
 
 /// `dict values`.
-pub(crate) fn values(alloc: Global, usage: &[u8], words: &[Text]) -> Result<Outcome, NoMemory>
+pub(crate) fn values(alloc: Global, usage: &[u8], words: &[Value]) -> Result<Outcome, NoMemory>
     ensures { IfOk result (λ outcome. outcome ≡ reads telling.values (failed (wrong_number usage.now)) words.now) }
 {
     match words {
         [dictionary] => values_like(alloc, dictionary, None),
-        [dictionary, pattern] => values_like(alloc, dictionary, Some(pattern)),
+        [dictionary, pattern] => {
+            let pattern = pattern.to_text(alloc)?;
+            values_like(alloc, dictionary, Some(&pattern))
+        }
         _ => Outcome::wrong_number(alloc, usage),
     }
 }
 
 fn values_like(
     alloc: Global,
-    dictionary: &Text,
+    dictionary: &Value,
     pattern: Option<&Text>,
 ) -> Result<Outcome, NoMemory>
     ensures { IfOk result (λ outcome.
         outcome ≡ telling.text_answer (λ pairs. telling.like (option_copied pattern.entry) (values_of pairs))
         (reading_of dictionary.now)) }
 {
-    match read(alloc, dictionary.as_bytes())? {
-        Ok(pairs) => like(alloc, pattern, pairs.values()?.as_slice()),
+    match dictionary.to_pairs(alloc)? {
+        Ok(pairs) => like(alloc, pattern, pairs.dictionary().values()?.as_slice()),
         Err(message) => Outcome::failed(message),
     }
 }
 
 /// `dict remove`.
-pub(crate) fn remove(alloc: Global, usage: &[u8], words: &[Text]) -> Result<Outcome, NoMemory>
+pub(crate) fn remove(alloc: Global, usage: &[u8], words: &[Value]) -> Result<Outcome, NoMemory>
     ensures { IfOk result (λ outcome. outcome ≡ reads telling.remove (failed (wrong_number usage.now)) words.now) }
 {
     match words {
-        [dictionary, keys @ ..] => remove_from(alloc, dictionary, keys),
+        [dictionary, keys @ ..] => {
+            let keys = texts_of(alloc, keys)?;
+            remove_from(alloc, dictionary, keys.as_slice())
+        }
         [] => Outcome::wrong_number(alloc, usage),
     }
 }
 
-fn remove_from(alloc: Global, dictionary: &Text, keys: &[Text]) -> Result<Outcome, NoMemory>
+fn remove_from(alloc: Global, dictionary: &Value, keys: &[Text]) -> Result<Outcome, NoMemory>
     ensures { IfOk result (λ outcome.
         outcome ≡ telling.text_answer (λ pairs.
         text_of (telling.without_keys pairs keys.now)) (reading_of dictionary.now)) }
 {
-    match read(alloc, dictionary.as_bytes())? {
-        Ok(mut pairs) => {
+    match dictionary.to_pairs(alloc)? {
+        Ok(pairs) => {
+            let mut pairs = pairs.dictionary().copy()?;
             remove_keys(&mut pairs, keys);
-            whole(alloc, &pairs)
+            whole(alloc, pairs)
         }
         Err(message) => Outcome::failed(message),
     }
@@ -177,7 +218,7 @@ fn remove_keys(pairs: &mut Dictionary, keys: &[Text])
 }
 
 /// `dict replace`.
-pub(crate) fn replace(alloc: Global, usage: &[u8], words: &[Text]) -> Result<Outcome, NoMemory>
+pub(crate) fn replace(alloc: Global, usage: &[u8], words: &[Value]) -> Result<Outcome, NoMemory>
     ensures { IfOk result (λ outcome. outcome ≡ reads telling.replace (failed (wrong_number usage.now)) words.now) }
 {
     match words {
@@ -189,33 +230,35 @@ pub(crate) fn replace(alloc: Global, usage: &[u8], words: &[Text]) -> Result<Out
 fn replace_in(
     alloc: Global,
     usage: &[u8],
-    dictionary: &Text,
-    words: &[Text],
+    dictionary: &Value,
+    words: &[Value],
 ) -> Result<Outcome, NoMemory>
     ensures { IfOk result (λ outcome.
         outcome ≡ telling.replace (failed (wrong_number usage.now)) (reading_of dictionary.now) words.now) }
 {
-    match paired(alloc, words)? {
+    let words = texts_of(alloc, words)?;
+    match paired(alloc, words.as_slice())? {
         Some(more) => join_to(alloc, dictionary, &more),
         None => Outcome::wrong_number(alloc, usage),
     }
 }
 
-fn join_to(alloc: Global, dictionary: &Text, more: &Dictionary) -> Result<Outcome, NoMemory>
+fn join_to(alloc: Global, dictionary: &Value, more: &Dictionary) -> Result<Outcome, NoMemory>
     ensures { IfOk result (λ outcome.
         outcome ≡ telling.text_answer (λ pairs. text_of (joined pairs more.now)) (reading_of dictionary.now)) }
 {
-    match read(alloc, dictionary.as_bytes())? {
-        Ok(mut pairs) => {
+    match dictionary.to_pairs(alloc)? {
+        Ok(pairs) => {
+            let mut pairs = pairs.dictionary().copy()?;
             pairs.join(more)?;
-            whole(alloc, &pairs)
+            whole(alloc, pairs)
         }
         Err(message) => Outcome::failed(message),
     }
 }
 
 /// `dict merge`.
-pub(crate) fn merge(alloc: Global, words: &[Text]) -> Result<Outcome, NoMemory>
+pub(crate) fn merge(alloc: Global, words: &[Value]) -> Result<Outcome, NoMemory>
     ensures { IfOk result (λ outcome.
         outcome ≡ telling.text_answer text_of (telling.merged [] (map reading_of words.now))) }
 {
@@ -224,14 +267,14 @@ pub(crate) fn merge(alloc: Global, words: &[Text]) -> Result<Outcome, NoMemory>
 }
 
 #[tactic(auto, using(crate::proofs::Merging::merge_more, crate::proofs::Merging::merge_stops, crate::proofs::Merging::merge_last))]
-fn merged(alloc: Global, words: &[Text]) -> Result<Result<Dictionary, Text>, NoMemory>
+fn merged(alloc: Global, words: &[Value]) -> Result<Result<Dictionary, Text>, NoMemory>
     ensures { IfOk result (λ all. all ≡ telling.merged [] (map reading_of words.now)) }
 {
     let mut all = Dictionary::new(alloc);
     let mut rest = words;
     while let Some((word, later)) = rest.split_first() {
-        match read(alloc, word.as_bytes())? {
-            Ok(more) => all.join(&more)?,
+        match word.to_pairs(alloc)? {
+            Ok(more) => all.join(more.dictionary())?,
             Err(message) => return Ok(Err(message)),
         }
         rest = later;

@@ -6,12 +6,11 @@ ghost use Rattle.tt_dict.specs.Variables as variables;
 ghost use Rattle.tt_dict.specs.declared.call.DictCall.TheVariants.{Done, Variable};
 ghost use Rattle.tt_number.specs.Numerals.{whole_of};
 
-use crate::answers::copies;
 use crate::{Change, DictCall};
 use std::alloc::Global;
 use tt_calls::Outcome;
 use tt_number::read_whole;
-use tt_text::{NoMemory, Text};
+use tt_text::{NoMemory, Text, Texts};
 
 fn wrong(alloc: Global, usage: &[u8]) -> Result<DictCall, NoMemory>
     ensures { IfOk result (λ call. call ≡ Done (failed (wrong_number usage.now))) }
@@ -39,7 +38,7 @@ pub(crate) fn set(alloc: Global, usage: &[u8], words: &[Text]) -> Result<DictCal
 fn set_last(alloc: Global, name: &Text, words: &[Text]) -> Result<DictCall, NoMemory>
     ensures { IfOk result (λ call. call ≡ variables.set_last name.now words.now) }
 {
-    let path = copies(alloc, &words[..words.len().saturating_sub(1)])?;
+    let path = Texts::from_copies(alloc, &words[..words.len().saturating_sub(1)])?;
     let value = last_of(alloc, words)?;
     variable(name, Change::Set { path, value })
 }
@@ -66,7 +65,7 @@ pub(crate) fn unset(alloc: Global, usage: &[u8], words: &[Text]) -> Result<DictC
 fn unset_at(alloc: Global, name: &Text, keys: &[Text]) -> Result<DictCall, NoMemory>
     ensures { IfOk result (λ call. call ≡ Variable name.now (Change.Unset keys.now)) }
 {
-    let path = copies(alloc, keys)?;
+    let path = Texts::from_copies(alloc, keys)?;
     variable(name, Change::Unset { path })
 }
 
@@ -114,7 +113,7 @@ fn append_to(alloc: Global, name: &Text, key: &Text, pieces: &[Text]) -> Result<
     ensures { IfOk result (λ call. call ≡ Variable name.now (Change.Append key.now pieces.now)) }
 {
     let key = key.copy()?;
-    let pieces = copies(alloc, pieces)?;
+    let pieces = Texts::from_copies(alloc, pieces)?;
     variable(name, Change::Append { key, pieces })
 }
 
@@ -132,6 +131,6 @@ fn lappend_to(alloc: Global, name: &Text, key: &Text, items: &[Text]) -> Result<
     ensures { IfOk result (λ call. call ≡ Variable name.now (Change.Lappend key.now items.now)) }
 {
     let key = key.copy()?;
-    let items = copies(alloc, items)?;
+    let items = Texts::from_copies(alloc, items)?;
     variable(name, Change::Lappend { key, items })
 }

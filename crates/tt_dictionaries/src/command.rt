@@ -2,27 +2,35 @@
 ghost use Rattle.std.specs.Prelude.{◌≡◌, IfOk};
 ghost use Rattle.tt_dictionaries.specs.Commands as table;
 
-use crate::variable::change_variable;
 use std::alloc::Global;
 use tt_dict::{DictCall, read_dict};
 use tt_script::plain_name;
 use tt_store::{Answer, Store};
 use tt_text::{NoMemory, Text};
+use tt_value::Value;
 
 /// Runs a whole command, its name first: dict(n), and it has ended; `Other` if it has another name, or is `dict for`,
 /// and then nothing has changed.
 ///
 /// `NoMemory` if memory is refused.
-pub fn run(alloc: Global, store: &mut Store, words: &[Text]) -> Result<Answer, NoMemory>
+pub fn run(alloc: Global, store: &mut Store, words: &[Value]) -> Result<Answer, NoMemory>
     ensures runs { IfOk result (λ answer. table.Runs words.now store.old answer store.new) }
 {
     match words {
-        [word, words @ ..] => run_if(alloc, store, is_dict(word) && !loops(words), words),
+        [word, words @ ..] => {
+            let word = word.to_text(alloc)?;
+            run_if(alloc, store, is_dict(&word) && !loops(alloc, words)?, words)
+        }
         [] => Ok(Answer::Other),
     }
 }
 
-fn run_if(alloc: Global, store: &mut Store, named: bool, words: &[Text]) -> Result<Answer, NoMemory>
+fn run_if(
+    alloc: Global,
+    store: &mut Store,
+    named: bool,
+    words: &[Value],
+) -> Result<Answer, NoMemory>
     ensures { IfOk result (λ answer. table.RunsIf named words.now store.old answer store.new) }
 {
     if !named {
@@ -39,7 +47,7 @@ fn run_call(alloc: Global, store: &mut Store, call: DictCall) -> Result<Answer, 
     match call {
         DictCall::Done(outcome) => Ok(Answer::Outcome(outcome)),
         DictCall::Variable { name, change } => {
-            let outcome = change_variable(alloc, store, &name, &change)?;
+            let outcome = store.change(&name, b"", &change)?;
             Ok(Answer::Outcome(outcome))
         }
         DictCall::Loop(_) => Ok(Answer::Other),
@@ -52,11 +60,11 @@ fn is_dict(word: &Text) -> bool
     plain_name(word.as_bytes()) == b"dict".as_slice()
 }
 
-fn loops(words: &[Text]) -> bool
-    ensures { result ≡ table.loops words.now }
+fn loops(alloc: Global, words: &[Value]) -> Result<bool, NoMemory>
+    ensures { IfOk result (λ loops. loops ≡ table.loops words.now) }
 {
     match words {
-        [word, ..] => word.as_bytes() == b"for".as_slice(),
-        [] => false,
+        [word, ..] => Ok(word.to_text(alloc)?.as_bytes() == b"for".as_slice()),
+        [] => Ok(false),
     }
 }

@@ -2,7 +2,5 @@
 #![tactic(auto)]
 
 mod command;
-mod messages;
-mod variable;
 
 pub use command::run;

@@ -20,17 +20,19 @@ use std::alloc::Global;
 use tt_calls::{Boxed, ChanCall, LockCall, Outcome, Reply, Request, TsvCall};
 use tt_commands::{Call, Here, Then, read_call};
 use tt_outcomes::{Ending, Got, Want, code_number};
-use tt_text::{NoMemory, Text, Texts, char_count};
+use tt_text::{NoMemory, Text, char_count};
+use tt_value::{Value, Values};
 
 /// A command begins that asks, or whose name is unknown.
-pub(crate) fn begin_call(alloc: Global, words: &Texts, me: u32) -> Result<Next, NoMemory>
+pub(crate) fn begin_call(alloc: Global, words: &Values, me: u32) -> Result<Next, NoMemory>
     ensures { IfOk result (λ move. (state : Counts)
         → table.called (call_of words.now me) words.now state ≡ plan_of after on_got move state) }
 {
+    let words = words.to_texts(alloc)?;
     match read_call(alloc, words.as_slice(), me)? {
         Call::Other => Ok(Next::Done(unknown(alloc, words.as_slice())?)),
         Call::Bad(message) => Ok(Next::Done(Ending::failed(alloc, message)?)),
-        Call::Here(Here::Local(value)) => Ok(Next::Done(Ending::Fine(value))),
+        Call::Here(Here::Local(text)) => Ok(Next::Done(Ending::Fine(Value::from_text(text)))),
         Call::Here(Here::Direct(script, variable)) => Ok(Next::Call(
             None,
             Job::Global(script),
@@ -288,8 +290,8 @@ pub(crate) fn answer(alloc: Global, reply: Reply) -> Result<Ending, NoMemory>
             let ending = Ending::failed(alloc, message)?;
             Ok(ending)
         }
-        Reply::Value(value) | Reply::Line(value) => Ok(Ending::Fine(value)),
-        Reply::Lists(removed, _left) => Ok(Ending::Fine(removed)),
+        Reply::Value(text) | Reply::Line(text) => Ok(Ending::Fine(Value::from_text(text))),
+        Reply::Lists(removed, _left) => Ok(Ending::Fine(Value::from_text(removed))),
         Reply::Answer(outcome) => {
             let ending = Ending::of_outcome(alloc, outcome)?;
             Ok(ending)
@@ -314,13 +316,19 @@ fn keep(alloc: Global, name: Text, reply: Reply) -> Result<Next, NoMemory>
         }
         Reply::LineEnd => (Text::new(alloc), Text::from_bytes(alloc, b"-1")?),
         Reply::Found(true, value) => (value, Text::from_bytes(alloc, b"1")?),
-        Reply::Found(false, _) => return Ok(Next::Done(Ending::Fine(Text::from_bytes(
-            alloc, b"0",
-        )?))),
+        Reply::Found(false, _) => {
+            let answer = Value::from_text(Text::from_bytes(alloc, b"0")?);
+            return Ok(Next::Done(Ending::Fine(answer)));
+        }
         Reply::Lists(removed, left) => (left, removed),
         reply => return Ok(Next::Done(self::answer(alloc, reply)?)),
     };
-    let next = store(alloc, Some(name), value, answer)?;
+    let next = store(
+        alloc,
+        Some(name),
+        Value::from_text(value),
+        Value::from_text(answer),
+    )?;
     Ok(next)
 }
 
@@ -342,7 +350,7 @@ fn keep_outcome(alloc: Global, variable: Option<Text>, reply: Reply) -> Result<N
         (Some(name), Reply::Answer(outcome)) => {
             let Outcome { code, value, .. } = outcome;
             let number = Text::from_bytes(alloc, code_number(code))?;
-            let next = store(alloc, Some(name), value, number)?;
+            let next = store(alloc, Some(name), value, Value::from_text(number))?;
             Ok(next)
         }
         (_, reply) => Ok(Next::Done(answer(alloc, reply)?)),
@@ -357,7 +365,7 @@ fn unless_refused(alloc: Global, value: Text, reply: Reply) -> Result<Ending, No
             let ending = Ending::failed(alloc, message)?;
             Ok(ending)
         }
-        _ => Ok(Ending::Fine(value)),
+        _ => Ok(Ending::Fine(Value::from_text(value))),
     }
 }
 
@@ -374,7 +382,12 @@ pub(crate) fn after_sent(
         None => Ok(Next::Done(ending)),
         Some(name) => {
             let number = Text::from_bytes(alloc, code_number(ending.code()))?;
-            let next = store(alloc, Some(name), ending.into_text(), number)?;
+            let next = store(
+                alloc,
+                Some(name),
+                ending.into_value(),
+                Value::from_text(number),
+            )?;
             Ok(next)
         }
     }

@@ -25,14 +25,15 @@ use tt_calls::{Boxed, Request};
 use tt_code::{Halt, Running};
 use tt_outcomes::{Ending, Got, Want};
 use tt_script::ParseFault;
-use tt_text::{NoMemory, Text, Texts};
+use tt_text::{NoMemory, Text};
+use tt_value::{Value, Values};
 
 /// A script begins.
 pub(crate) fn begin_script(alloc: Global, text: Text, state: &mut State) -> Result<Next, NoMemory>
     ensures { IfOk result (λ move. script text state.old ≡ plan_of after on_got move state.new) }
 {
     let program = state.kept.script(text)?;
-    let next = next_command(alloc, program, 0, Text::new(alloc), state)?;
+    let next = next_command(alloc, program, 0, Value::new(alloc), state)?;
     Ok(next)
 }
 
@@ -41,7 +42,7 @@ fn next_command(
     alloc: Global,
     program: Arc<Program>,
     at: usize,
-    last: Text,
+    last: Value,
     state: &mut State,
 ) -> Result<Next, NoMemory>
     ensures { IfOk result (λ move.
@@ -116,12 +117,12 @@ pub(crate) fn advance_command(alloc: Global, frame: CommandFrame) -> Result<Next
             Ok(next)
         }
         Halt::Value(word) => {
-            let mut words = Texts::new(alloc);
+            let mut words = Values::new(alloc);
             words.push(word)?;
             Ok(Next::Ask(Want::RunWords { words }, Asking::Runs(frame)))
         }
         Halt::Values(words) => {
-            let words = Texts::from(words);
+            let words = Values::from(words);
             Ok(Next::Ask(Want::RunWords { words }, Asking::Runs(frame)))
         }
     }

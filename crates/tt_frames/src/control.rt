@@ -18,12 +18,13 @@ use std::alloc::Global;
 use tt_calls::Code;
 use tt_control::{Control, read_control};
 use tt_outcomes::{Ending, Failure, code_number};
-use tt_text::{NoMemory, Text, Texts};
+use tt_text::{NoMemory, Text};
 use tt_trace::Trace;
+use tt_value::{Value, Values};
 
 /// A command begins whose name is no procedure's and no command's of the host.
 #[tactic(auto, using(crate::proofs::Others::asked))]
-pub(crate) fn begin_own(alloc: Global, words: Texts, state: &mut State) -> Result<Next, NoMemory>
+pub(crate) fn begin_own(alloc: Global, words: Values, state: &mut State) -> Result<Next, NoMemory>
     ensures { IfOk result (λ move. own words state.old ≡ plan_of after on_got move state.new) }
 {
     let control = read_control(alloc, words.as_slice())?;
@@ -135,7 +136,7 @@ pub(crate) fn after_clause(
 {
     match ending {
         Ending::Fine(value) => {
-            if value.as_bytes() == b"1".as_slice() {
+            if value.into_text(alloc)?.as_bytes() == b"1".as_slice() {
                 Ok(Next::Goto(Job::Script(body)))
             } else {
                 let next = begin_clauses(alloc, left)?;
@@ -163,7 +164,7 @@ pub(crate) fn after_caught(
         }
         ending => {
             let number = Text::from_bytes(alloc, code_number(ending.code()))?;
-            let next = store(alloc, variable, ending.into_text(), number)?;
+            let next = store(alloc, variable, ending.into_value(), Value::from_text(number))?;
             Ok(next)
         }
     }
@@ -179,6 +180,7 @@ pub(crate) fn store_caught(
         → variable_result variable message (codes "1") state ≡ plan_of after on_got move state) }
 {
     let number = Text::from_bytes(alloc, code_number(Code::Failed))?;
-    let next = store(alloc, variable, message, number)?;
+    let message = Value::from_text(message);
+    let next = store(alloc, variable, message, Value::from_text(number))?;
     Ok(next)
 }

@@ -56,7 +56,7 @@ pub(crate) fn begin_round(alloc: Global, goal: Until, state: &mut State) -> Resu
 pub(crate) fn after_seen(alloc: Global, ending: Ending, state: &mut State) -> Result<Next, NoMemory>
     ensures { IfOk result (λ move. events.seen ending state.old ≡ plan_of after on_got move state.new) }
 {
-    if ending.into_text().as_bytes() == b"1".as_slice() {
+    if ending.into_value().into_text(alloc)?.as_bytes() == b"1".as_slice() {
         Ok(end(Until::Written, Ending::nothing(alloc)))
     } else {
         let next = go_on(alloc, Until::Written, state)?;

@@ -9,6 +9,7 @@ ghost use Rattle.tt_frames.specs.declared.job.Frame.TheVariants as frames;
 ghost use Rattle.tt_frames.specs.declared.state.Counts.{Counts};
 ghost use Rattle.tt_evaluation.specs.Frames.{plan_of};
 ghost use Rattle.tt_evaluation.specs.declared.language.Move.TheVariants as moves;
+ghost use Rattle.tt_outcomes.specs.declared.ending.Ending.TheVariants as endings;
 ghost use Rattle.tt_outcomes.specs.declared.want.Want.TheVariants as wants;
 
 use crate::job::{Asking, Frame, Job, Purpose};
@@ -20,6 +21,7 @@ use tt_code::{Halt, Running};
 use tt_exprs::truth;
 use tt_outcomes::{Ending, Want};
 use tt_text::{NoMemory, Text};
+use tt_value::Value;
 
 /// An expression begins.
 pub(crate) fn begin_expression(
@@ -72,23 +74,23 @@ fn advance(alloc: Global, purpose: Purpose, running: Running) -> Result<Next, No
     }
 }
 
-fn first_of(alloc: Global, values: Vec<Text>) -> Text
+fn first_of(alloc: Global, values: Vec<Value>) -> Value
     ensures { result ≡ first_of values.items }
 {
     match values.into_iter().next() {
         Some(value) => value,
-        None => Text::new(alloc),
+        None => Value::new(alloc),
     }
 }
 
 // What an expression with this value comes to.
-fn ending_for(alloc: Global, purpose: Purpose, value: Text) -> Result<Ending, NoMemory>
+fn ending_for(alloc: Global, purpose: Purpose, value: Value) -> Result<Ending, NoMemory>
     ensures { IfOk result (λ ending. ending ≡ ending_for purpose value) }
 {
     match purpose {
         Purpose::Value => Ok(Ending::Fine(value)),
         Purpose::Condition => {
-            let ending = truth_of(alloc, &value)?;
+            let ending = truth_of(alloc, &value.into_text(alloc)?)?;
             Ok(ending)
         }
     }
@@ -98,13 +100,20 @@ fn truth_of(alloc: Global, value: &Text) -> Result<Ending, NoMemory>
     ensures { IfOk result (λ ending. ending ≡ truth_ending (truth_of value.now)) }
 {
     match truth(alloc, value.as_bytes())? {
-        Ok(true) => Ok(Ending::Fine(Text::from_bytes(alloc, b"1")?)),
-        Ok(false) => Ok(Ending::Fine(Text::from_bytes(alloc, b"0")?)),
+        Ok(true) => fine(alloc, b"1"),
+        Ok(false) => fine(alloc, b"0"),
         Err(message) => {
             let ending = Ending::failed(alloc, message)?;
             Ok(ending)
         }
     }
+}
+
+fn fine(alloc: Global, text: &[u8]) -> Result<Ending, NoMemory>
+    ensures { IfOk result (λ ending. ending ≡ endings.Fine text.now) }
+{
+    let text = Text::from_bytes(alloc, text)?;
+    Ok(Ending::Fine(Value::from_text(text)))
 }
 
 fn reads(name: Text, index: Option<Text>, purpose: Purpose, running: Running) -> Next

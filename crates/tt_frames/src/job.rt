@@ -7,6 +7,7 @@ use tt_calls::{Boxed, Event, Start};
 use tt_code::Running;
 use tt_outcomes::{Body, Ending, Failure};
 use tt_text::{Text, Texts};
+use tt_value::{Value, Values};
 
 /// A loop, from its next turn on.
 #[derive(Debug, Drop)]
@@ -100,7 +101,7 @@ pub enum Job {
     /// An expression.
     Expression(Purpose, Text),
     /// A command whose name is no procedure's and no command's of the host.
-    Own(Texts),
+    Own(Values),
     /// A body in a nested evaluation.
     Nested(Body, Text),
     /// A script at global level.
@@ -176,7 +177,7 @@ pub enum Frame {
     /// A send to oneself, and the variable for its result (thread(n), thread::send).
     Sends(Option<Text>),
     /// A variable that was set, after which this is the result.
-    Stores(Text),
+    Stores(Value),
     /// The script that a thread begins with.
     Reports,
     /// An event that is served, before the next one.

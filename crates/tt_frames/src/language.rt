@@ -25,7 +25,8 @@ use crate::workers::{after_worker, begin_work, take_got};
 use std::alloc::Global;
 use tt_evaluation::{Language, Move};
 use tt_outcomes::{Ending, Got, Want};
-use tt_text::{NoMemory, Text};
+use tt_text::NoMemory;
+use tt_value::Value;
 
 /// What is done next.
 pub(crate) type Next = Move<Job, Want, Ending, Frame, Asking>;
@@ -175,7 +176,7 @@ fn continued(
 }
 
 // A variable was set.
-fn answered(answer: Text, ending: Ending) -> Next
+fn answered(answer: Value, ending: Ending) -> Next
     ensures { (state : Counts)
         → on_fine (λ old. passed (endings.Fine answer)) passed ending state ≡ plan_of after on_got result state }
 {

@@ -17,6 +17,7 @@ use std::alloc::Global;
 use tt_calls::{Boxed, Request};
 use tt_outcomes::{Ending, Want};
 use tt_text::{NoMemory, Text};
+use tt_value::Value;
 
 /// The next turn of a loop begins, if there is one.
 pub(crate) fn begin_loop(alloc: Global, next: Loop, state: &mut State) -> Result<Next, NoMemory>
@@ -98,7 +99,7 @@ fn assign(
         })?;
         return Ok(next);
     };
-    let want = setting(alloc, name, value)?;
+    let want = setting(alloc, name, Value::from_text(value))?;
     let turn = Loop::Foreach {
         names,
         values,
@@ -152,7 +153,7 @@ pub(crate) fn after_test(alloc: Global, turn: Loop, ending: Ending) -> Result<Ne
 {
     match ending {
         Ending::Fine(value) => {
-            if value.as_bytes() == b"1".as_slice() {
+            if value.into_text(alloc)?.as_bytes() == b"1".as_slice() {
                 let next = begin_body(turn)?;
                 Ok(next)
             } else {

@@ -13,6 +13,7 @@ use std::alloc::Global;
 use tt_calls::{Boxed, Event, Reply, Request};
 use tt_outcomes::{Body, Ending, Failure, Got, Want};
 use tt_text::{NoMemory, Text};
+use tt_value::Value;
 
 /// An event is served.
 pub(crate) fn begin_event(alloc: Global, event: Event, state: &mut State) -> Next
@@ -152,7 +153,7 @@ fn says_stop(got: &Got) -> bool
 pub(crate) fn set_global(alloc: Global, name: Text, value: Text) -> Result<Next, NoMemory>
     ensures { IfOk result (λ move. (state : Counts) → events.sets name value state ≡ plan_of after on_got move state) }
 {
-    let want = setting(alloc, name, value)?;
+    let want = setting(alloc, name, Value::from_text(value))?;
     Ok(Next::Ask(want, Asking::Wanted(Frame::Sets)))
 }
 

@@ -12,9 +12,10 @@ use std::alloc::Global;
 use tt_outcomes::{Ending, Want};
 use tt_script::split_name;
 use tt_text::{NoMemory, Text};
+use tt_value::Value;
 
 /// What sets a variable or an element, by a name as commands are given it (set(n)).
-pub(crate) fn setting(alloc: Global, name: Text, value: Text) -> Result<Want, NoMemory>
+pub(crate) fn setting(alloc: Global, name: Text, value: Value) -> Result<Want, NoMemory>
     ensures { IfOk result (λ want. want ≡ setting name value) }
 {
     match split_name(name.as_bytes()) {
@@ -35,8 +36,8 @@ pub(crate) fn setting(alloc: Global, name: Text, value: Text) -> Result<Want, No
 pub(crate) fn store(
     alloc: Global,
     variable: Option<Text>,
-    value: Text,
-    answer: Text,
+    value: Value,
+    answer: Value,
 ) -> Result<Next, NoMemory>
     ensures { IfOk result (λ move. (state : Counts)
         → variable_result variable value answer state ≡ plan_of after on_got move state) }
@@ -57,6 +58,6 @@ pub(crate) fn telling(alloc: Global, trace: Text) -> Result<Want, NoMemory>
     Ok(Want::WriteVar {
         name: Text::from_bytes(alloc, b"::errorInfo")?,
         index: None,
-        value: trace,
+        value: Value::from_text(trace),
     })
 }

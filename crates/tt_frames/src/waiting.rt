@@ -1,5 +1,5 @@
 //! The wait for jobs of a pool.
-ghost use Rattle.std.specs.Prelude.{◌≡◌, ◌++◌, IfOk, OnOk};
+ghost use Rattle.std.specs.Prelude.{◌≡◌, IfOk};
 ghost use Rattle.tt_calls.specs.declared.request.Request.TheVariants as asks;
 ghost use Rattle.tt_frames.specs.Asking.{waiting};
 ghost use Rattle.tt_frames.specs.Frames.{after, on_got};
@@ -14,6 +14,7 @@ use crate::storing::store;
 use std::alloc::Global;
 use tt_calls::{Boxed, PoolCall, Reply, Request};
 use tt_text::{NoMemory, Text, Texts};
+use tt_value::Value;
 
 /// A command begins that waits for the jobs that it asks for.
 pub(crate) fn begin_waiting(
@@ -66,26 +67,9 @@ pub(crate) fn look_of(alloc: Global, wait: &JobsWait) -> Result<Request, NoMemor
 {
     let look = PoolCall::Look {
         pool: wait.pool.copy()?,
-        jobs: copied(alloc, &wait.jobs)?,
+        jobs: Texts::from_copies(alloc, wait.jobs.as_slice())?,
     };
     Ok(Request::Pool(Boxed::new(alloc, look)?))
-}
-
-fn copied(alloc: Global, texts: &Texts) -> Result<Texts, NoMemory>
-    ensures { IfOk result (λ copy. copy ≡ texts.now) }
-{
-    let mut copy = Texts::new(alloc);
-    push_copies(&mut copy, texts.as_slice())?;
-    Ok(copy)
-}
-
-fn push_copies(all: &mut Texts, texts: &[Text]) -> Result<(), NoMemory>
-    ensures { OnOk result (all.new ≡ all.old ++ texts.now) }
-{
-    for text in texts {
-        all.push(text.copy()?)?;
-    }
-    Ok(())
 }
 
 /// Which jobs are done is known.
@@ -94,7 +78,8 @@ pub(crate) fn end_waiting(alloc: Global, wait: JobsWait, reply: Reply) -> Result
 {
     match reply {
         Reply::Lists(done, pending) => {
-            let next = store(alloc, wait.variable, pending, done)?;
+            let pending = Value::from_text(pending);
+            let next = store(alloc, wait.variable, pending, Value::from_text(done))?;
             Ok(next)
         }
         reply => Ok(Next::Done(answer(alloc, reply)?)),

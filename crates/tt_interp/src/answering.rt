@@ -11,7 +11,8 @@ use std::alloc::Global;
 use tt_calls::Outcome;
 use tt_outcomes::{Got, Want};
 use tt_store::Answer;
-use tt_text::{NoMemory, Text, Texts};
+use tt_text::{NoMemory, Text};
+use tt_value::{Value, Values};
 
 impl Kept {
     /// What is got for this; to a request there is no answer here.
@@ -49,7 +50,7 @@ impl Kept {
         Ok(Got::Value(outcome))
     }
 
-    fn write(&mut self, name: &Text, index: Option<&Text>, value: Text) -> Result<Got, NoMemory>
+    fn write(&mut self, name: &Text, index: Option<&Text>, value: Value) -> Result<Got, NoMemory>
         ensures { IfOk result (λ got.
             answering.Answers (wants.WriteVar name.now (option_copied index.entry) value) self.old got self.new) }
     {
@@ -59,7 +60,7 @@ impl Kept {
         }
     }
 
-    fn write_at(&mut self, name: &Text, index: Option<&[u8]>, value: Text) -> Result<Got, NoMemory>
+    fn write_at(&mut self, name: &Text, index: Option<&[u8]>, value: Value) -> Result<Got, NoMemory>
         ensures { IfOk result (λ got.
             answering.Answers (wants.WriteVar name.now (option_copied index.entry) value) self.old got self.new) }
     {
@@ -67,7 +68,7 @@ impl Kept {
         Ok(Got::Value(outcome))
     }
 
-    fn run_words(&mut self, alloc: Global, words: Texts) -> Result<Got, NoMemory>
+    fn run_words(&mut self, alloc: Global, words: Values) -> Result<Got, NoMemory>
         ensures { IfOk result (λ got. answering.Answers (wants.RunWords words) self.old got self.new) }
     {
         match self.run(alloc, words.as_slice())? {

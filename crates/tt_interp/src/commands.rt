@@ -12,6 +12,7 @@ use tt_procedures::Called;
 use tt_script::plain_name;
 use tt_store::{Answer, Store};
 use tt_text::{NoMemory, Text};
+use tt_value::{Value, texts_of};
 
 /// Which of the commands on procedures words ask for.
 #[derive(Clone, Copy, Debug, PartialEq, Eq)]
@@ -26,7 +27,7 @@ pub enum Own {
 
 impl Kept {
     /// What a whole command comes to, its name first.
-    pub(crate) fn run(&mut self, alloc: Global, words: &[Text]) -> Result<Answer, NoMemory>
+    pub(crate) fn run(&mut self, alloc: Global, words: &[Value]) -> Result<Answer, NoMemory>
         ensures { IfOk result (λ answer. commands.Runs words.now self.old answer self.new) }
     {
         match self.procedures.call(words)? {
@@ -35,7 +36,7 @@ impl Kept {
         }
     }
 
-    fn call(&mut self, alloc: Global, words: &[Text], called: Called) -> Result<Answer, NoMemory>
+    fn call(&mut self, alloc: Global, words: &[Value], called: Called) -> Result<Answer, NoMemory>
         ensures { IfOk result (λ answer. commands.CallsBody called words.now self.old answer self.new) }
     {
         match called {
@@ -51,19 +52,25 @@ impl Kept {
         }
     }
 
-    fn run_own(&mut self, alloc: Global, words: &[Text]) -> Result<Answer, NoMemory>
+    fn run_own(&mut self, alloc: Global, words: &[Value]) -> Result<Answer, NoMemory>
         ensures { IfOk result (λ answer.
             commands.RunsOwn (commands.own_of words.now) words.now self.old answer self.new) }
     {
-        match own_of(words) {
-            Own::Define => Ok(Answer::Outcome(self.procedures.define(after(words, 1))?)),
-            Own::Names => Ok(Answer::Outcome(self.procedures.names(after(words, 2))?)),
+        match own_of(alloc, words)? {
+            Own::Define => {
+                let words = texts_of(alloc, after(words, 1))?;
+                Ok(Answer::Outcome(self.procedures.define(words.as_slice())?))
+            }
+            Own::Names => {
+                let words = texts_of(alloc, after(words, 2))?;
+                Ok(Answer::Outcome(self.procedures.names(words.as_slice())?))
+            }
             Own::Other => on_variables(alloc, &mut self.store, words),
         }
     }
 }
 
-fn on_variables(alloc: Global, store: &mut Store, words: &[Text]) -> Result<Answer, NoMemory>
+fn on_variables(alloc: Global, store: &mut Store, words: &[Value]) -> Result<Answer, NoMemory>
     ensures { IfOk result (λ answer. commands.OnVariables words.now store.old answer store.new) }
 {
     match store.run(words)? {
@@ -73,7 +80,7 @@ fn on_variables(alloc: Global, store: &mut Store, words: &[Text]) -> Result<Answ
     }
 }
 
-fn on_levels(alloc: Global, store: &mut Store, words: &[Text]) -> Result<Answer, NoMemory>
+fn on_levels(alloc: Global, store: &mut Store, words: &[Value]) -> Result<Answer, NoMemory>
     ensures { IfOk result (λ answer.
         commands.Either levels.Runs (commands.Either arrays.Runs dictionaries.Runs) words.now store.old answer
         store.new) }
@@ -85,7 +92,7 @@ fn on_levels(alloc: Global, store: &mut Store, words: &[Text]) -> Result<Answer,
     }
 }
 
-fn on_arrays(alloc: Global, store: &mut Store, words: &[Text]) -> Result<Answer, NoMemory>
+fn on_arrays(alloc: Global, store: &mut Store, words: &[Value]) -> Result<Answer, NoMemory>
     ensures { IfOk result (λ answer.
         commands.Either arrays.Runs dictionaries.Runs words.now store.old answer store.new) }
 {
@@ -96,46 +103,46 @@ fn on_arrays(alloc: Global, store: &mut Store, words: &[Text]) -> Result<Answer,
     }
 }
 
-fn own_of(words: &[Text]) -> Own
-    ensures { result ≡ commands.own_of words.now }
+fn own_of(alloc: Global, words: &[Value]) -> Result<Own, NoMemory>
+    ensures { IfOk result (λ own. own ≡ commands.own_of words.now) }
 {
-    if names_command(b"proc", words) {
-        Own::Define
-    } else if names_command(b"info", words) && has_next(b"procs", words) {
-        Own::Names
+    if names_command(alloc, b"proc", words)? {
+        Ok(Own::Define)
+    } else if names_command(alloc, b"info", words)? && has_next(alloc, b"procs", words)? {
+        Ok(Own::Names)
     } else {
-        Own::Other
+        Ok(Own::Other)
     }
 }
 
-fn names_command(name: &[u8], words: &[Text]) -> bool
-    ensures { result ≡ commands.names_command name.now words.now }
+fn names_command(alloc: Global, name: &[u8], words: &[Value]) -> Result<bool, NoMemory>
+    ensures { IfOk result (λ named. named ≡ commands.names_command name.now words.now) }
 {
     match words {
-        [word, ..] => plain_name(word.as_bytes()) == name,
-        [] => false,
+        [word, ..] => Ok(plain_name(word.to_text(alloc)?.as_bytes()) == name),
+        [] => Ok(false),
     }
 }
 
-fn has_next(next: &[u8], words: &[Text]) -> bool
-    ensures { result ≡ commands.has_next next.now words.now }
+fn has_next(alloc: Global, next: &[u8], words: &[Value]) -> Result<bool, NoMemory>
+    ensures { IfOk result (λ has. has ≡ commands.has_next next.now words.now) }
 {
     match words {
-        [_, second, ..] => second.as_bytes() == next,
-        _ => false,
+        [_, second, ..] => Ok(second.to_text(alloc)?.as_bytes() == next),
+        _ => Ok(false),
     }
 }
 
-fn first_word(alloc: Global, words: &[Text]) -> Result<Text, NoMemory>
+fn first_word(alloc: Global, words: &[Value]) -> Result<Text, NoMemory>
     ensures { IfOk result (λ word. word ≡ commands.first_word words.now) }
 {
     match words {
-        [word, ..] => word.copy(),
+        [word, ..] => word.to_text(alloc),
         [] => Ok(Text::new(alloc)),
     }
 }
 
-fn after(words: &[Text], count: usize) -> &[Text]
+fn after(words: &[Value], count: usize) -> &[Value]
     ensures { result.now ≡ drop count words.now }
 {
     if count < words.len() {

@@ -8,6 +8,7 @@ use tt_number::whole_text;
 use tt_procedures::{Argument, Procedures};
 use tt_store::Store;
 use tt_text::{NoMemory, Text};
+use tt_value::Value;
 
 /// What an interpreter keeps.
 #[derive(Debug, Drop)]
@@ -55,7 +56,7 @@ fn argument(alloc: Global, name: &[u8], value: Text) -> Result<Argument, NoMemor
 {
     Ok(Argument {
         name: Text::from_bytes(alloc, name)?,
-        value,
+        value: Value::from_text(value),
     })
 }
 

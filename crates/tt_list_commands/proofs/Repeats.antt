@@ -1,5 +1,5 @@
 -- The text of a list that repeats items.
-use Rattle.std.proofs.Common.{◌≡◌, ◌≢◌, ℕ, zero, suc, ◌+◌, ◌*◌, nat_le, true, false, List, [], ◌++◌, length, codes, refl, sym, ap, ◌∙◌, length-append, arith}
+use Rattle.std.proofs.Common.{◌≡◌, ◌≢◌, ℕ, zero, suc, ◌+◌, ◌*◌, nat_le, true, false, List, [], ◌++◌, length, codes, refl, sym, ap, ◌∙◌, length-append, append-nil, append_assoc, arith}
 use Rattle.std.proofs.lemmas.Grind.{flat_map-append}
 use Rattle.std.specs.List.{flat_map, repeat}
 use Rattle.tt_lists.proofs.Longer.{list-append_later}
@@ -47,12 +47,12 @@ length_is later values first again cut =
     ap length (text_is later values first again cut) ∙ length-append first (repeat later again)
     ∙ ap (λ k. length first + k) (length_repeated later again)
 
-pub short_list : (later : ℕ) (values : List (List ℕ)) (first again text : List ℕ) → IsCut values first again →
-    nat_le (length first + later * length again) LONGEST ≡ true → text ≡ first ++ repeat later again → Made text ≡ unless_long (repeat (later + 1) values)
-short_list later values first again text cut fits is =
+pub short_list : (later : ℕ) (values items : List (List ℕ)) (first again : List ℕ) → IsCut values first again →
+    nat_le (length first + later * length again) LONGEST ≡ true → items ≡ repeat (later + 1) values → Made (list_of items) ≡ unless_long (repeat (later + 1) values)
+short_list later values items first again cut fits is =
     let small : nat_le (length (list_of (repeat (later + 1) values))) LONGEST ≡ true =
     ap (λ n. nat_le n LONGEST) (length_is later values first again cut) ∙ fits in
-    rw small (ap Made (is ∙ sym (text_is later values first again cut)))
+    rw small (ap (λ all. Made (list_of all)) is)
 
 pub long_list : (later : ℕ) (values : List (List ℕ)) (first again message : List ℕ) → IsCut values first again →
     nat_le (length first + later * length again) LONGEST ≡ false → message ≡ codes "result too long" → Bad message ≡ unless_long (repeat (later + 1) values)
@@ -61,6 +61,12 @@ long_list later values first again message cut fits is =
     ap (λ n. nat_le n LONGEST) (length_is later values first again cut) ∙ fits in
     rw large (ap Bad is)
 
--- no values, or no times
-pub empty_list : (count : ℕ) (values : List (List ℕ)) (text : List ℕ) → text ≡ [] → repeat count values ≡ [] → Made text ≡ unless_long (repeat count values)
-empty_list count values text e r = ap Made e ∙ ap unless_long (sym r)
+repeats_after : (n : ℕ) (values : List (List ℕ)) → repeat n values ++ values ≡ repeat (suc n) values
+repeats_after zero values = sym (append-nil values)
+repeats_after (suc n) values = append_assoc values (repeat n values) values ∙ ap (λ all. values ++ all) (repeats_after n values)
+
+-- once more, at the end
+pub once_more : (n : ℕ) (values : List (List ℕ)) → repeat n values ++ values ≡ repeat (n + 1) values
+once_more n values =
+    let next : suc n ≡ n + 1 = omega arith in
+    repeats_after n values ∙ ap (λ k. repeat k values) next

@@ -3,7 +3,7 @@ ghost use Rattle.std.specs.List.{filter};
 ghost use Rattle.tt_list_commands.specs.Concatenating.{concatenation, has_some};
 ghost use Rattle.tt_number.specs.Numerals.{trimmed};
 
-use crate::joining::joined_text;
+use crate::joining::join;
 use std::alloc::Global;
 use tt_number::trimmed;
 use tt_text::{NoMemory, Text, Texts};
@@ -16,7 +16,7 @@ pub fn concat(alloc: Global, texts: &[Text]) -> Result<Text, NoMemory>
     ensures text { IfOk result (λ text. text ≡ concatenation texts.now) }
 {
     let kept = kept_texts(alloc, texts)?;
-    let text = joined_text(alloc, b" ", kept.as_slice())?;
+    let text = join(alloc, b" ", kept.as_slice())?;
     Ok(text)
 }
 

@@ -1,29 +1,15 @@
 ghost use Rattle.std.specs.Prelude.{◌≡◌, ◌++◌, IfOk, OnOk};
 ghost use Rattle.std.specs.List.{flat_map};
-ghost use Rattle.tt_list_commands.specs.Joining.{join_answer, joined_text};
+ghost use Rattle.tt_list_commands.specs.Joining.{joined_text};
 
 use std::alloc::Global;
-use tt_lists::{ListAnswer, Split, split};
 use tt_text::{NoMemory, Text};
 
-/// The text of a list's items with the separator between each two (join(n)).
+/// The texts with the separator between each two (join(n)).
 ///
-/// `Bad` if the text is no list. `NoMemory` if memory is refused.
-pub fn join(alloc: Global, list: &[u8], separator: &[u8]) -> Result<ListAnswer, NoMemory>
-    ensures answer { IfOk result (λ answer. answer ≡ join_answer list.now separator.now) }
-{
-    match split(alloc, list)? {
-        Split::Items(items) => {
-            let text = joined_text(alloc, separator, items.as_slice())?;
-            Ok(ListAnswer::Made(text))
-        }
-        Split::Bad(fault) => Ok(ListAnswer::Bad(fault.message(alloc)?)),
-    }
-}
-
-/// The texts with the separator between each two.
-pub(crate) fn joined_text(alloc: Global, separator: &[u8], texts: &[Text]) -> Result<Text, NoMemory>
-    ensures { IfOk result (λ text. text ≡ joined_text separator.now texts.now) }
+/// `NoMemory` if memory is refused.
+pub fn join(alloc: Global, separator: &[u8], texts: &[Text]) -> Result<Text, NoMemory>
+    ensures joined { IfOk result (λ text. text ≡ joined_text separator.now texts.now) }
 {
     let Some((first, later)) = texts.split_first() else {
         return Ok(Text::new(alloc));

@@ -12,5 +12,5 @@ mod sorting;
 pub use concatenating::concat;
 pub use joining::join;
 pub use repeating::{LONGEST, repeat};
-pub use reversing::reverse;
+pub use reversing::reversed;
 pub use sorting::{Sorting, sort};

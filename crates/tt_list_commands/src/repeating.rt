@@ -1,31 +1,42 @@
-ghost use Rattle.std.specs.Prelude.{◌≡◌, ◌≢◌, ◌+◌, ◌*◌, ◌<◌, ◌^◌, ◌++◌, [], IfOk, codes, length, nat_le};
+ghost use Rattle.std.specs.Prelude.{◌≡◌, ◌≢◌, ◌+◌, ◌*◌, ◌<◌, ◌^◌, ◌++◌, [], IfOk, Ok, codes, length, nat_le};
 ghost use Rattle.std.specs.List.{flat_map, repeat};
+ghost use Rattle.tt_lists.specs.Commands.{made_of};
 ghost use Rattle.tt_lists.specs.Spelling.{later_item};
+ghost use Rattle.tt_lists.specs.declared.answer.ListAnswer.TheVariants.{Bad};
 ghost use Rattle.tt_list_commands.specs.Repeating.{repeat_answer, times, unless_long};
 
 use std::alloc::Global;
-use tt_lists::{ListAnswer, join_list, push_later_items};
+use tt_lists::{join_list, push_later_items};
 use tt_number::read_whole;
-use tt_text::{NoMemory, Text};
+use tt_text::{NoMemory, Text, Texts};
 
 /// The most bytes of a list that repeats items.
 pub const LONGEST: usize = 268_435_456;
 
-/// The list of the values as many times as the count says (lrepeat(n)).
+/// The values as many times as the count says (lrepeat(n)).
 ///
-/// `Bad` where the count is no whole number, where it is negative, and where the list would have more than `LONGEST`
-/// bytes; then it isn't made. `NoMemory` if memory is refused.
-pub fn repeat(alloc: Global, count: &[u8], values: &[Text]) -> Result<ListAnswer, NoMemory>
-    ensures answer { IfOk result (λ answer. answer ≡ repeat_answer count.now values.now) }
+/// The message if the count is no whole number, if it is negative, and if the text of the list would have more than
+/// `LONGEST` bytes; then the list isn't made. `NoMemory` if memory is refused.
+pub fn repeat(
+    alloc: Global,
+    count: &[u8],
+    values: &[Text],
+) -> Result<Result<Texts, Text>, NoMemory>
+    ensures answer { IfOk result (λ made. made_of made ≡ repeat_answer count.now values.now) }
 {
     match read_whole(count) {
         Ok(number) => times(alloc, number, count, values),
-        Err(fault) => Ok(ListAnswer::Bad(fault.message(alloc, count)?)),
+        Err(fault) => Ok(Err(fault.message(alloc, count)?)),
     }
 }
 
-fn times(alloc: Global, number: i64, count: &[u8], values: &[Text]) -> Result<ListAnswer, NoMemory>
-    ensures { IfOk result (λ answer. answer ≡ times number count.now values.now) }
+fn times(
+    alloc: Global,
+    number: i64,
+    count: &[u8],
+    values: &[Text],
+) -> Result<Result<Texts, Text>, NoMemory>
+    ensures { IfOk result (λ made. made_of made ≡ times number count.now values.now) }
 {
     if number < 0 {
         return bad_count(alloc, count);
@@ -33,44 +44,48 @@ fn times(alloc: Global, number: i64, count: &[u8], values: &[Text]) -> Result<Li
     repeated(alloc, number.unsigned_abs(), values)
 }
 
-fn bad_count(alloc: Global, count: &[u8]) -> Result<ListAnswer, NoMemory>
-    ensures { IfOk result (λ answer. answer ≡ ListAnswer.Bad (codes "bad count \"" ++ (count.now ++ codes "\""))) }
+fn bad_count(alloc: Global, count: &[u8]) -> Result<Result<Texts, Text>, NoMemory>
+    ensures { IfOk result (λ made. made_of made ≡ Bad (codes "bad count \"" ++ (count.now ++ codes "\""))) }
 {
     let mut message = Text::from_bytes(alloc, b"bad count \"")?;
     message.push_bytes(count)?;
     message.push_bytes(b"\"")?;
-    Ok(ListAnswer::Bad(message))
+    Ok(Err(message))
 }
 
-fn repeated(alloc: Global, count: u64, values: &[Text]) -> Result<ListAnswer, NoMemory>
-    ensures { IfOk result (λ answer. answer ≡ unless_long (repeat count values.now)) }
+fn repeated(alloc: Global, count: u64, values: &[Text]) -> Result<Result<Texts, Text>, NoMemory>
+    ensures { IfOk result (λ made. made_of made ≡ unless_long (repeat count values.now)) }
 {
     match values {
-        [] => nothing(alloc, count),
-        _ if count == 0 => Ok(ListAnswer::Made(Text::new(alloc))),
+        [] => Ok(Ok(nothing(alloc, count))),
+        _ if count == 0 => Ok(Ok(Texts::new(alloc))),
         _ => repeated_after(alloc, count - 1, values),
     }
 }
 
 #[tactic(auto, using(crate::proofs::Repeats::nothing_repeated))]
-fn nothing(alloc: Global, count: u64) -> Result<ListAnswer, NoMemory>
-    ensures { IfOk result (λ answer. answer ≡ unless_long (repeat count [])) }
+fn nothing(alloc: Global, count: u64) -> Texts
+    ensures { made_of (Ok result) ≡ unless_long (repeat count []) }
 {
-    Ok(ListAnswer::Made(Text::new(alloc)))
+    Texts::new(alloc)
 }
 
-fn repeated_after(alloc: Global, later: u64, values: &[Text]) -> Result<ListAnswer, NoMemory>
+fn repeated_after(
+    alloc: Global,
+    later: u64,
+    values: &[Text],
+) -> Result<Result<Texts, Text>, NoMemory>
     requires some { values.now ≢ [] }
     requires fits { later + 1 < 2 ^ 64 }
-    ensures { IfOk result (λ answer. answer ≡ unless_long (repeat (later + 1) values.now)) }
+    ensures { IfOk result (λ made. made_of made ≡ unless_long (repeat (later + 1) values.now)) }
 {
     let first = join_list(alloc, values)?;
     let again = later_text(alloc, values)?;
     if !fits(&first, later, &again) {
-        return Ok(ListAnswer::Bad(Text::from_bytes(alloc, b"result too long")?));
+        return Ok(Err(Text::from_bytes(alloc, b"result too long")?));
     }
-    let text = with_repeats(alloc, first, later as usize, &again)?;
-    Ok(ListAnswer::Made(text))
+    let items = repeats(alloc, later + 1, values)?;
+    Ok(Ok(items))
 }
 
 fn later_text(alloc: Global, values: &[Text]) -> Result<Text, NoMemory>
@@ -81,12 +96,14 @@ fn later_text(alloc: Global, values: &[Text]) -> Result<Text, NoMemory>
     Ok(text)
 }
 
-fn with_repeats(alloc: Global, mut text: Text, times: usize, again: &Text) -> Result<Text, NoMemory>
-    ensures { IfOk result (λ all. all ≡ text ++ repeat times again.now) }
+fn repeats(alloc: Global, count: u64, values: &[Text]) -> Result<Texts, NoMemory>
+    ensures { IfOk result (λ items. items ≡ repeat count values.now) }
 {
-    let later = again.as_bytes().repeat(alloc, times)?;
-    text.push_bytes(later.as_slice())?;
-    Ok(text)
+    let mut items = Texts::new(alloc);
+    for _ in 0..count {
+        items.push_copies(values)?;
+    }
+    Ok(items)
 }
 
 fn fits(first: &Text, later: u64, again: &Text) -> bool

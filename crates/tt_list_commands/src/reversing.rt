@@ -1,23 +1,15 @@
-ghost use Rattle.std.specs.Prelude.{◌≡◌, IfOk};
-ghost use Rattle.tt_list_commands.specs.Reversing.{reverse_answer};
+ghost use Rattle.std.specs.Prelude.{◌≡◌, IfOk, reverse};
 
 use std::alloc::Global;
-use tt_lists::{ListAnswer, Split, join_list, split};
-use tt_text::NoMemory;
+use tt_text::{NoMemory, Text, Texts};
 
-/// The list of a list's items in reverse order (lreverse(n)).
+/// Copies of a list's items in reverse order (lreverse(n)).
 ///
-/// `Bad` if the text is no list. `NoMemory` if memory is refused.
-pub fn reverse(alloc: Global, list: &[u8]) -> Result<ListAnswer, NoMemory>
-    ensures answer { IfOk result (λ answer. answer ≡ reverse_answer list.now) }
+/// `NoMemory` if memory is refused.
+pub fn reversed(alloc: Global, items: &[Text]) -> Result<Texts, NoMemory>
+    ensures reversed { IfOk result (λ reversed. reversed ≡ reverse items.now) }
 {
-    match split(alloc, list)? {
-        Split::Items(items) => {
-            let mut items = items.into_vec();
-            items.reverse();
-            let text = join_list(alloc, items.as_slice())?;
-            Ok(ListAnswer::Made(text))
-        }
-        Split::Bad(fault) => Ok(ListAnswer::Bad(fault.message(alloc)?)),
-    }
+    let mut copies = Texts::from_copies(alloc, items)?.into_vec();
+    copies.reverse();
+    Ok(Texts::from(copies))
 }

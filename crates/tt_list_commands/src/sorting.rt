@@ -1,14 +1,13 @@
 ghost use Rattle.std.specs.Prelude.{◌≡◌, IfOk, OnOk};
 ghost use Rattle.std.specs.List.Sorted.{IsSorted};
-ghost use Rattle.tt_lists.specs.Spelling.{list_of};
+ghost use Rattle.tt_lists.specs.Commands.{made_of};
 ghost use Rattle.tt_list_commands.specs.inside.Runs.{equals_next, last_in_runs};
-ghost use Rattle.tt_list_commands.specs.Sorting.{IsInOrder, IsSortAnswer, IsSortUnless, fault_of, increasing};
+ghost use Rattle.tt_list_commands.specs.Sorting.{IsInOrder, IsSortUnless, fault_of, increasing};
 ghost use Rattle.tt_list_commands.specs.Sorting.{sort_result};
 ghost use Rattle.tt_list_commands.specs.Sorting.{number_fault, number_of, order};
 
 use std::alloc::Global;
 use std::cmp::{Ordering, Reverse};
-use tt_lists::{ListAnswer, Split, join_list, split};
 use tt_number::read_whole;
 use tt_text::{NoMemory, Text, Texts};
 
@@ -23,29 +22,20 @@ pub struct Sorting {
     pub unique: bool,
 }
 
-/// The list of a list's items in order (lsort(n)). Equals stay in the order that they have.
+/// A list's items in order (lsort(n)). Equals stay in the order that they have. Or, with `integer`, the message for the
+/// first item that is no whole number.
 ///
-/// `Bad` if the text is no list, and else with `integer` for the first item that is no whole number. `NoMemory`
-/// if memory is refused.
-pub fn sort(alloc: Global, how: Sorting, list: &[u8]) -> Result<ListAnswer, NoMemory>
-    ensures answer { IfOk result (IsSortAnswer how list.now) }
+/// `NoMemory` if memory is refused.
+pub fn sort(alloc: Global, how: Sorting, items: &[Text]) -> Result<Result<Texts, Text>, NoMemory>
+    ensures answer { IfOk result (λ sorted. IsSortUnless (fault_of how items.now) how items.now (made_of sorted)) }
 {
-    match split(alloc, list)? {
-        Split::Items(items) => sort_items(alloc, how, items),
-        Split::Bad(fault) => Ok(ListAnswer::Bad(fault.message(alloc)?)),
+    if let Some(message) = fault_of(alloc, how, items)? {
+        return Ok(Err(message));
     }
-}
-
-fn sort_items(alloc: Global, how: Sorting, items: Texts) -> Result<ListAnswer, NoMemory>
-    ensures { IfOk result (IsSortUnless (fault_of how items) how items) }
-{
-    if let Some(message) = fault_of(alloc, how, items.as_slice())? {
-        return Ok(ListAnswer::Bad(message));
-    }
-    let mut items = items.into_vec();
-    put_in_order(how, &mut items)?;
-    let text = result_text(alloc, how, items.as_slice())?;
-    Ok(ListAnswer::Made(text))
+    let mut sorted = Texts::from_copies(alloc, items)?.into_vec();
+    put_in_order(how, &mut sorted)?;
+    let rest = what_stays(alloc, how, sorted)?;
+    Ok(Ok(rest))
 }
 
 fn fault_of(alloc: Global, how: Sorting, items: &[Text]) -> Result<Option<Text>, NoMemory>
@@ -89,16 +79,14 @@ fn number_of(item: &[u8]) -> i64
 }
 
 #[tactic(auto, using(crate::proofs::Equals::last_in_runs_is))]
-fn result_text(alloc: Global, how: Sorting, sorted: &[Text]) -> Result<Text, NoMemory>
-    requires { IsSorted (order how) sorted.now }
-    ensures { IfOk result (λ text. text ≡ list_of (sort_result how sorted.now)) }
+fn what_stays(alloc: Global, how: Sorting, sorted: Vec<Text>) -> Result<Texts, NoMemory>
+    requires { IsSorted (order how) sorted.items }
+    ensures { IfOk result (λ rest. rest ≡ sort_result how sorted.items) }
 {
     if !how.unique {
-        return join_list(alloc, sorted);
+        return Ok(Texts::from(sorted));
     }
-    let last = last_in_runs(alloc, how, sorted)?;
-    let text = join_list(alloc, last.as_slice())?;
-    Ok(text)
+    last_in_runs(alloc, how, sorted.as_slice())
 }
 
 // In a sorted list equals stand together, so it is enough to look at the next item.

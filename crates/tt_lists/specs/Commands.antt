@@ -1,6 +1,6 @@
 -- What list commands answer (llength(n), lindex(n), lrange(n), linsert(n), lreplace(n)). The list is read first, then
 -- the indices from the left; the first that can't be read is the error.
-use Rattle.std.specs.Prelude.{ℕ, ◌+◌, ℤ, List, [], ◌∷◌, length, decimal, Some, None}
+use Rattle.std.specs.Prelude.{ℕ, ◌+◌, ℤ, List, [], ◌∷◌, length, decimal, Result, Ok, Err, Some, None}
 use Rattle.tt_lists.specs.Indices.{index_of}
 use Rattle.tt_lists.specs.Messages.{bad_index_message, list_message}
 use Rattle.tt_lists.specs.Parts.{item_in, range, with_items, with_replaced}
@@ -21,6 +21,11 @@ for_items answer (split.Bad fault) = Bad (list_message fault)
 abbrev pub for_made : (List ℕ → ListAnswer) → ListAnswer → ListAnswer
 for_made answer (Made text) = answer text
 for_made answer (Bad message) = Bad message
+
+-- the answer that lists the items that were made, or says why there are none
+abbrev pub made_of : Result (List (List ℕ)) (List ℕ) → ListAnswer
+made_of (Ok items) = Made (list_of items)
+made_of (Err message) = Bad message
 
 -- the answer for the place that a word names in a list of so many items, where it names one
 abbrev pub for_place : List ℕ → ℕ → (ℤ → ListAnswer) → ListAnswer

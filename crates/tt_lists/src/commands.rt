@@ -1,7 +1,7 @@
 ghost use Rattle.std.specs.Prelude.{◌≡◌, IfOk, IfErr, decimal};
 ghost use Rattle.std.specs.Option.{option_map};
 ghost use Rattle.tt_lists.specs.Commands.{count_answer, insert_among, insert_answer, item_among, item_answer, item_of};
-ghost use Rattle.tt_lists.specs.Commands.{range_among, range_answer, replace_among, replace_answer};
+ghost use Rattle.tt_lists.specs.Commands.{made_of, range_among, range_answer, replace_among, replace_answer};
 ghost use Rattle.tt_lists.specs.Indices.{index_of};
 ghost use Rattle.tt_lists.specs.Messages.{bad_index_message, list_message};
 ghost use Rattle.tt_lists.specs.Places.{place_in};
@@ -16,7 +16,7 @@ use crate::spelling::join_list;
 use crate::splitting::split;
 use itoa::Buffer;
 use std::alloc::Global;
-use tt_text::{NoMemory, Text};
+use tt_text::{NoMemory, Text, Texts};
 
 /// How many items the list has, in decimal (llength(n)).
 ///
@@ -171,12 +171,12 @@ pub fn insert(
     ensures answer { IfOk result (λ answer. answer ≡ insert_answer list.now word.now others.now) }
 {
     match split(alloc, list)? {
-        Split::Items(items) => insert_among(alloc, items.as_slice(), word, others),
+        Split::Items(items) => insert_of(alloc, items.as_slice(), word, others),
         Split::Bad(fault) => no_list(alloc, &fault),
     }
 }
 
-fn insert_among(
+fn insert_of(
     alloc: Global,
     items: &[Text],
     word: &[u8],
@@ -184,11 +184,36 @@ fn insert_among(
 ) -> Result<ListAnswer, NoMemory>
     ensures { IfOk result (λ answer. answer ≡ insert_among items.now word.now others.now) }
 {
+    let made = insert_among(alloc, items, word, others)?;
+    listed(alloc, made)
+}
+
+fn listed(alloc: Global, made: Result<Texts, Text>) -> Result<ListAnswer, NoMemory>
+    ensures { IfOk result (λ answer. answer ≡ made_of made) }
+{
+    match made {
+        Ok(items) => made_list(alloc, items.as_slice()),
+        Err(message) => Ok(ListAnswer::Bad(message)),
+    }
+}
+
+/// These items with others put before the one at the index, if `end` is the place after the last item (linsert(n)); or
+/// the message if the word is no index.
+///
+/// `NoMemory` if memory is refused.
+pub fn insert_among(
+    alloc: Global,
+    items: &[Text],
+    word: &[u8],
+    others: &[Text],
+) -> Result<Result<Texts, Text>, NoMemory>
+    ensures made { IfOk result (λ made. made_of made ≡ insert_among items.now word.now others.now) }
+{
     let Some(place) = place_in(word, items.len() + 1) else {
-        return no_index(alloc, word);
+        return Ok(Err(bad_index(alloc, word)?));
     };
     let all = parts::with_items(alloc, items, place, others)?;
-    made_list(alloc, all.as_slice())
+    Ok(Ok(all))
 }
 
 /// The list with others in place of the items from the first index up to the last one (lreplace(n)).
@@ -204,12 +229,12 @@ pub fn replace(
     ensures answer { IfOk result (λ answer. answer ≡ replace_answer list.now first.now last.now others.now) }
 {
     match split(alloc, list)? {
-        Split::Items(items) => replace_among(alloc, items.as_slice(), first, last, others),
+        Split::Items(items) => replace_of(alloc, items.as_slice(), first, last, others),
         Split::Bad(fault) => no_list(alloc, &fault),
     }
 }
 
-fn replace_among(
+fn replace_of(
     alloc: Global,
     items: &[Text],
     first: &[u8],
@@ -218,12 +243,29 @@ fn replace_among(
 ) -> Result<ListAnswer, NoMemory>
     ensures { IfOk result (λ answer. answer ≡ replace_among items.now first.now last.now others.now) }
 {
+    let made = replace_among(alloc, items, first, last, others)?;
+    listed(alloc, made)
+}
+
+/// These items with others in place of those from the first index up to the last one (lreplace(n)); or the message if a
+/// word is no index.
+///
+/// `NoMemory` if memory is refused.
+pub fn replace_among(
+    alloc: Global,
+    items: &[Text],
+    first: &[u8],
+    last: &[u8],
+    others: &[Text],
+) -> Result<Result<Texts, Text>, NoMemory>
+    ensures made { IfOk result (λ made. made_of made ≡ replace_among items.now first.now last.now others.now) }
+{
     let Some(from) = place_in(first, items.len()) else {
-        return no_index(alloc, first);
+        return Ok(Err(bad_index(alloc, first)?));
     };
     let Some(to) = place_in(last, items.len()) else {
-        return no_index(alloc, last);
+        return Ok(Err(bad_index(alloc, last)?));
     };
     let all = parts::with_replaced(alloc, items, from, to, others)?;
-    made_list(alloc, all.as_slice())
+    Ok(Ok(all))
 }

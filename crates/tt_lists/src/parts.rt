@@ -1,4 +1,4 @@
-ghost use Rattle.std.specs.Prelude.{◌≡◌, ◌++◌, IfOk, OnOk};
+ghost use Rattle.std.specs.Prelude.{◌≡◌, ◌++◌, IfOk};
 ghost use Rattle.tt_lists.specs.Parts.{after, before, from, item_in, range, up_to, with_items, with_replaced};
 
 use std::alloc::Global;
@@ -89,18 +89,8 @@ fn joined_parts(
 ) -> Result<Texts, NoMemory>
     ensures { IfOk result (λ all. all ≡ front.now ++ (middle.now ++ back.now)) }
 {
-    let mut all = Texts::new(alloc);
-    push_all(&mut all, front)?;
-    push_all(&mut all, middle)?;
-    push_all(&mut all, back)?;
+    let mut all = Texts::from_copies(alloc, front)?;
+    all.push_copies(middle)?;
+    all.push_copies(back)?;
     Ok(all)
-}
-
-fn push_all(all: &mut Texts, items: &[Text]) -> Result<(), NoMemory>
-    ensures { OnOk result (all.new ≡ all.old ++ items.now) }
-{
-    for item in items {
-        all.push(item.copy()?)?;
-    }
-    Ok(())
 }

@@ -45,13 +45,16 @@ pub fn find(alloc: Global, how: Search, list: &[u8], pattern: &[u8]) -> Result<L
     }
 }
 
-fn find_among(
+/// What a search of these items reports.
+///
+/// `NoMemory` if memory is refused.
+pub fn find_among(
     alloc: Global,
     how: Search,
     items: &[Text],
     pattern: &[u8],
 ) -> Result<ListAnswer, NoMemory>
-    ensures { IfOk result (λ answer. answer ≡ Made (search_result how (told_from how pattern.now 0 items.now))) }
+    ensures answer { IfOk result (λ answer. answer ≡ Made (search_result how (told_from how pattern.now 0 items.now))) }
 {
     let told = told_of_items(alloc, how, items, pattern)?;
     let text = search_result(alloc, how, told.as_slice())?;

@@ -5,6 +5,7 @@ use std::alloc::Global;
 use tt_calls::{Code, Outcome};
 use tt_text::{NoMemory, Text};
 use tt_trace::Trace;
+use tt_value::Value;
 
 /// An error, as far as it has come.
 #[derive(Debug, Drop)]
@@ -22,13 +23,13 @@ pub struct Failure {
 #[derive(Debug, Drop)]
 pub enum Ending {
     /// It ran to its end, with this result.
-    Fine(Text),
+    Fine(Value),
     /// It ended with an error.
     Failed(Failure),
     /// It ended with an error that the command itself adds no line to: that of error(n) with an info.
     Raised(Failure),
     /// A return(n) with this value, and the code that its procedure ends with.
-    Returned(Text, Code),
+    Returned(Value, Code),
     /// A break(n), with the value of the procedure that ended so, and the line of its command.
     Broke(Text, u64),
     /// A continue(n), likewise.
@@ -40,7 +41,7 @@ impl Ending {
     pub fn nothing(alloc: Global) -> Self
         ensures empty { result ≡ fine [] }
     {
-        Ending::Fine(Text::new(alloc))
+        Ending::Fine(Value::new(alloc))
     }
 
     /// A new error of this message.
@@ -83,13 +84,13 @@ impl Ending {
         Ok(match code {
             Code::Fine => Ending::Fine(value),
             Code::Failed => Ending::Failed(Failure {
-                message: value,
+                message: value.into_text(alloc)?,
                 trace: Trace::start_within(alloc, trace.as_bytes())?,
                 line: 0,
             }),
             Code::Returned => Ending::Returned(value, kept),
-            Code::Broke => Ending::Broke(value, 0),
-            Code::Continued => Ending::Continued(value, 0),
+            Code::Broke => Ending::Broke(value.into_text(alloc)?, 0),
+            Code::Continued => Ending::Continued(value.into_text(alloc)?, 0),
         })
     }
 
@@ -103,7 +104,7 @@ impl Ending {
         match code {
             Code::Fine => Ok(Ending::Fine(value)),
             _ => {
-                let ending = Ending::failed(alloc, value)?;
+                let ending = Ending::failed(alloc, value.into_text(alloc)?)?;
                 Ok(ending)
             }
         }
@@ -123,15 +124,13 @@ impl Ending {
     }
 
     /// The result, or the message of the error. It is moved out.
-    pub fn into_text(self) -> Text
-        ensures text { result ≡ text_of self }
+    pub fn into_value(self) -> Value
+        ensures value { result ≡ text_of self }
     {
         match self {
-            Ending::Fine(text)
-            | Ending::Returned(text, _)
-            | Ending::Broke(text, _)
-            | Ending::Continued(text, _) => text,
-            Ending::Failed(failure) | Ending::Raised(failure) => failure.message,
+            Ending::Fine(value) | Ending::Returned(value, _) => value,
+            Ending::Broke(text, _) | Ending::Continued(text, _) => Value::from_text(text),
+            Ending::Failed(failure) | Ending::Raised(failure) => Value::from_text(failure.message),
         }
     }
 }

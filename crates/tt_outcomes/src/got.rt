@@ -1,6 +1,7 @@
 use crate::Body;
 use tt_calls::{Outcome, Reply};
-use tt_text::{Text, Texts};
+use tt_text::Text;
+use tt_value::Values;
 
 /// What an evaluation gets for what it wanted.
 #[derive(Debug, Drop)]
@@ -8,7 +9,7 @@ pub enum Got {
     /// What it came to.
     Value(Outcome),
     /// The words, which are those of a command that the evaluation itself does.
-    Own { words: Texts },
+    Own { words: Values },
     /// A text that is to be evaluated.
     RunBody { body: Body, text: Text },
     /// The reply to a request.

@@ -57,7 +57,7 @@ impl Ending {
         let trace = self.trace(alloc)?;
         Ok(Outcome {
             code,
-            value: self.into_text(),
+            value: self.into_value(),
             trace,
             kept,
         })

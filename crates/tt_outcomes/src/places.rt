@@ -8,6 +8,7 @@ use std::alloc::Global;
 use tt_calls::Code;
 use tt_text::{NoMemory, Text};
 use tt_trace::{Trace, line_at};
+use tt_value::Value;
 
 /// The text of a command, from its first word to its last. Places are cut to the text.
 #[tactic(auto, using(crate::proofs::Cuts::cut))]
@@ -69,18 +70,18 @@ fn in_procedure(failure: Failure, name: &[u8], line: u64) -> Result<Ending, NoMe
 }
 
 // What a procedure ends with whose body returned.
-fn of_returned(alloc: Global, value: Text, kept: Code) -> Result<Ending, NoMemory>
+fn of_returned(alloc: Global, value: Value, kept: Code) -> Result<Ending, NoMemory>
     ensures { IfOk result (λ ending. ending ≡ of_returned value kept) }
 {
     match kept {
         Code::Fine => Ok(Ending::Fine(value)),
         Code::Failed => {
-            let ending = Ending::failed(alloc, value)?;
+            let ending = Ending::failed(alloc, value.into_text(alloc)?)?;
             Ok(ending)
         }
         Code::Returned => Ok(Ending::Returned(value, Code::Fine)),
-        Code::Broke => Ok(Ending::Broke(value, 0)),
-        Code::Continued => Ok(Ending::Continued(value, 0)),
+        Code::Broke => Ok(Ending::Broke(value.into_text(alloc)?, 0)),
+        Code::Continued => Ok(Ending::Continued(value.into_text(alloc)?, 0)),
     }
 }
 

@@ -1,5 +1,6 @@
 use tt_calls::{Boxed, Request};
-use tt_text::{Text, Texts};
+use tt_text::Text;
+use tt_value::{Value, Values};
 
 /// Whose text is evaluated in a nested evaluation.
 #[derive(Debug, Drop)]
@@ -26,11 +27,11 @@ pub enum Want {
     WriteVar {
         name: Text,
         index: Option<Text>,
-        value: Text,
+        value: Value,
     },
     /// That the command of these words is run, its name first.
     RunWords {
-        words: Texts,
+        words: Values,
     },
     /// That the global level becomes the current one.
     Enter,

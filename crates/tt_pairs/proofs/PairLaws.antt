@@ -36,7 +36,7 @@ other_than_put x key value (pair ∷ pairs) all apart =
     go true later = all
     go false later = (all.0, later)
 
-put_differ : (pairs : Pairs) (key value : List ℕ) → KeysDiffer pairs → KeysDiffer (with_pair pairs key value)
+pub put_differ : (pairs : Pairs) (key value : List ℕ) → KeysDiffer pairs → KeysDiffer (with_pair pairs key value)
 unfolding IsDistinct
 put_differ [] key value differ = (tt, tt)
 put_differ (pair ∷ pairs) key value differ =
@@ -59,7 +59,7 @@ still_other x key (pair ∷ pairs) all = go (bytes_eq key pair.0) (still_other x
     go true later = all.1
     go false later = (all.0, later)
 
-removed_differ : (pairs : Pairs) (key : List ℕ) → KeysDiffer pairs → KeysDiffer (without_key pairs key)
+pub removed_differ : (pairs : Pairs) (key : List ℕ) → KeysDiffer pairs → KeysDiffer (without_key pairs key)
 unfolding IsDistinct
 removed_differ [] key differ = tt
 removed_differ (pair ∷ pairs) key differ = go (bytes_eq key pair.0) (removed_differ pairs key differ.1)
@@ -73,7 +73,7 @@ merged_differ pairs [] differ = differ
 merged_differ pairs (pair ∷ more) differ =
     merged_differ (with_pair pairs pair.0 pair.1) more (put_differ pairs pair.0 pair.1 differ)
 
-no_keys : KeysDiffer []
+pub no_keys : KeysDiffer []
 unfolding IsDistinct
 no_keys = tt
 
@@ -118,6 +118,22 @@ items_back done (pair ∷ pairs) differ =
 
 pub reads_back : ReadsBackLaw
 reads_back pairs differ = ap reading_by (splits_back (items_of pairs)) ∙ ap whole (items_back [] pairs differ)
+
+-- pairs whose keys differ, put in one after the other
+
+joined_back : (done pairs : Pairs) → KeysDiffer (done ++ pairs) → joined done pairs ≡ done ++ pairs
+joined_back done [] differ = sym (append-nil done)
+joined_back done (pair ∷ pairs) differ =
+    let new : with_pair done pair.0 pair.1 ≡ done ++ pair ∷ [] =
+    insert_entry-absent bytes_eq pair.0 pair.1 done
+    (absent_from_lookup (bytes_eq pair.0) done (absent_before same_bytes done pairs pair differ)) in
+    let along : (done ++ pair ∷ []) ++ pairs ≡ done ++ pair ∷ pairs = append_assoc done (pair ∷ []) pairs in
+    ap (λ begun. joined begun pairs) new
+    ∙ joined_back (done ++ pair ∷ []) pairs (subst KeysDiffer (sym along) differ)
+    ∙ along
+
+pub joined_alone : (pairs : Pairs) → KeysDiffer pairs → joined [] pairs ≡ pairs
+joined_alone pairs differ = joined_back [] pairs differ
 
 -- ---- values ----
 

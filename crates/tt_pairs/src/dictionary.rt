@@ -1,6 +1,7 @@
 ghost use Rattle.std.specs.Prelude.{◌≡◌, [], length, IfOk, OnOk, OnErr};
 ghost use Rattle.std.specs.Map.{keys_of, values_of};
 ghost use Rattle.std.specs.Option.{option_copied};
+ghost use Rattle.tt_pairs.specs.PairLaws.{KeysDiffer};
 ghost use Rattle.tt_pairs.specs.Pairs.{items_of, joined, text_of, value_of, with_pair, without_key};
 
 use indexmap::IndexMap;
@@ -18,13 +19,18 @@ pub struct Dictionary {
 impl Model for Dictionary {
     ghost use Rattle.std.specs.Prelude.{ℕ, List};
 
+    ghost use Rattle.tt_pairs.specs.PairLaws.{KeysDiffer};
+
     ghost Value = { List (List ℕ × List ℕ) };
 
     ghost view = { λ dictionary. dictionary.map.entries };
+
+    ghost invariant = { λ dictionary. KeysDiffer dictionary.map.entries };
 }
 
 impl Dictionary {
     /// No pairs. It takes no memory.
+    #[tactic(auto, using(crate::proofs::PairLaws::no_keys))]
     pub fn new(alloc: Global) -> Self
         ensures empty { result ≡ [] }
     {
@@ -43,6 +49,7 @@ impl Dictionary {
     /// Gives a key this value. A key that is there keeps its place, and a new one goes last.
     ///
     /// `NoMemory` if memory is refused; then the pairs are as they were.
+    #[tactic(auto, using(crate::proofs::PairLaws::put_differ))]
     pub fn put(&mut self, key: Text, value: Text) -> Result<(), NoMemory>
         ensures put { OnOk result (self.new ≡ with_pair self.old key value) }
         ensures unchanged { OnErr result (self.new ≡ self.old) }
@@ -52,6 +59,7 @@ impl Dictionary {
     }
 
     /// Takes out the pair of a key, if there is one; those after it move up.
+    #[tactic(auto, using(crate::proofs::PairLaws::removed_differ))]
     pub fn remove(&mut self, key: &Text)
         ensures removed { self.new ≡ without_key self.old key.now }
     {
@@ -68,6 +76,26 @@ impl Dictionary {
             self.put(key.copy()?, value.copy()?)?;
         }
         Ok(())
+    }
+
+    /// What is known of the keys. Nothing runs here.
+    pub fn keys_differ(&self)
+        ensures differ { KeysDiffer self.now }
+    {
+        let _ = &self.map;
+    }
+
+    /// The same pairs once more, in time of their number.
+    ///
+    /// `NoMemory` if memory for them is refused.
+    #[tactic(auto, using(crate::proofs::PairLaws::joined_alone))]
+    pub fn copy(&self) -> Result<Self, NoMemory>
+        ensures copied { IfOk result (λ copy. copy ≡ self.now) }
+    {
+        self.keys_differ();
+        let mut copy = Dictionary::new(*self.map.allocator());
+        copy.join(self)?;
+        Ok(copy)
     }
 
     /// How many pairs there are.

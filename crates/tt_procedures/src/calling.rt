@@ -7,15 +7,15 @@ use crate::procedure::{Parameter, Procedure};
 use std::alloc::Global;
 use std::marker::Model;
 use tt_calls::Outcome;
-use tt_lists::join_list;
 use tt_text::{NoMemory, Text};
+use tt_value::{Value, texts_of};
 
 /// The value that a call gives to a parameter (proc(n)).
 #[derive(Debug, Drop)]
 pub struct Argument {
     /// The parameter's name.
     pub name: Text,
-    pub value: Text,
+    pub value: Value,
 }
 
 /// The values of parameters, in their order. Contracts see the list.
@@ -81,7 +81,7 @@ pub enum Called {
 pub(crate) fn call_of(
     alloc: Global,
     word: &Text,
-    words: &[Text],
+    words: &[Value],
     procedure: &Procedure,
 ) -> Result<Called, NoMemory>
     ensures { IfOk result (λ called. called ≡ calling.call_of word.now words.now procedure.now) }
@@ -102,7 +102,7 @@ pub(crate) fn call_of(
 fn arguments_of(
     alloc: Global,
     parameters: &[Parameter],
-    words: &[Text],
+    words: &[Value],
 ) -> Result<Option<Arguments>, NoMemory>
     ensures { IfOk result (λ arguments. arguments ≡ calling.arguments_of parameters.now words.now) }
 {
@@ -136,21 +136,22 @@ fn first_value(
     alloc: Global,
     takes_rest: bool,
     parameter: &Parameter,
-    words: &[Text],
-) -> Result<Option<Text>, NoMemory>
+    words: &[Value],
+) -> Result<Option<Value>, NoMemory>
     ensures { IfOk result (λ value. value ≡ calling.first_value takes_rest parameter.now words.now) }
 {
     if takes_rest {
-        return Ok(Some(join_list(alloc, words)?));
+        let texts = texts_of(alloc, words)?;
+        return Ok(Some(Value::from_items(texts.into_vec())?));
     }
     match (words, &parameter.default) {
         ([word, ..], _) => Ok(Some(word.copy()?)),
-        ([], Some(default)) => Ok(Some(default.copy()?)),
+        ([], Some(default)) => Ok(Some(Value::from_text(default.copy()?))),
         ([], None) => Ok(None),
     }
 }
 
-fn words_after(takes_rest: bool, words: &[Text]) -> &[Text]
+fn words_after(takes_rest: bool, words: &[Value]) -> &[Value]
     ensures { result.now ≡ calling.words_after takes_rest words.now }
 {
     match words {

@@ -14,9 +14,9 @@ use indexmap::IndexMap;
 use std::alloc::Global;
 use std::marker::Model;
 use tt_calls::Outcome;
-use tt_lists::join_list;
 use tt_script::plain_name;
 use tt_text::{NoMemory, Text, Texts, glob};
+use tt_value::Value;
 
 /// Procedures by name, in the order of their first definition. Contracts see the list of pairs of a name and a
 /// procedure.
@@ -97,15 +97,16 @@ impl Procedures {
     /// name, without one leading `::`, and if there are no words.
     ///
     /// `NoMemory` if memory is refused.
-    pub fn call(&self, words: &[Text]) -> Result<Option<Called>, NoMemory>
+    pub fn call(&self, words: &[Value]) -> Result<Option<Called>, NoMemory>
         ensures called { IfOk result (λ called. called ≡ procedures.call self.now words.now) }
     {
         let [word, words @ ..] = words else {
             return Ok(None);
         };
-        match self.named_by(word)? {
+        let word = word.to_text(*self.map.allocator())?;
+        match self.named_by(&word)? {
             Some(procedure) => {
-                let called = call_of(*self.map.allocator(), word, words, procedure)?;
+                let called = call_of(*self.map.allocator(), &word, words, procedure)?;
                 Ok(Some(called))
             }
             None => Ok(None),
@@ -183,6 +184,6 @@ fn names_like(alloc: Global, pattern: &[u8], names: &[Text]) -> Result<Texts, No
 fn listed(alloc: Global, names: &[Text]) -> Result<Outcome, NoMemory>
     ensures { IfOk result (λ outcome. outcome ≡ fine (list_of names.now)) }
 {
-    let list = join_list(alloc, names)?;
-    Ok(Outcome::fine(alloc, list))
+    let list = Value::from_copies(alloc, names)?;
+    Ok(Outcome::with_result(alloc, list))
 }

@@ -3,15 +3,15 @@ ghost use Rattle.tt_pure.specs.Table as table;
 
 use crate::command::{Command, command_of, usage};
 use crate::formatting::format;
+use crate::made::{outcome_of};
 use crate::searching::lsearch;
 use crate::sorting::lsort;
 use crate::strings::string;
-use crate::usages::outcome_of;
 use crate::{lists, texts};
 use std::alloc::Global;
 use tt_calls::Outcome;
-use tt_lists::ListAnswer;
-use tt_text::{NoMemory, Text};
+use tt_text::NoMemory;
+use tt_value::{Made, Value, texts_of};
 
 /// Whether a name is that of a command which answers by its words alone.
 pub fn is_pure(name: &[u8]) -> bool
@@ -20,11 +20,12 @@ pub fn is_pure(name: &[u8]) -> bool
     command_of(name).is_some()
 }
 
-/// How the command of this name ends with these words, which are those after its name: its result, or its error.
+/// How the command of this name ends with these words, which are those after its name: its result, or its error. A list
+/// that it makes is kept as one, whose text is made when it is asked for.
 ///
 /// Errors come in this order: an option that isn't known, from the left; a wrong number of words; what the words say.
 /// `NoMemory` if memory is refused.
-pub fn pure(alloc: Global, name: &[u8], words: &[Text]) -> Result<Outcome, NoMemory>
+pub fn pure(alloc: Global, name: &[u8], words: &[Value]) -> Result<Outcome, NoMemory>
     requires known { IsTrue (table.is_pure name.now) }
     ensures outcome { IfOk result (table.IsOutcome (table.command_of name.now) words.now) }
 {
@@ -34,21 +35,27 @@ pub fn pure(alloc: Global, name: &[u8], words: &[Text]) -> Result<Outcome, NoMem
     }
 }
 
-fn outcome(alloc: Global, command: Command, words: &[Text]) -> Result<Outcome, NoMemory>
+fn outcome(alloc: Global, command: Command, words: &[Value]) -> Result<Outcome, NoMemory>
     ensures { IfOk result (table.IsOutcome (Some command) words.now) }
 {
-    let answer = answer(alloc, command, words)?;
-    outcome_of(alloc, answer)
+    let made = make(alloc, command, words)?;
+    outcome_of(alloc, made)
 }
 
-fn answer(alloc: Global, command: Command, words: &[Text]) -> Result<ListAnswer, NoMemory>
-    ensures { IfOk result (table.IsAnswer command words.now) }
+fn make(alloc: Global, command: Command, words: &[Value]) -> Result<Made, NoMemory>
+    ensures { IfOk result (λ made. table.IsAnswer command words.now made) }
 {
     let usage = usage(command);
     match command {
-        Command::Concat => texts::concat(alloc, words),
-        Command::Format => format(alloc, usage, words),
-        Command::Join => texts::join(alloc, usage, words),
+        Command::Concat => {
+            let words = texts_of(alloc, words)?;
+            Ok(Made::from_answer(texts::concat(alloc, words.as_slice())?))
+        }
+        Command::Format => {
+            let words = texts_of(alloc, words)?;
+            Ok(Made::from_answer(format(alloc, usage, words.as_slice())?))
+        }
+        Command::Join => lists::join(alloc, usage, words),
         Command::Lindex => lists::lindex(alloc, usage, words),
         Command::Linsert => lists::linsert(alloc, usage, words),
         Command::List => lists::list(alloc, words),
@@ -60,6 +67,9 @@ fn answer(alloc: Global, command: Command, words: &[Text]) -> Result<ListAnswer,
         Command::Lsearch => lsearch(alloc, usage, words),
         Command::Lsort => lsort(alloc, usage, words),
         Command::Split => texts::split(alloc, usage, words),
-        Command::String => string(alloc, usage, words),
+        Command::String => {
+            let words = texts_of(alloc, words)?;
+            Ok(Made::from_answer(string(alloc, usage, words.as_slice())?))
+        }
     }
 }

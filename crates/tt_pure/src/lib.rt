@@ -7,6 +7,7 @@ mod command;
 mod flags;
 mod formatting;
 mod lists;
+mod made;
 mod row;
 mod searching;
 mod sorting;

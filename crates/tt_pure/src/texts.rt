@@ -3,11 +3,12 @@ ghost use Rattle.std.specs.Prelude.{◌≡◌, IfOk};
 ghost use Rattle.tt_pure.specs.Texts as answers;
 ghost use Rattle.tt_pure.specs.Usages.{wrong_number};
 
-use crate::usages::wrong_number;
+use crate::made::{listed, refuse};
 use std::alloc::Global;
-use tt_lists::{ListAnswer, join_list};
+use tt_lists::ListAnswer;
 use tt_strings::{WHITE_SPACE, split_at};
 use tt_text::{NoMemory, Text};
+use tt_value::{Made, Value};
 
 pub(crate) fn concat(alloc: Global, words: &[Text]) -> Result<ListAnswer, NoMemory>
     ensures { IfOk result (λ answer. answer ≡ answers.concat words.now) }
@@ -16,32 +17,23 @@ pub(crate) fn concat(alloc: Global, words: &[Text]) -> Result<ListAnswer, NoMemo
     Ok(ListAnswer::Made(text))
 }
 
-pub(crate) fn join(alloc: Global, usage: &[u8], words: &[Text]) -> Result<ListAnswer, NoMemory>
-    ensures { IfOk result (λ answer. answer ≡ answers.join (wrong_number usage.now) words.now) }
+pub(crate) fn split(alloc: Global, usage: &[u8], words: &[Value]) -> Result<Made, NoMemory>
+    ensures { IfOk result (λ made. answers.IsSplitAnswer (wrong_number usage.now) words.now made) }
 {
     match words {
-        [list] => tt_list_commands::join(alloc, list.as_bytes(), b" "),
-        [list, separator] => {
-            tt_list_commands::join(alloc, list.as_bytes(), separator.as_bytes())
+        [text] => fields(alloc, text, WHITE_SPACE),
+        [text, splitting] => {
+            let splitting = splitting.to_text(alloc)?;
+            fields(alloc, text, splitting.as_bytes())
         }
-        _ => wrong_number(alloc, usage),
+        _ => refuse(alloc, usage),
     }
 }
 
-pub(crate) fn split(alloc: Global, usage: &[u8], words: &[Text]) -> Result<ListAnswer, NoMemory>
-    ensures { IfOk result (answers.IsSplitAnswer (wrong_number usage.now) words.now) }
+fn fields(alloc: Global, text: &Value, splitting: &[u8]) -> Result<Made, NoMemory>
+    ensures { IfOk result (λ made. answers.IsSplitAt text.now splitting.now made) }
 {
-    match words {
-        [text] => fields(alloc, text.as_bytes(), WHITE_SPACE),
-        [text, splitting] => fields(alloc, text.as_bytes(), splitting.as_bytes()),
-        _ => wrong_number(alloc, usage),
-    }
-}
-
-fn fields(alloc: Global, text: &[u8], splitting: &[u8]) -> Result<ListAnswer, NoMemory>
-    ensures { IfOk result (answers.IsSplitAt text.now splitting.now) }
-{
-    let fields = split_at(alloc, text, splitting)?;
-    let list = join_list(alloc, fields.as_slice())?;
-    Ok(ListAnswer::Made(list))
+    let text = text.to_text(alloc)?;
+    let fields = split_at(alloc, text.as_bytes(), splitting)?;
+    listed(Ok(fields))
 }

@@ -1,10 +1,10 @@
 ghost use Rattle.std.specs.Prelude.{◌≡◌, IfOk};
-ghost use Rattle.tt_pure.specs.Usages.{bad_option, outcome_of, wrong_number};
+ghost use Rattle.tt_pure.specs.Usages.{bad_option, wrong_number};
 
 use std::alloc::Global;
-use tt_calls::{Outcome, usages};
+use tt_calls::usages;
 use tt_lists::ListAnswer;
-use tt_text::{NoMemory, Text};
+use tt_text::NoMemory;
 
 /// That words are too few or too many for a usage.
 pub(crate) fn wrong_number(alloc: Global, usage: &[u8]) -> Result<ListAnswer, NoMemory>
@@ -20,14 +20,4 @@ pub(crate) fn bad_option(alloc: Global, word: &[u8]) -> Result<ListAnswer, NoMem
 {
     let message = usages::bad_option(alloc, word)?;
     Ok(ListAnswer::Bad(message))
-}
-
-/// How a command with this answer ends.
-pub(crate) fn outcome_of(alloc: Global, answer: ListAnswer) -> Result<Outcome, NoMemory>
-    ensures { IfOk result (λ outcome. outcome ≡ outcome_of answer) }
-{
-    match answer {
-        ListAnswer::Made(text) => Ok(Outcome::fine(alloc, text)),
-        ListAnswer::Bad(message) => Outcome::failed(message),
-    }
 }

@@ -64,7 +64,7 @@ impl Shared {
             return Ok(self.not_asked());
         }
         if let Some(post) = self.posts.take_variable(n) {
-            self.set(post, &outcome.value)?;
+            self.set(post, outcome.value.to_text(self.alloc)?)?;
         }
         Ok(self.served(thread, outcome))
     }
@@ -79,15 +79,15 @@ impl Shared {
     }
 
     // The variable of a post gets a value, if the sender has not ended.
-    fn set(&mut self, post: VariablePost, value: &Text) -> Result<(), NoMemory>
-        ensures { OnOk result (self.new ≡ sets self.old post value.now) }
+    fn set(&mut self, post: VariablePost, value: Text) -> Result<(), NoMemory>
+        ensures { OnOk result (self.new ≡ sets self.old post value) }
     {
         if !self.lives(post.sender) {
             return Ok(());
         }
         let event = Event::SetVar {
             name: post.name,
-            value: value.copy()?,
+            value,
         };
         self.queues.push(post.sender, false, event)
     }

@@ -1,5 +1,5 @@
 mod Assigning
-mod AtEnd
+mod Changed
 mod Climbing
 mod Marking
 mod Setting

@@ -21,8 +21,10 @@ impl Store {
         ensures found { IfOk result (held.Finds self.now (spot name.now (option_copied index.entry))) }
     {
         let spot = spot_named(self.alloc, name, index)?;
-        let found = self.find(&spot)?;
-        Ok(found)
+        match self.find(&spot)? {
+            Ok(value) => Ok(Ok(value.into_text(self.alloc)?)),
+            Err(fault) => Ok(Err(fault)),
+        }
     }
 
     /// Removes what `$name` and `$name(index)` name (unset(n)), or says why not; then nothing has changed.

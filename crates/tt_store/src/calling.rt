@@ -9,6 +9,7 @@ use crate::Store;
 use crate::spot::{spot_named, spot_of};
 use tt_procedures::Argument;
 use tt_text::{NoMemory, Text};
+use tt_value::Value;
 use tt_vars::{Linked, VarFault, Written};
 
 impl Store {
@@ -93,7 +94,7 @@ impl Store {
     }
 }
 
-fn is_there(found: Result<Text, VarFault>) -> bool
+fn is_there(found: Result<Value, VarFault>) -> bool
     ensures { result ≡ held.is_there found }
 {
     match found {

@@ -5,8 +5,9 @@
 mod answers;
 mod arrays;
 mod calling;
+mod changing;
 mod command;
-mod growing;
+mod increment;
 mod listed;
 mod messages;
 mod nesting;

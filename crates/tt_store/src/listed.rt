@@ -9,26 +9,29 @@ use crate::messages::cannot_set;
 use crate::spot::spot_of;
 use std::alloc::Global;
 use tt_calls::Outcome;
-use tt_lists::{Split, join_list, split};
 use tt_text::{NoMemory, Text};
+use tt_value::{Value, texts_of};
 use tt_vars::Written;
 
 impl Store {
-    pub(crate) fn lassign(&mut self, usage: &[u8], words: &[Text]) -> Result<Outcome, NoMemory>
+    pub(crate) fn lassign(&mut self, usage: &[u8], words: &[Value]) -> Result<Outcome, NoMemory>
         ensures { IfOk result (λ outcome. listed.lassign usage.now words.now self.old outcome self.new) }
     {
         match words {
-            [list, names @ ..] => self.assign_list(list, names),
+            [list, names @ ..] => {
+                let names = texts_of(self.alloc, names)?;
+                self.assign_list(list, names.as_slice())
+            }
             [] => self.refuse(usage),
         }
     }
 
-    fn assign_list(&mut self, list: &Text, names: &[Text]) -> Result<Outcome, NoMemory>
+    fn assign_list(&mut self, list: &Value, names: &[Text]) -> Result<Outcome, NoMemory>
         ensures { IfOk result (λ outcome. listed.AssignsItems (split_of list.now) names.now self.old outcome self.new) }
     {
-        match split(self.alloc, list.as_bytes())? {
-            Split::Items(items) => self.assign_items(items.as_slice(), names),
-            Split::Bad(fault) => Outcome::failed(fault.message(self.alloc)?),
+        match list.to_items(self.alloc)? {
+            Ok(items) => self.assign_items(items.as_slice(), names),
+            Err(fault) => Outcome::failed(fault.message(self.alloc)?),
         }
     }
 
@@ -60,7 +63,7 @@ impl Store {
         ensures { IfOk result (λ message. listed.AssignsOne name.now text self.old message self.new) }
     {
         let spot = spot_of(self.alloc, name.as_bytes())?;
-        let written = self.set_spot(&spot, text)?;
+        let written = self.set_spot(&spot, Value::from_text(text))?;
         let message = message_of(self.alloc, name, written)?;
         Ok(message)
     }
@@ -98,7 +101,7 @@ fn told_rest(alloc: Global, rest: &[Text], message: Option<Text>) -> Result<Outc
     ensures { IfOk result (λ outcome. outcome ≡ listed.told_rest rest.now message) }
 {
     match message {
-        None => Ok(Outcome::fine(alloc, join_list(alloc, rest)?)),
+        None => Ok(Outcome::with_result(alloc, Value::from_copies(alloc, rest)?)),
         Some(message) => Outcome::failed(message),
     }
 }

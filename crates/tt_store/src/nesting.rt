@@ -1,6 +1,6 @@
 ghost use Rattle.std.specs.Prelude.{◌≡◌, ◌<◌, ◌≤◌, length, IfOk, IfSome, OnOk, OnErr, None};
 ghost use Rattle.std.specs.Option.{option_copied};
-ghost use Rattle.tt_vars.specs.Links.{AreSame, Grows, HasNames, HasSize, Links, Reads, Removes, Writes, lent, place_of};
+ghost use Rattle.tt_vars.specs.Links.{AreSame, Changes, HasNames, HasSize, Links, Reads, Removes, Writes, lent, place_of};
 ghost use Rattle.tt_store.specs.Levels.{HasDepth, above, begun_in, called, caller_of, global_level, levels_after_end};
 ghost use Rattle.tt_store.specs.Levels.{with_frames};
 ghost use Rattle.tt_store.specs.Spots.{place_in};
@@ -8,9 +8,8 @@ ghost use Rattle.tt_store.specs.Spots.{place_in};
 use crate::spot::Spot;
 use std::alloc::Global;
 use std::marker::Model;
-use tt_lists::ListAnswer;
 use tt_text::{NoMemory, Text, Texts};
-use tt_value::{Growth, Value};
+use tt_value::{Changing, Made, Value};
 use tt_vars::{Linked, VarFault, Vars, Written};
 
 /// What was begun (proc(n), uplevel(n)).
@@ -220,20 +219,20 @@ impl Nesting {
             .write(frame, &spot.name, spot.index.as_ref(), value)
     }
 
-    /// Puts texts at the end of the value of a name.
-    pub(crate) fn grow(
+    /// Changes the value of a name.
+    pub(crate) fn change<C: Changing>(
         &mut self,
         spot: &Spot,
-        growth: Growth,
-        texts: &[Text],
-    ) -> Result<Result<ListAnswer, VarFault>, NoMemory>
-        ensures grown { IfOk result (λ answer.
-            Grows growth texts.now self.old.frames (place_in self.old.current spot.now) self.new.frames answer) }
+        changing: &C,
+    ) -> Result<Result<Made, VarFault>, NoMemory>
+        ensures changed { IfOk result (λ answer.
+            Changes (C.meaning changing.now) self.old.frames (place_in self.old.current spot.now) self.new.frames
+            answer) }
         ensures rest { self.new ≡ with_frames self.old self.new.frames }
     {
         let frame = self.frame_of(spot);
         self.vars
-            .grow(frame, &spot.name, spot.index.as_ref(), growth, texts)
+            .change(frame, &spot.name, spot.index.as_ref(), changing)
     }
 
     /// Removes a name.

@@ -13,17 +13,19 @@ use tt_outcomes::Body;
 use tt_pure::{is_pure, pure};
 use tt_script::plain_name;
 use tt_text::{NoMemory, Text, quoting};
+use tt_value::{Value, texts_of};
 
 impl Store {
     /// Runs a whole command, its name first: a command of the table, else one that
     /// answers by its words alone; `Other` if it is none of them, and then nothing has changed.
     ///
     /// After `Body` what is begun is ended by `leave`. `NoMemory` if memory is refused.
-    pub fn run(&mut self, words: &[Text]) -> Result<Answer, NoMemory>
+    pub fn run(&mut self, words: &[Value]) -> Result<Answer, NoMemory>
         ensures runs { IfOk result (λ answer. table.Runs words.now self.old answer self.new) }
     {
         match words {
             [word, words @ ..] => {
+                let word = word.to_text(self.alloc)?;
                 let name = Text::from_bytes(self.alloc, plain_name(word.as_bytes()))?;
                 self.run_command(&name, words)
             }
@@ -31,7 +33,7 @@ impl Store {
         }
     }
 
-    fn run_command(&mut self, name: &Text, words: &[Text]) -> Result<Answer, NoMemory>
+    fn run_command(&mut self, name: &Text, words: &[Value]) -> Result<Answer, NoMemory>
         ensures { IfOk result (λ answer.
             table.IsCommand (table.first_named table.commands name.now) name.now words.now self.old answer self.new) }
     {
@@ -41,7 +43,7 @@ impl Store {
         }
     }
 
-    fn run_pure(&self, name: &Text, words: &[Text]) -> Result<Answer, NoMemory>
+    fn run_pure(&self, name: &Text, words: &[Value]) -> Result<Answer, NoMemory>
         ensures { IfOk result (λ answer.
             table.IsPure (pure_table.is_pure name.now) name.now words.now self.now answer self.now) }
     {
@@ -52,7 +54,7 @@ impl Store {
         Ok(Answer::Outcome(outcome))
     }
 
-    fn by_row(&mut self, command: Command, words: &[Text]) -> Result<Answer, NoMemory>
+    fn by_row(&mut self, command: Command, words: &[Value]) -> Result<Answer, NoMemory>
         ensures { IfOk result (λ answer. table.by_row (table.row_of command) words.now self.old answer self.new) }
     {
         let usage = row_of(command).usage;
@@ -70,13 +72,14 @@ impl Store {
         Ok(Answer::Outcome(outcome))
     }
 
-    fn eval(&mut self, usage: &[u8], words: &[Text]) -> Result<Answer, NoMemory>
+    fn eval(&mut self, usage: &[u8], words: &[Value]) -> Result<Answer, NoMemory>
         ensures { IfOk result (λ answer. table.eval usage.now words.now self.old answer self.new) }
     {
         if words.is_empty() {
             return Ok(Answer::Outcome(Outcome::wrong_number(self.alloc, usage)?));
         }
-        let text = concat(self.alloc, words)?;
+        let words = texts_of(self.alloc, words)?;
+        let text = concat(self.alloc, words.as_slice())?;
         self.nesting.begin_here()?;
         Ok(Answer::Body {
             body: Body::Plain,
@@ -84,7 +87,7 @@ impl Store {
         })
     }
 
-    fn flush(&self, usage: &[u8], words: &[Text]) -> Result<Outcome, NoMemory>
+    fn flush(&self, usage: &[u8], words: &[Value]) -> Result<Outcome, NoMemory>
         ensures { IfOk result (λ outcome. table.flush usage.now words.now self.now outcome self.now) }
     {
         match words {
@@ -93,10 +96,11 @@ impl Store {
         }
     }
 
-    fn package(&self, usage: &[u8], words: &[Text]) -> Result<Outcome, NoMemory>
+    fn package(&self, usage: &[u8], words: &[Value]) -> Result<Outcome, NoMemory>
         ensures { IfOk result (λ outcome. table.package_require usage.now words.now self.now outcome self.now) }
     {
-        match words {
+        let words = texts_of(self.alloc, words)?;
+        match words.as_slice() {
             [word, words @ ..] => self.package_by(is_require(word), usage, word, words),
             [] => self.refuse(usage),
         }

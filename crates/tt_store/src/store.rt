@@ -65,16 +65,16 @@ impl Store {
         &mut self,
         name: &[u8],
         index: Option<&[u8]>,
-        value: Text,
+        value: Value,
     ) -> Result<Outcome, NoMemory>
         ensures written { IfOk result (λ outcome.
             held.IsWritten self.old name.now (option_copied index.entry) value outcome self.new) }
     {
         let spot = spot_named(self.alloc, name, index)?;
         let word = full_name(self.alloc, name, index)?;
-        let text = value.copy()?;
+        let result = value.copy()?;
         let written = self.set_spot(&spot, value)?;
-        let outcome = stored(self.alloc, &word, text, written)?;
+        let outcome = stored(self.alloc, &word, result, written)?;
         Ok(outcome)
     }
 
@@ -132,20 +132,20 @@ impl Store {
     }
 
     /// The value of what a spot stands for.
-    pub(crate) fn find(&self, spot: &Spot) -> Result<Result<Text, VarFault>, NoMemory>
+    pub(crate) fn find(&self, spot: &Spot) -> Result<Result<Value, VarFault>, NoMemory>
         ensures { IfOk result (held.Finds self.now spot.now) }
     {
         match self.nesting.read(spot) {
-            Ok(value) => Ok(Ok(value.to_text(self.alloc)?)),
+            Ok(value) => Ok(Ok(value.copy()?)),
             Err(fault) => Ok(Err(fault)),
         }
     }
 
-    /// Writes a text to what a spot stands for.
-    pub(crate) fn set_spot(&mut self, spot: &Spot, text: Text) -> Result<Written, NoMemory>
-        ensures { IfOk result (held.Sets self.old spot.now text self.new) }
+    /// Writes a value to what a spot stands for.
+    pub(crate) fn set_spot(&mut self, spot: &Spot, value: Value) -> Result<Written, NoMemory>
+        ensures { IfOk result (held.Sets self.old spot.now value self.new) }
     {
-        let written = self.nesting.write(spot, Value::from_text(text))?;
+        let written = self.nesting.write(spot, value)?;
         if let Written::Yes = written {
             self.mark_written(spot);
         }
@@ -171,14 +171,14 @@ impl Store {
         Ok(outcome)
     }
 
-    /// A text is given to it.
-    pub(crate) fn give(&mut self, word: &Text, text: Text) -> Result<Outcome, NoMemory>
-        ensures { IfOk result (λ outcome. held.Gives word.now text self.old outcome self.new) }
+    /// A value is given to it.
+    pub(crate) fn give(&mut self, word: &Text, value: Value) -> Result<Outcome, NoMemory>
+        ensures { IfOk result (λ outcome. held.Gives word.now value self.old outcome self.new) }
     {
         let spot = spot_of(self.alloc, word.as_bytes())?;
-        let value = text.copy()?;
+        let result = value.copy()?;
         let written = self.set_spot(&spot, value)?;
-        let outcome = stored(self.alloc, word, text, written)?;
+        let outcome = stored(self.alloc, word, result, written)?;
         Ok(outcome)
     }
 
@@ -191,11 +191,15 @@ impl Store {
     }
 }
 
-fn value_of(alloc: Global, word: &Text, found: Result<Text, VarFault>) -> Result<Outcome, NoMemory>
+fn value_of(
+    alloc: Global,
+    word: &Text,
+    found: Result<Value, VarFault>,
+) -> Result<Outcome, NoMemory>
     ensures { IfOk result (λ outcome. outcome ≡ held.value_of word.now found) }
 {
     match found {
-        Ok(text) => Ok(Outcome::fine(alloc, text)),
+        Ok(value) => Ok(Outcome::with_result(alloc, value)),
         Err(fault) => {
             let message = cannot_read(alloc, word.as_bytes(), fault)?;
             let outcome = Outcome::failed(message)?;
@@ -204,11 +208,11 @@ fn value_of(alloc: Global, word: &Text, found: Result<Text, VarFault>) -> Result
     }
 }
 
-fn stored(alloc: Global, word: &Text, text: Text, written: Written) -> Result<Outcome, NoMemory>
-    ensures { IfOk result (λ outcome. outcome ≡ held.stored word.now text written) }
+fn stored(alloc: Global, word: &Text, value: Value, written: Written) -> Result<Outcome, NoMemory>
+    ensures { IfOk result (λ outcome. outcome ≡ held.stored word.now value written) }
 {
     match written {
-        Written::Yes => Ok(Outcome::fine(alloc, text)),
+        Written::Yes => Ok(Outcome::with_result(alloc, value)),
         Written::No(fault) => {
             let message = cannot_set(alloc, word.as_bytes(), fault)?;
             let outcome = Outcome::failed(message)?;

@@ -1,4 +1,4 @@
-ghost use Rattle.std.specs.Prelude.{◌≡◌, ◌++◌, ◌∷◌, [], OnOk, OnErr};
+ghost use Rattle.std.specs.Prelude.{◌≡◌, ◌++◌, ◌∷◌, [], IfOk, OnOk, OnErr};
 
 use crate::{NoMemory, Text};
 use std::alloc::Global;
@@ -28,6 +28,18 @@ impl Texts {
         }
     }
 
+    /// Copies of these texts.
+    ///
+    /// `NoMemory` if memory for the list is refused.
+    pub fn from_copies(alloc: Global, texts: &[Text]) -> Result<Self, NoMemory>
+        ensures copies { IfOk result (λ copies. copies ≡ texts.now) }
+    {
+        let mut copies = Texts::new(alloc);
+        copies.items.reserve(texts.len())?;
+        copies.push_copies(texts)?;
+        Ok(copies)
+    }
+
     /// The texts, from the first to the last.
     pub fn as_slice(&self) -> &[Text]
         ensures items { result.now ≡ self.now }
@@ -43,6 +55,18 @@ impl Texts {
         ensures unchanged { OnErr result (self.new ≡ self.old) }
     {
         self.items.push(text)?;
+        Ok(())
+    }
+
+    /// Adds copies of these texts at the end.
+    ///
+    /// `NoMemory` if memory for them is refused; then some of them may be there.
+    pub fn push_copies(&mut self, texts: &[Text]) -> Result<(), NoMemory>
+        ensures pushed { OnOk result (self.new ≡ self.old ++ texts.now) }
+    {
+        for text in texts {
+            self.push(text.copy()?)?;
+        }
         Ok(())
     }
 

@@ -4,8 +4,6 @@ use Rattle.std.specs.List.{flat_map}
 use Rattle.tt_lists.specs.Commands.{insert_answer}
 use Rattle.tt_lists.specs.declared.answer.ListAnswer.{ListAnswer}
 use Rattle.tt_lists.specs.declared.answer.ListAnswer.TheVariants.{Made, Bad}
-use Rattle.tt_value.specs.declared.value.Growth.{Growth}
-use Rattle.tt_value.specs.declared.value.Growth.TheVariants as growth
 
 -- append(n): the texts follow the value, one after the other
 abbrev pub appended : (texts : List (List ℕ)) → (value : List ℕ) → ListAnswer
@@ -14,10 +12,6 @@ appended texts value = Made (value ++ flat_map (λ text. text) texts)
 -- lappend(n): they are the last items of a list, or the value is none
 abbrev pub listed : (texts : List (List ℕ)) → (value : List ℕ) → ListAnswer
 listed texts value = insert_answer value (codes "end") texts
-
-abbrev pub grown : Growth → (texts : List (List ℕ)) → (value : List ℕ) → ListAnswer
-grown growth.Text texts value = appended texts value
-grown growth.List texts value = listed texts value
 
 -- the value after that answer
 abbrev pub value_after : ListAnswer → (value : List ℕ) → List ℕ

@@ -1,3 +1,4 @@
+pub mod Dictionaries
 pub mod Growing
 pub mod Reading
 pub mod inside

@@ -27,3 +27,8 @@ count_of text = count_by (items_of text)
 abbrev pub made_by : ListAnswer → Result (List ℕ) (List ℕ)
 made_by (Made text) = Ok text
 made_by (Refused message) = Err message
+
+-- the answer that is so
+abbrev pub answer_of : Result (List ℕ) (List ℕ) → ListAnswer
+answer_of (Ok text) = Made text
+answer_of (Err message) = Refused message

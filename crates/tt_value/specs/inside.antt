@@ -1,3 +1,4 @@
 pub mod KeptText
 pub mod Listed
+pub mod Paired
 pub mod Spellings

@@ -11,6 +11,7 @@ ghost use Rattle.tt_value.specs.inside.Listed.{canonical};
 
 use crate::items::Items;
 use crate::listing::Listing;
+use crate::pairing::Pairing;
 use itoa::Buffer;
 use std::alloc::Global;
 use std::sync::Arc;
@@ -27,6 +28,8 @@ pub(crate) enum Kept {
     Text(Text),
     /// A list, which its copies share.
     List(Arc<Listing>),
+    /// A dictionary, likewise.
+    Pairs(Arc<Pairing>),
 }
 
 /// The text.
@@ -37,6 +40,7 @@ pub(crate) fn text_of(alloc: Global, kept: &Kept) -> Result<Text, NoMemory>
         Kept::Number(number) => whole_text(alloc, *number),
         Kept::Text(text) => text.copy(),
         Kept::List(list) => list.text(alloc),
+        Kept::Pairs(pairs) => pairs.text(),
     }
 }
 
@@ -101,6 +105,10 @@ pub(crate) fn whole_of(alloc: Global, kept: &mut Kept) -> Result<Result<i64, Num
             let text = list.text(alloc)?;
             Ok(read_whole(text.as_bytes()))
         }
+        Kept::Pairs(pairs) => {
+            let text = pairs.text()?;
+            Ok(read_whole(text.as_bytes()))
+        }
     }
 }
 
@@ -127,17 +135,43 @@ pub(crate) fn items_of(alloc: Global, kept: &mut Kept) -> Result<Result<Items, L
     ensures answer { IfOk result (λ answer. answer ≡ items_of (text_of kept.old)) }
     ensures same { text_of kept.new ≡ text_of kept.old }
 {
-    if let Kept::List(list) = kept {
-        let items = shared_items(list)?;
-        return Ok(Ok(items));
-    }
-    match read_list(alloc, kept)? {
+    match listing_of(alloc, kept)? {
         Ok(list) => {
-            let list = Arc::new(alloc, list)?;
             let items = shared_items(&list)?;
             keep_list(kept, list);
             Ok(Ok(items))
         }
+        Err(fault) => Ok(Err(fault)),
+    }
+}
+
+/// The same, which only the answer keeps if the value is no list yet.
+pub(crate) fn own_items(alloc: Global, kept: &Kept) -> Result<Result<Items, ListFault>, NoMemory>
+    ensures items { IfOk result (λ read. IfOk read (λ items. split_of (text_of kept.now) ≡ Split.Items items)) }
+    ensures fault { IfOk result (λ read. IfErr read (λ fault. split_of (text_of kept.now) ≡ Split.Bad fault)) }
+{
+    match listing_of(alloc, kept)? {
+        Ok(list) => {
+            let items = shared_items(&list)?;
+            Ok(Ok(items))
+        }
+        Err(fault) => Ok(Err(fault)),
+    }
+}
+
+// The list, which is shared if it is kept.
+fn listing_of(
+    alloc: Global,
+    kept: &Kept,
+) -> Result<Result<Arc<Listing>, ListFault>, NoMemory>
+    ensures text { IfOk result (λ read. IfOk read (λ list. (arc_value list).text ≡ text_of kept.now)) }
+    ensures fault { IfOk result (λ read. IfErr read (λ fault. split_of (text_of kept.now) ≡ Split.Bad fault)) }
+{
+    if let Kept::List(list) = kept {
+        return Ok(Ok(Arc::try_clone(list)?));
+    }
+    match read_list(alloc, kept)? {
+        Ok(list) => Ok(Ok(Arc::new(alloc, list)?)),
         Err(fault) => Ok(Err(fault)),
     }
 }
@@ -148,7 +182,7 @@ fn keep_list(kept: &mut Kept, list: Arc<Listing>)
 {
     match kept {
         Kept::Text(_) => *kept = Kept::List(list),
-        Kept::Number(_) | Kept::List(_) => {}
+        Kept::Number(_) | Kept::List(_) | Kept::Pairs(_) => {}
     }
 }
 
@@ -246,5 +280,6 @@ pub(crate) fn copy(kept: &Kept) -> Result<Kept, NoMemory>
         Kept::Number(number) => Ok(Kept::Number(*number)),
         Kept::Text(text) => Ok(Kept::Text(text.copy()?)),
         Kept::List(list) => Ok(Kept::List(Arc::try_clone(list)?)),
+        Kept::Pairs(pairs) => Ok(Kept::Pairs(Arc::try_clone(pairs)?)),
     }
 }

@@ -7,7 +7,7 @@ ghost use Rattle.tt_value.specs.inside.Spellings.{IsSpelled, text_in};
 use std::alloc::Global;
 use std::marker::Model;
 use tt_lists::{Split, join_list, push_item};
-use tt_text::{NoMemory, Text};
+use tt_text::{NoMemory, Text, Texts};
 
 /// How the text of a list is spelled (list(n)).
 #[derive(Debug, Drop)]
@@ -106,11 +106,9 @@ impl Listing {
     pub(crate) fn copy(&self) -> Result<Self, NoMemory>
         ensures copied { IfOk result (λ list. list ≡ self.now) }
     {
-        let mut items = Vec::new(*self.items.allocator());
-        items.reserve(self.items.len())?;
-        copy_to(&mut items, self.items.as_slice())?;
+        let items = Texts::from_copies(*self.items.allocator(), self.items.as_slice())?;
         Ok(Listing {
-            items,
+            items: items.into_vec(),
             spelling: copied(&self.spelling)?,
         })
     }
@@ -195,14 +193,4 @@ fn copied(spelling: &Spelling) -> Result<Spelling, NoMemory>
         Spelling::Canonical(text) => Ok(Spelling::Canonical(text.copy()?)),
         Spelling::Given(text) => Ok(Spelling::Given(text.copy()?)),
     }
-}
-
-/// Puts copies of items at the end of others.
-pub(crate) fn copy_to(all: &mut Vec<Text>, items: &[Text]) -> Result<(), NoMemory>
-    ensures { OnOk result (all.new.items ≡ all.old.items ++ items.now) }
-{
-    for item in items {
-        all.push(item.copy()?)?;
-    }
-    Ok(())
 }

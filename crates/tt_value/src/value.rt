@@ -1,35 +1,35 @@
-ghost use Rattle.std.specs.Prelude.{◌≡◌, IfOk, IfErr, OnErr, OnOk};
+ghost use Rattle.std.specs.Prelude.{◌≡◌, ◌++◌, [], Err, IfErr, IfOk, Ok, OnErr, OnOk};
 ghost use Rattle.std.specs.Fmt.{signed_decimal};
+ghost use Rattle.std.specs.List.{flat_map};
 ghost use Rattle.tt_lists.specs.Commands.{item_of, range_answer};
 ghost use Rattle.tt_lists.specs.Reading.{split_of};
 ghost use Rattle.tt_lists.specs.Spelling.{list_of};
 ghost use Rattle.tt_number.specs.Numerals.{whole_of};
-ghost use Rattle.tt_value.specs.Growing.{grown, listed, value_after};
+ghost use Rattle.tt_pairs.specs.Pairs as entries;
+ghost use Rattle.tt_pairs.specs.Reading.{reading_of};
+ghost use Rattle.tt_value.specs.Growing.{listed};
+ghost use Rattle.tt_value.specs.Dictionaries.{after};
 ghost use Rattle.tt_value.specs.Reading.{count_of, items_of, made_by};
 
 use crate::items::Items;
 use crate::kept::{self, Kept};
-use crate::listing::{Listing, copy_to};
+use crate::kept_pairs;
+use crate::listing::Listing;
+use crate::pairing::Pairing;
+use crate::pairs::Pairs;
 use std::alloc::Global;
 use std::marker::Model;
 use std::sync::Arc;
 use tt_lists::{ListAnswer, ListFault, Split, item_among, range_among};
 use tt_number::NumberFault;
-use tt_text::{NoMemory, Text};
-
-/// How a value grows at its end.
-#[derive(Clone, Copy, Debug)]
-pub enum Growth {
-    /// As a text, by texts (append(n)).
-    Text,
-    /// As a list, by items (lappend(n)).
-    List,
-}
+use tt_pairs::Dictionary;
+use tt_text::{NoMemory, Text, Texts};
 
 /// A value, which is its text (Tcl(n)). Contracts see the text.
 ///
-/// It keeps a whole number, a text, or a list with its items. Readings take the value mutably, since it keeps what it
-/// was read as; the text stays as it was. A copy shares a list, and nothing that is done to the one changes the other.
+/// It keeps a whole number, a text, a list with its items, or a dictionary with its pairs. Readings take the value
+/// mutably, since it keeps what it was read as; the text stays as it was. A copy shares a list or a dictionary, and
+/// nothing that is done to the one changes the other.
 #[derive(Debug, Drop)]
 pub struct Value {
     kept: Kept,
@@ -49,6 +49,13 @@ impl Model for Value {
 }
 
 impl Value {
+    /// The empty value. It takes no memory.
+    pub fn new(alloc: Global) -> Self
+        ensures empty { result ≡ [] }
+    {
+        Value::from_text(Text::new(alloc))
+    }
+
     /// The value of a text.
     pub fn from_text(text: Text) -> Self
         ensures text { result ≡ text }
@@ -144,6 +151,17 @@ impl Value {
         kept::items_of(alloc, &mut self.kept)
     }
 
+    /// The items of the list, which only the answer keeps: in constant time if the value keeps them already, and else
+    /// in the time of a reading. Or why there are none.
+    ///
+    /// `NoMemory` if the memory for the items is refused.
+    pub fn to_items(&self, alloc: Global) -> Result<Result<Items, ListFault>, NoMemory>
+        ensures items { IfOk result (λ read. IfOk read (λ items. split_of self.now ≡ Split.Items items)) }
+        ensures fault { IfOk result (λ read. IfErr read (λ fault. split_of self.now ≡ Split.Bad fault)) }
+    {
+        kept::own_items(alloc, &self.kept)
+    }
+
     /// How many items the list has (llength(n)), in constant time once its items are kept; or why it is none.
     ///
     /// `NoMemory` if the memory for the items is refused.
@@ -189,18 +207,19 @@ impl Value {
             Err(fault) => return Ok(Err(fault.message(alloc)?)),
         };
         match range_among(alloc, items.as_slice(), first, last)? {
-            Ok(part) => Ok(Ok(Value::of_copies(alloc, part)?)),
+            Ok(part) => Ok(Ok(Value::from_copies(alloc, part)?)),
             Err(message) => Ok(Err(message)),
         }
     }
 
-    fn of_copies(alloc: Global, items: &[Text]) -> Result<Self, NoMemory>
-        ensures { IfOk result (λ value. value ≡ list_of items.now) }
+    /// The value of the list of copies of these items (list(n)).
+    ///
+    /// `NoMemory` if memory is refused.
+    pub fn from_copies(alloc: Global, items: &[Text]) -> Result<Self, NoMemory>
+        ensures list { IfOk result (λ value. value ≡ list_of items.now) }
     {
-        let mut own = Vec::new(alloc);
-        own.reserve(items.len())?;
-        copy_to(&mut own, items)?;
-        Value::from_items(own)
+        let copies = Texts::from_copies(alloc, items)?;
+        Value::from_items(copies.into_vec())
     }
 
     /// Puts items at the end of the list, whose text is then the canonical one of the longer list (lappend(n)); or says
@@ -216,29 +235,90 @@ impl Value {
         kept::push(alloc, &mut self.kept, items)
     }
 
-    /// Puts texts at the end of the value, as bytes (append(n)) or as items (lappend(n)), and answers the text that it
-    /// is then. As a list it is then the canonical text of the longer list. If no copy shares the text, it grows in
-    /// place; a list that was not made so is split and joined anew.
+    /// The value of a dictionary, in its canonical text, which is made when it is asked for (dict(n)).
     ///
-    /// `Bad` with the message of the fault if it is to grow as a list and is none, and then it stays. `NoMemory` if
-    /// memory is refused; then some of the texts may be there.
-    pub fn grow(
+    /// `NoMemory` if the memory for a pointer to it is refused.
+    pub fn from_pairs(alloc: Global, pairs: Dictionary) -> Result<Self, NoMemory>
+        ensures text { IfOk result (λ value. value ≡ entries.text_of pairs) }
+    {
+        let pairing = Arc::new(alloc, Pairing::from_pairs(pairs))?;
+        Ok(Value {
+            kept: Kept::Pairs(pairing),
+        })
+    }
+
+    /// What the text is read as as a dictionary (dict(n)), with the messages of `tt_pairs::read`. The pairs are kept beside
+    /// the text, so that the next reading takes constant time.
+    ///
+    /// `NoMemory` if memory is refused.
+    pub fn pairs(&mut self, alloc: Global) -> Result<Result<Pairs, Text>, NoMemory>
+        ensures reading { IfOk result (λ reading. reading ≡ reading_of self.old) }
+        ensures same { self.new ≡ self.old }
+    {
+        kept_pairs::pairs_of(alloc, &mut self.kept)
+    }
+
+    /// The same, which only the answer keeps: in constant time if the value keeps the pairs already.
+    ///
+    /// `NoMemory` if memory is refused.
+    pub fn to_pairs(&self, alloc: Global) -> Result<Result<Pairs, Text>, NoMemory>
+        ensures reading { IfOk result (λ reading. reading ≡ reading_of self.now) }
+    {
+        kept_pairs::own_pairs(alloc, &self.kept)
+    }
+
+    /// Makes the text the canonical one of the pairs that the value is read as (dict(n)); or says why it is no dictionary,
+    /// and then it stays.
+    ///
+    /// `NoMemory` if memory is refused; then the text is as it was.
+    pub fn pairs_alone(&mut self, alloc: Global) -> Result<Result<(), Text>, NoMemory>
+        ensures alone { IfOk result (λ alone. OnOk alone (after (λ pairs. pairs) (reading_of self.old) ≡ Ok self.new)) }
+        ensures fault { IfOk result (λ alone. IfErr alone (λ message. reading_of self.old ≡ Err message)) }
+        ensures stays { IfOk result (λ alone. OnErr alone (self.new ≡ self.old)) }
+    {
+        kept_pairs::pairs_alone(alloc, &mut self.kept)
+    }
+
+    /// Gives a key this value in the dictionary that the value is, whose text is then the canonical one (dict(n)); or says
+    /// why it is none, and then it stays. Once its pairs are kept and if no copy shares them, that takes constant time.
+    ///
+    /// `NoMemory` if memory is refused; then nothing is said of the value.
+    pub fn put_pair(
         &mut self,
         alloc: Global,
-        growth: Growth,
-        texts: &[Text],
-    ) -> Result<ListAnswer, NoMemory>
-        ensures answer { IfOk result (λ answer. answer ≡ grown growth texts.now self.old) }
-        ensures left { IfOk result (λ answer. self.new ≡ value_after answer self.old) }
+        key: Text,
+        value: Text,
+    ) -> Result<Result<(), Text>, NoMemory>
+        ensures put { IfOk result (λ put. OnOk put
+            (after (λ pairs. entries.with_pair pairs key value) (reading_of self.old) ≡ Ok self.new)) }
+        ensures fault { IfOk result (λ put. IfErr put (λ message. reading_of self.old ≡ Err message)) }
+        ensures stays { IfOk result (λ put. OnErr put (self.new ≡ self.old)) }
     {
-        match growth {
-            Growth::Text => kept::append(alloc, &mut self.kept, texts)?,
-            Growth::List => {
-                if let Err(fault) = self.push(alloc, texts)? {
-                    return Ok(ListAnswer::Bad(fault.message(alloc)?));
-                }
-            }
-        }
-        Ok(ListAnswer::Made(self.text(alloc)?))
+        kept_pairs::put_pair(alloc, &mut self.kept, key, value)
+    }
+
+    /// Takes out the pair of a key, likewise; those after it move up.
+    ///
+    /// `NoMemory` if memory is refused; then nothing is said of the value.
+    pub fn remove_pair(
+        &mut self,
+        alloc: Global,
+        key: &Text,
+    ) -> Result<Result<(), Text>, NoMemory>
+        ensures removed { IfOk result (λ removed. OnOk removed
+            (after (λ pairs. entries.without_key pairs key.now) (reading_of self.old) ≡ Ok self.new)) }
+        ensures fault { IfOk result (λ removed. IfErr removed (λ message. reading_of self.old ≡ Err message)) }
+        ensures stays { IfOk result (λ removed. OnErr removed (self.new ≡ self.old)) }
+    {
+        kept_pairs::remove_pair(alloc, &mut self.kept, key)
+    }
+
+    /// Puts texts at the end of the text, as bytes (append(n)). If no copy shares the text, it grows in place.
+    ///
+    /// `NoMemory` if memory is refused; then some of the texts may be there.
+    pub fn append(&mut self, alloc: Global, texts: &[Text]) -> Result<(), NoMemory>
+        ensures appended { OnOk result (self.new ≡ self.old ++ flat_map (λ text. text) texts.now) }
+    {
+        kept::append(alloc, &mut self.kept, texts)
     }
 }

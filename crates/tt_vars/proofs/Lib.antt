@@ -1,7 +1,7 @@
+mod ChangeLemmas
 mod EndLemmas
 mod FollowLemmas
 mod FoundLemmas
 mod FrameLemmas
-mod GrowLemmas
 mod LinkLemmas
 mod StandsLemmas

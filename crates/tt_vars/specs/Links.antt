@@ -7,8 +7,6 @@ use Rattle.std.specs.Result.{result_map_both}
 use Rattle.std.specs.Option.{option_eq, option_map}
 use Rattle.tt_lists.specs.declared.answer.ListAnswer.{ListAnswer}
 use Rattle.tt_lists.specs.declared.answer.ListAnswer.TheVariants.{Made, Bad}
-use Rattle.tt_value.specs.Growing.{grown}
-use Rattle.tt_value.specs.declared.value.Growth.{Growth}
 use Rattle.tt_vars.specs.declared.answers.VarFault.{VarFault}
 use Rattle.tt_vars.specs.declared.answers.VarFault.TheVariants.{NoSuchVariable, NoSuchElement, NotArray}
 use Rattle.tt_vars.specs.declared.answers.Written.{Written}
@@ -129,16 +127,17 @@ Writes old place text new answer =
     × StandsFor old place stands
     × Puts (written_at old stands text) old new answer
 
--- the longer text that was made of what is read is written; if none was made nothing has changed
+-- the text that was made of what is read is written; if none was made nothing has changed
 abbrev pub Takes : Result ListAnswer VarFault → List Frame → Place → List Frame → Type 0
 Takes (Ok (Made text)) old place new = Writes old place text new Yes
 Takes (Ok (Bad message)) old place new = new ≡ old
 Takes (Err fault) old place new = new ≡ old
 
--- texts go to the end of what is read (append(n), lappend(n))
-abbrev pub Grows : Growth → List (List ℕ) → List Frame → Place → List Frame → Result ListAnswer VarFault → Type 0
-Grows growth texts old place new answer =
-    ReadsAs (grown growth texts) old place answer
+-- what is read is changed (append(n), lappend(n), incr(n))
+abbrev pub Changes :
+    (List ℕ → ListAnswer) → List Frame → Place → List Frame → Result ListAnswer VarFault → Type 0
+Changes change old place new answer =
+    ReadsAs change old place answer
     × Takes answer old place new
 
 -- the frames after what a name stands for was removed

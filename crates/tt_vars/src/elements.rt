@@ -3,16 +3,14 @@ ghost use Rattle.std.specs.Prelude.{OnErr};
 ghost use Rattle.std.specs.Option.{option_map, option_copied};
 ghost use Rattle.std.specs.Map.{lookup, keys_of, values_of};
 ghost use Rattle.indexmap.specs.IndexMap.{insert_entry, set_value_at};
-ghost use Rattle.tt_value.specs.Growing.{grown};
-ghost use Rattle.tt_vars.specs.inside.Found.{after_growing};
+ghost use Rattle.tt_vars.specs.inside.Found.{after_change};
 
 use crate::reading::Reading;
 use indexmap::IndexMap;
 use std::alloc::Global;
 use std::marker::Model;
-use tt_lists::ListAnswer;
 use tt_text::{NoMemory, Text, Texts};
-use tt_value::{Growth, Value};
+use tt_value::{Changing, Made, Value};
 
 /// The elements of an array (array(n)), in the order of their first insertion. Contracts see the list of pairs of
 /// an index and a value's text.
@@ -100,24 +98,23 @@ impl Elements {
         Ok(Some(answer))
     }
 
-    /// Puts texts at the end of the value at a place.
+    /// Changes the value at a place.
     ///
-    /// `NoMemory` if memory is refused; then some of the texts may be there.
-    pub(crate) fn grow_at(
+    /// `NoMemory` if memory is refused; then nothing is said of the value.
+    pub(crate) fn change_at<C: Changing>(
         &mut self,
         place: usize,
-        growth: Growth,
-        texts: &[Text],
-    ) -> Result<Option<ListAnswer>, NoMemory>
+        changing: &C,
+    ) -> Result<Option<Made>, NoMemory>
         ensures answer { IfOk result (λ answer.
-            answer ≡ option_map (grown growth texts.now) (slice_get (values_of self.old) place)) }
-        ensures grown { IfOk result (λ answer. self.new ≡ after_growing (set_value_at self.old place) self.old answer) }
+            answer ≡ option_map (C.meaning changing.now) (slice_get (values_of self.old) place)) }
+        ensures changed { IfOk result (λ answer. self.new ≡ after_change (set_value_at self.old place) self.old answer) }
     {
         let alloc = *self.map.allocator();
         let Some(value) = self.map.get_index_mut(place) else {
             return Ok(None);
         };
-        let answer = value.grow(alloc, growth, texts)?;
+        let answer = changing.change(alloc, value)?;
         Ok(Some(answer))
     }
 

@@ -6,21 +6,19 @@ ghost use Rattle.tt_vars.specs.declared.answers.VarFault.TheVariants.{IsArray};
 ghost use Rattle.tt_vars.specs.declared.variable.Variable.TheVariants.{Link};
 ghost use Rattle.tt_vars.specs.Variables.{Name, named, is_set, leads, elements_of, read, written, with, removed};
 ghost use Rattle.tt_vars.specs.Variables.{result_of, Puts};
-ghost use Rattle.tt_value.specs.Growing.{grown};
-ghost use Rattle.tt_vars.specs.inside.Found.{after_growing, element_in, put_at, text_at, removed_at, removed_in};
+ghost use Rattle.tt_vars.specs.inside.Found.{after_change, element_in, put_at, text_at, removed_at, removed_in};
 ghost use Rattle.tt_vars.specs.inside.Ending.{KeepsLinks};
 
 use crate::reading::Reading;
 use crate::variable::{
-    Found, Place, Variable, first_written, grow_in, read_in, remove_from, write_to,
+    Found, Place, Variable, first_written, change_in, read_in, remove_from, write_to,
 };
 use crate::{VarFault, Written};
 use indexmap::IndexMap;
 use std::alloc::Global;
 use std::marker::Model;
-use tt_lists::ListAnswer;
 use tt_text::{NoMemory, Text, Texts};
-use tt_value::{Growth, Value};
+use tt_value::{Changing, Made, Value};
 
 /// The variables of a procedure, or the global ones, in order of insertion. Contracts see the list of pairs of a
 /// name and what it is.
@@ -192,24 +190,24 @@ impl Frame {
         read_in(alloc, variable, found.element, reading)
     }
 
-    /// Puts texts at the end of the value that was found; None if it is an array.
+    /// Changes the value that was found; None if it is an array.
     ///
-    /// `NoMemory` if memory is refused; then some of the texts may be there.
-    pub(crate) fn grow_at(
+    /// `NoMemory` if memory is refused; then nothing is said of the value.
+    pub(crate) fn change_at<C: Changing>(
         &mut self,
         found: Found,
-        growth: Growth,
-        texts: &[Text],
-    ) -> Result<Option<ListAnswer>, NoMemory>
-        ensures answer { IfOk result (λ answer. answer ≡ option_map (grown growth texts.now) (text_at self.old found)) }
-        ensures grown { IfOk result (λ answer. self.new ≡ after_growing (put_at self.old found) self.old answer) }
+        changing: &C,
+    ) -> Result<Option<Made>, NoMemory>
+        ensures answer { IfOk result (λ answer.
+            answer ≡ option_map (C.meaning changing.now) (text_at self.old found)) }
+        ensures changed { IfOk result (λ answer. self.new ≡ after_change (put_at self.old found) self.old answer) }
         ensures links { KeepsLinks self.old self.new }
     {
         let alloc = *self.map.allocator();
         let Some(variable) = self.map.get_index_mut(found.variable) else {
             return Ok(None);
         };
-        grow_in(alloc, variable, found.element, growth, texts)
+        change_in(alloc, variable, found.element, changing)
     }
 
     /// The indices of an array, in order; None if the name is no array.

@@ -1,16 +1,14 @@
 ghost use Rattle.std.specs.Prelude.{◌≡◌, Some, None, Ok, IfOk, OnErr};
 ghost use Rattle.tt_vars.specs.Variables.{leads, written, Puts};
-ghost use Rattle.tt_vars.specs.inside.Found.{after_growing, put_in, text_in, without_at};
+ghost use Rattle.tt_vars.specs.inside.Found.{after_change, put_in, text_in, without_at};
 ghost use Rattle.std.specs.Option.{option_map};
-ghost use Rattle.tt_value.specs.Growing.{grown};
 
 use crate::elements::Elements;
 use crate::reading::Reading;
 use crate::{VarFault, Written};
 use std::alloc::Global;
-use tt_lists::ListAnswer;
 use tt_text::{NoMemory, Text};
-use tt_value::{Growth, Value};
+use tt_value::{Changing, Made, Value};
 
 /// Where a name or a link leads: a variable of a frame, or one of its elements.
 #[derive(Debug, Drop)]
@@ -112,28 +110,27 @@ pub(crate) fn read_in<R: Reading>(
     }
 }
 
-/// Puts texts at the end of a scalar, or of an element; None if there is no such value.
+/// Changes a scalar, or an element; None if there is no such value.
 ///
-/// `NoMemory` if memory is refused; then some of the texts may be there.
-pub(crate) fn grow_in(
+/// `NoMemory` if memory is refused; then nothing is said of the value.
+pub(crate) fn change_in<C: Changing>(
     alloc: Global,
     variable: &mut Variable,
     element: Option<usize>,
-    growth: Growth,
-    texts: &[Text],
-) -> Result<Option<ListAnswer>, NoMemory>
+    changing: &C,
+) -> Result<Option<Made>, NoMemory>
     ensures answer { IfOk result (λ answer.
-        answer ≡ option_map (grown growth texts.now) (text_in (Some variable.old) element)) }
-    ensures grown { IfOk result (λ answer.
-        variable.new ≡ after_growing (put_in variable.old element) variable.old answer) }
+        answer ≡ option_map (C.meaning changing.now) (text_in (Some variable.old) element)) }
+    ensures changed { IfOk result (λ answer.
+        variable.new ≡ after_change (put_in variable.old element) variable.old answer) }
     ensures link { leads (Some variable.new) ≡ leads (Some variable.old) }
 {
     match (variable, element) {
         (Variable::Scalar(value), None) => {
-            let answer = value.grow(alloc, growth, texts)?;
+            let answer = changing.change(alloc, value)?;
             Ok(Some(answer))
         }
-        (Variable::Array(elements), Some(element)) => elements.grow_at(element, growth, texts),
+        (Variable::Array(elements), Some(element)) => elements.change_at(element, changing),
         _ => Ok(None),
     }
 }

@@ -3,7 +3,7 @@ ghost use Rattle.std.specs.Prelude.{OnOk, OnErr};
 ghost use Rattle.std.specs.Option.{option_copied, option_map};
 ghost use Rattle.tt_vars.specs.declared.variable.Variable.TheVariants.{Link};
 ghost use Rattle.tt_vars.specs.Variables.{with, Puts};
-ghost use Rattle.tt_vars.specs.Links.{AreSame, Grows, HasNames, HasSize, Links, Reads, ReadsAs, Removes, Writes};
+ghost use Rattle.tt_vars.specs.Links.{AreSame, Changes, HasNames, HasSize, Links, Reads, ReadsAs, Removes, Writes};
 ghost use Rattle.tt_vars.specs.Links.{frame_at, lent, link_answer, place_of, read_at, with_frame, written_at};
 ghost use Rattle.tt_vars.specs.inside.Ending.{CanLink, LinksEnd};
 ghost use Rattle.tt_vars.specs.inside.Found.{FindsAt, IsFound, place_at};
@@ -15,9 +15,8 @@ use crate::variable::{Found, Place};
 use crate::{Linked, VarFault, Written};
 use std::alloc::Global;
 use std::marker::Model;
-use tt_lists::ListAnswer;
 use tt_text::{NoMemory, Text, Texts};
-use tt_value::{Growth, Value};
+use tt_value::{Changing, Made, Value};
 
 /// Variables: the frame of the global ones, 0, and one for each procedure that is called (upvar(n), uplevel(n)).
 /// Contracts see the list of frames, from the global one; a frame is the list of its names in order of insertion,
@@ -123,28 +122,28 @@ impl Vars {
         Ok(())
     }
 
-    /// Puts texts at the end of the value of a name, as bytes (append(n)) or as items (lappend(n)), with the answers of
-    /// `Value::grow` and the faults of `read`. The value grows where it stands. No frame comes or goes.
+    /// Changes the value of a name where it stands (append(n), lappend(n), incr(n)), with the faults of `read`. No frame
+    /// comes or goes.
     ///
-    /// `NoMemory` if memory is refused; then some of the texts may be there.
-    pub fn grow(
+    /// `NoMemory` if memory is refused; then nothing is said of the value.
+    pub fn change<C: Changing>(
         &mut self,
         frame: u64,
         name: &Text,
         index: Option<&Text>,
-        growth: Growth,
-        texts: &[Text],
-    ) -> Result<Result<ListAnswer, VarFault>, NoMemory>
+        changing: &C,
+    ) -> Result<Result<Made, VarFault>, NoMemory>
         requires { frame < length self.old }
-        ensures grown { IfOk result (λ answer.
-            Grows growth texts.now self.old (place_of frame name.now (option_copied index.entry)) self.new answer) }
+        ensures changed { IfOk result (λ answer.
+            Changes (C.meaning changing.now) self.old (place_of frame name.now (option_copied index.entry)) self.new
+            answer) }
         ensures frames { length self.new ≡ length self.old }
     {
         let (number, found) = match self.find(frame, name, index) {
             Ok(found) => found,
             Err(fault) => return Ok(Err(fault)),
         };
-        let answer = self.frames[number].grow_at(found, growth, texts)?;
+        let answer = self.frames[number].change_at(found, changing)?;
         Ok(answer.ok_or(VarFault::IsArray))
     }
 

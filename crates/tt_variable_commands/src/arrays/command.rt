@@ -12,27 +12,37 @@ use tt_calls::Outcome;
 use tt_script::plain_name;
 use tt_store::{Answer, Store};
 use tt_text::{NoMemory, Text};
+use tt_value::{Value, texts_of};
 
 /// Runs a whole command, its name first: array(n), and it has ended; `Other` if it has another name, and then
 /// nothing has changed.
 ///
 /// `NoMemory` if memory is refused.
-pub fn run(alloc: Global, store: &mut Store, words: &[Text]) -> Result<Answer, NoMemory>
+pub fn run(alloc: Global, store: &mut Store, words: &[Value]) -> Result<Answer, NoMemory>
     ensures runs { IfOk result (λ answer. table.Runs words.now store.old answer store.new) }
 {
     match words {
-        [word, words @ ..] => run_if(alloc, store, is_array(word), words),
+        [word, words @ ..] => {
+            let word = word.to_text(alloc)?;
+            run_if(alloc, store, is_array(&word), words)
+        }
         [] => Ok(Answer::Other),
     }
 }
 
-fn run_if(alloc: Global, store: &mut Store, named: bool, words: &[Text]) -> Result<Answer, NoMemory>
+fn run_if(
+    alloc: Global,
+    store: &mut Store,
+    named: bool,
+    words: &[Value],
+) -> Result<Answer, NoMemory>
     ensures { IfOk result (λ answer. table.RunsIf named words.now store.old answer store.new) }
 {
     if !named {
         return Ok(Answer::Other);
     }
-    let outcome = array(alloc, store, words)?;
+    let words = texts_of(alloc, words)?;
+    let outcome = array(alloc, store, words.as_slice())?;
     Ok(Answer::Outcome(outcome))
 }
 

@@ -8,9 +8,10 @@ use crate::arrays::spots::{indices_of, size_of};
 use crate::vocabulary::truth;
 use std::alloc::Global;
 use tt_calls::Outcome;
-use tt_lists::{count_text, join_list};
+use tt_lists::count_text;
 use tt_store::Store;
 use tt_text::{NoMemory, Text, Texts};
+use tt_value::Value;
 
 /// `array exists`.
 pub(crate) fn exists(
@@ -94,8 +95,8 @@ fn tell_names(
 {
     let indices = indices_of(alloc, store, name)?;
     let like = names_like(alloc, pattern, indices)?;
-    let list = join_list(alloc, like.as_slice())?;
-    Ok(Outcome::fine(alloc, list))
+    let list = Value::from_items(like.into_vec())?;
+    Ok(Outcome::with_result(alloc, list))
 }
 
 /// `array get`.
@@ -125,8 +126,8 @@ fn tell_pairs(
     let indices = indices_of(alloc, store, name)?;
     let like = names_like(alloc, pattern, indices)?;
     let items = pairs_of(alloc, store, name, like.as_slice())?;
-    let list = join_list(alloc, items.as_slice())?;
-    Ok(Outcome::fine(alloc, list))
+    let list = Value::from_items(items.into_vec())?;
+    Ok(Outcome::with_result(alloc, list))
 }
 
 fn pairs_of(alloc: Global, store: &Store, name: &Text, indices: &[Text]) -> Result<Texts, NoMemory>

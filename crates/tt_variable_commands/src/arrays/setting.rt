@@ -11,6 +11,7 @@ use tt_calls::{Code, Outcome};
 use tt_lists::{Split, split};
 use tt_store::{Store, outcome_by};
 use tt_text::{NoMemory, Text};
+use tt_value::Value;
 
 /// `array set`.
 pub(crate) fn set(
@@ -63,7 +64,7 @@ fn set_pairs(
     if element {
         return set_none(alloc, name, items);
     }
-    let message = set_each(store, name, items)?;
+    let message = set_each(alloc, store, name, items)?;
     let outcome = outcome_by(alloc, message)?;
     Ok(outcome)
 }
@@ -78,13 +79,18 @@ fn set_none(alloc: Global, name: &Text, items: &[Text]) -> Result<Outcome, NoMem
 }
 
 // The message, if an element can't be set.
-fn set_each(store: &mut Store, name: &Text, items: &[Text]) -> Result<Option<Text>, NoMemory>
+fn set_each(
+    alloc: Global,
+    store: &mut Store,
+    name: &Text,
+    items: &[Text],
+) -> Result<Option<Text>, NoMemory>
     ensures { IfOk result (λ message.
         changing.SetsEach name.now (changing.pairs_in items.now) store.old message store.new) }
 {
     let mut left = items;
     'pairs: while let Some((index, text, later)) = first_pair(left) {
-        if let Some(message) = set_one(store, name, index, text)? {
+        if let Some(message) = set_one(alloc, store, name, index, text)? {
             return Ok(Some(message));
         }
         left = later;
@@ -93,6 +99,7 @@ fn set_each(store: &mut Store, name: &Text, items: &[Text]) -> Result<Option<Tex
 }
 
 fn set_one(
+    alloc: Global,
     store: &mut Store,
     name: &Text,
     index: &Text,
@@ -100,17 +107,17 @@ fn set_one(
 ) -> Result<Option<Text>, NoMemory>
     ensures { IfOk result (λ message. changing.SetsOne name.now index.now text.now store.old message store.new) }
 {
-    let text = text.copy()?;
-    let outcome = store.write(name.as_bytes(), Some(index.as_bytes()), text)?;
-    Ok(message_of(outcome))
+    let value = Value::from_text(text.copy()?);
+    let outcome = store.write(name.as_bytes(), Some(index.as_bytes()), value)?;
+    message_of(alloc, outcome)
 }
 
-fn message_of(outcome: Outcome) -> Option<Text>
-    ensures { result ≡ changing.message_by outcome.code outcome.value }
+fn message_of(alloc: Global, outcome: Outcome) -> Result<Option<Text>, NoMemory>
+    ensures { IfOk result (λ message. message ≡ changing.message_by outcome.code outcome.value) }
 {
     match outcome.code {
-        Code::Failed => Some(outcome.value),
-        _ => None,
+        Code::Failed => Ok(Some(outcome.value.into_text(alloc)?)),
+        _ => Ok(None),
     }
 }
 

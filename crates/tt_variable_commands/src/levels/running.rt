@@ -17,18 +17,19 @@ use tt_outcomes::Body;
 use tt_script::plain_name;
 use tt_store::{Answer, Store};
 use tt_text::{NoMemory, Text};
+use tt_value::{Value, texts_of};
 
 /// Runs a whole command, its name first: `global`, `upvar`, `uplevel`, or `info` but for its subcommand `procs`;
 /// `Other` if it is none of them, and then nothing has changed.
 ///
 /// After `Body` what is begun is ended by `Store::leave`. `NoMemory` if memory is refused.
-pub fn run(alloc: Global, store: &mut Store, words: &[Text]) -> Result<Answer, NoMemory>
+pub fn run(alloc: Global, store: &mut Store, words: &[Value]) -> Result<Answer, NoMemory>
     ensures runs { IfOk result (λ answer. table.Runs words.now store.old answer store.new) }
 {
     match words {
         [word, words @ ..] => {
-            let name = Text::from_bytes(alloc, plain_name(word.as_bytes()))?;
-            run_command(alloc, store, command_of(name.as_bytes()), words)
+            let word = word.to_text(alloc)?;
+            run_command(alloc, store, command_of(plain_name(word.as_bytes())), words)
         }
         [] => Ok(Answer::Other),
     }
@@ -38,12 +39,15 @@ fn run_command(
     alloc: Global,
     store: &mut Store,
     command: Option<Command>,
-    words: &[Text],
+    words: &[Value],
 ) -> Result<Answer, NoMemory>
     ensures { IfOk result (λ answer. table.IsCommand command words.now store.old answer store.new) }
 {
     match command {
-        Some(command) => run_row(alloc, store, command, words),
+        Some(command) => {
+            let words = texts_of(alloc, words)?;
+            run_row(alloc, store, command, words.as_slice())
+        }
         None => Ok(Answer::Other),
     }
 }

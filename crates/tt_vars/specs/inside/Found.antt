@@ -53,11 +53,11 @@ put_by frame place (Some variable) element text = set_value_at frame place (put_
 abbrev pub put_at : Frame → Found → List ℕ → Frame
 put_at frame found text = put_by frame found.variable (slice_get (values_of frame) found.variable) found.element text
 
--- a variable, elements or a frame after a value in them grew: with the longer text, if one was made
-abbrev pub after_growing : {X : Type 0} → (put : List ℕ → X) → (old : X) → Option ListAnswer → X
-after_growing put old (Some (Made text)) = put text
-after_growing put old (Some (Bad message)) = old
-after_growing put old None = old
+-- a variable, elements or a frame after a value in them was changed: with the text, if one was made
+abbrev pub after_change : {X : Type 0} → (put : List ℕ → X) → (old : X) → Option ListAnswer → X
+after_change put old (Some (Made text)) = put text
+after_change put old (Some (Bad message)) = old
+after_change put old None = old
 
 -- an array without the element at a place
 abbrev pub without_at : Variable → ℕ → Variable

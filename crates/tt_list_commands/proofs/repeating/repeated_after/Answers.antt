@@ -13,5 +13,5 @@ pub returns : goal.returns
 returns c =
     let cut : IsCut c.args.values.now c.in_ok-first.first c.in_ok-again.again =
     record { some = c.requires.some; begins = c.in_ok-first.ensures.canonical; adds = c.in_ok-again.ensures } in
-    short_list c.args.later c.args.values.now c.in_ok-first.first c.in_ok-again.again c.in_ok-text.text cut
-    (sym c.fits.ensures ∙ c.if-not-fits.false) c.in_ok-text.ensures
+    short_list c.args.later c.args.values.now c.in_ok-items.items c.in_ok-first.first c.in_ok-again.again cut
+    (sym c.fits.ensures ∙ c.if-not-fits.false) c.in_ok-items.ensures

@@ -1,0 +1,130 @@
+//! Commands that change a variable's value where it stands (append(n), lappend(n), incr(n)).
+ghost use Rattle.std.specs.Prelude.{◌≡◌, IfOk};
+ghost use Rattle.tt_store.specs.Listed as listed;
+ghost use Rattle.tt_store.specs.Scalars as scalars;
+ghost use Rattle.tt_store.specs.Spots.{spot_of};
+
+use crate::Store;
+use crate::increment::Increment;
+use crate::messages::cannot_read;
+use crate::spot::{Spot, spot_of};
+use tt_calls::Outcome;
+use tt_text::{NoMemory, Text};
+use tt_value::{Appending, Changing, Lengthening, Value, texts_of};
+use tt_vars::VarFault;
+
+impl Store {
+    pub(crate) fn append(&mut self, usage: &[u8], words: &[Value]) -> Result<Outcome, NoMemory>
+        ensures { IfOk result (λ outcome. scalars.append usage.now words.now self.old outcome self.new) }
+    {
+        match words {
+            [] => self.refuse(usage),
+            [word] => {
+                let word = word.to_text(self.alloc)?;
+                self.read_word(&word)
+            }
+            [word, values @ ..] => {
+                let word = word.to_text(self.alloc)?;
+                let texts = texts_of(self.alloc, values)?;
+                self.change(&word, b"", &Appending { texts })
+            }
+        }
+    }
+
+    pub(crate) fn lappend(&mut self, usage: &[u8], words: &[Value]) -> Result<Outcome, NoMemory>
+        ensures { IfOk result (λ outcome. listed.lappend usage.now words.now self.old outcome self.new) }
+    {
+        match words {
+            [] => self.refuse(usage),
+            [word, values @ ..] => {
+                let word = word.to_text(self.alloc)?;
+                let items = texts_of(self.alloc, values)?;
+                self.change(&word, b"", &Lengthening { items })
+            }
+        }
+    }
+
+    pub(crate) fn incr(&mut self, usage: &[u8], words: &[Value]) -> Result<Outcome, NoMemory>
+        ensures { IfOk result (λ outcome. scalars.incr usage.now words.now self.old outcome self.new) }
+    {
+        match words {
+            [word] => {
+                let word = word.to_text(self.alloc)?;
+                let step = Text::from_bytes(self.alloc, b"1")?;
+                self.change(&word, b"0", &Increment { step })
+            }
+            [word, step] => {
+                let word = word.to_text(self.alloc)?;
+                let step = step.to_text(self.alloc)?;
+                self.change(&word, b"0", &Increment { step })
+            }
+            _ => self.refuse(usage),
+        }
+    }
+
+    /// Changes the value of what a command's word names; a missing variable begins as this text. Answers the value, or
+    /// the error of reading or changing it; then no variable has changed.
+    ///
+    /// `NoMemory` if memory is refused.
+    pub fn change<C: Changing>(
+        &mut self,
+        word: &Text,
+        missing: &[u8],
+        changing: &C,
+    ) -> Result<Outcome, NoMemory>
+        ensures changed { IfOk result (λ outcome.
+            scalars.Changes word.now missing.now (C.meaning changing.now) self.old outcome self.new) }
+    {
+        let spot = spot_of(self.alloc, word.as_bytes())?;
+        let outcome = self.change_at(word, &spot, missing, changing)?;
+        Ok(outcome)
+    }
+
+    // The same, if the spot is that of the word.
+    fn change_at<C: Changing>(
+        &mut self,
+        word: &Text,
+        spot: &Spot,
+        missing: &[u8],
+        changing: &C,
+    ) -> Result<Outcome, NoMemory>
+        requires { spot.now ≡ spot_of word.now }
+        ensures { IfOk result (λ outcome.
+            scalars.Changes word.now missing.now (C.meaning changing.now) self.old outcome self.new) }
+    {
+        match self.nesting.change(spot, changing)? {
+            Ok(made) => match made.into_result() {
+                Ok(value) => {
+                    self.mark_written(spot);
+                    Ok(Outcome::with_result(self.alloc, value))
+                }
+                Err(message) => Outcome::failed(message),
+            },
+            Err(VarFault::NoSuchVariable | VarFault::NoSuchElement) => {
+                self.begin_changed(word, missing, changing)
+            }
+            Err(fault) => {
+                let message = cannot_read(self.alloc, word.as_bytes(), fault)?;
+                Outcome::failed(message)
+            }
+        }
+    }
+
+    // A variable begins as what this text becomes.
+    fn begin_changed<C: Changing>(
+        &mut self,
+        word: &Text,
+        missing: &[u8],
+        changing: &C,
+    ) -> Result<Outcome, NoMemory>
+        ensures { IfOk result (λ outcome.
+            scalars.GivesMade word.now (C.meaning changing.now missing.now) self.old outcome self.new) }
+    {
+        let mut value = Value::from_text(Text::from_bytes(self.alloc, missing)?);
+        let made = changing.change(self.alloc, &mut value)?;
+        match made.into_result() {
+            Ok(_) => self.give(word, value),
+            Err(message) => Outcome::failed(message),
+        }
+    }
+}
