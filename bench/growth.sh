@@ -5,8 +5,9 @@
 # the least of RUNS runs; the start of the process is taken off.
 #
 # It ends with 1 if a row grows more than twice as fast as tclsh's. A row that is known to do so is marked `later`, and
-# doesn't count: lists wait for words of commands that are values, and `string length` for texts that know that each
-# character is one byte.
+# doesn't count: lists wait for words of commands that are values, `string length` for texts that know that each
+# character is one byte, elements that are unset for gaps that stay, and `tsv::lpop` for values that give up an item in
+# place.
 # Usage: bench/growth.sh [N] [RUNS]
 set -euo pipefail
 shopt -s inherit_errexit
@@ -33,10 +34,10 @@ later string length|set s [string repeat abc N]; for {set i 0} {$i < N} {incr i}
 string range|set s [string repeat abc N]; for {set i 0} {$i < N} {incr i} {string range $s $i $i}
 elements set|for {set i 0} {$i < N} {incr i} {set a($i) $i}
 elements read|for {set i 0} {$i < N} {incr i} {set a($i) $i}; for {set i 0} {$i < N} {incr i} {set a($i)}
-elements unset|for {set i 0} {$i < N} {incr i} {set a($i) $i}; for {set i 0} {$i < N} {incr i} {unset a($i)}
+later elements unset|for {set i 0} {$i < N} {incr i} {set a($i) $i}; for {set i 0} {$i < N} {incr i} {unset a($i)}
 tsv::lappend|for {set i 0} {$i < N/4} {incr i} {tsv::lappend t l $i}
 tsv::lindex|tsv::set t l [lrepeat N abc]; for {set i 0} {$i < N} {incr i} {tsv::lindex t l $i}
-tsv::lpop|tsv::set t l [lrepeat [expr {N / 10}] abc]; for {set i 0} {$i < N/10} {incr i} {tsv::lpop t l}
+later tsv::lpop|tsv::set t l [lrepeat [expr {N / 10}] abc]; for {set i 0} {$i < N/10} {incr i} {tsv::lpop t l}
 lsearch over names|set l {}; for {set i 0} {$i < N} {incr i} {lappend l name$i}; for {set i 0} {$i < 100} {incr i} {lsearch -exact $l name[expr {N - 1}]}
 variables by name|for {set i 0} {$i < N} {incr i} {set v$i $i}; for {set i 0} {$i < N} {incr i} {set v$i}
 append of a text to itself|set s abc; while {[string length $s] < 1000 * N} {append s $s}
