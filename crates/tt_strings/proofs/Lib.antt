@@ -3,6 +3,7 @@ pub mod Cuts
 pub mod EndCuts
 pub mod Fields
 pub mod Keys
+pub mod Narrow
 pub mod Pairs
 pub mod Ranges
 pub mod Searches

@@ -1,9 +1,9 @@
 //! Characters by their places.
-ghost use Rattle.std.specs.Prelude.{◌≡◌, length, take, drop, min};
+ghost use Rattle.std.specs.Prelude.{◌≡◌, length, take, drop, min, IsTrue};
 ghost use Rattle.tt_text.specs.Characters.{characters};
 ghost use Rattle.tt_strings.specs.Places.{character_at, bytes_of, places_before, places_through, range};
 
-use tt_text::split_character;
+use tt_text::{char_count, split_character};
 
 /// The character at a place (string(n), string index): empty if the text has no such place.
 ///
@@ -62,8 +62,27 @@ pub fn leading(text: &[u8], count: usize) -> &[u8]
     &text[..text.len() - rest.len()]
 }
 
-// The text after its first characters, so many.
-fn after(mut text: &[u8], mut count: usize) -> &[u8]
+// The text after its first characters, so many. If each is one byte, no character is looked at.
+#[tactic(auto, using(crate::proofs::Narrow::narrow_rest))]
+fn after(text: &[u8], count: usize) -> &[u8]
+    ensures { characters result.now ≡ drop count (characters text.now) }
+{
+    if is_narrow(text) {
+        let (_, rest) = text.split_at(count.min(text.len()));
+        return rest;
+    }
+    after_each(text, count)
+}
+
+// Whether each of its characters is one byte.
+fn is_narrow(text: &[u8]) -> bool
+    ensures { IsTrue result → length (characters text.now) ≡ length text.now }
+{
+    char_count(text) == text.len()
+}
+
+// The text after its first characters, so many, one after another.
+fn after_each(mut text: &[u8], mut count: usize) -> &[u8]
     ensures { characters result.now ≡ drop count (characters text.entry.now) }
 {
     while count > 0 {

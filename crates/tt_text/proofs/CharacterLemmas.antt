@@ -4,6 +4,7 @@ use Rattle.std.specs.Prelude.{take_while, count_by}
 use Rattle.std.specs.List.{prefix_len}
 use Rattle.std.proofs.lemmas.List.Folds.{length-prefix_len}
 use Rattle.std.proofs.lemmas.List.Sums.{sum_by-cons}
+use Rattle.tt_lanes.specs.Classes.{character_count}
 use Rattle.tt_text.specs.Characters.{CharacterLaws, IsCutInto, Character, characters, begin_with, continues_character, begins_character}
 
 joins : (b next : ℕ) (more : List ℕ) (characters : List Character) → continues_character next ≡ true
@@ -63,8 +64,10 @@ count_characters b (c ∷ text) =
     ∙ either (continues_character c) (count_by begins_character text)
     ∙ ap (λ n. 1 + n) (sym (sum_by-cons (λ x. cond (begins_character x) 1 0) c text))
 
-pub count_of_text : (b n : ℕ) (text rest : List ℕ) → text ≡ b ∷ rest → n ≡ count_by begins_character rest → 1 + n ≡ length (characters text)
-count_of_text b n text rest e counted = ap (λ k. 1 + k) counted ∙ sym (count_characters b rest) ∙ sym (ap (λ t. length (characters t)) e)
+-- what the lanes count is how many characters there are
+pub by_lanes : (text : List ℕ) → character_count text ≡ length (characters text)
+by_lanes [] = refl
+by_lanes (b ∷ text) = sym (count_characters b text)
 
 -- one byte more before a text that is cut into characters
 

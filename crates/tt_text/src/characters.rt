@@ -1,23 +1,16 @@
-ghost use Rattle.std.specs.Prelude.{◌≡◌, ◌+◌, ◌∷◌, ◌<◌, [], length, MatchOption, IfSome, take_while, count_by};
+ghost use Rattle.std.specs.Prelude.{◌≡◌, ◌+◌, ◌∷◌, ◌<◌, [], length, MatchOption, IfSome, take_while};
 ghost use Rattle.std.specs.Prelude.{bytes_eq};
-ghost use Rattle.tt_text.specs.Characters.{characters, continues_character, begins_character};
+ghost use Rattle.tt_text.specs.Characters.{characters, continues_character};
+
+use tt_lanes::count_chars;
 
 /// How many characters the text has (string(n), string length): one for its first byte, and one
-/// for each later byte outside 0x80 to 0xBF.
+/// for each later byte outside 0x80 to 0xBF. Many bytes are looked at at once.
+#[tactic(auto, using(crate::proofs::CharacterLemmas::by_lanes))]
 pub fn char_count(text: &[u8]) -> usize
     ensures { result ≡ length (characters text.now) }
 {
-    match text.split_first() {
-        None => 0,
-        Some((_, rest)) => 1 + beginning(rest),
-    }
-}
-
-// How many bytes begin a character.
-fn beginning(text: &[u8]) -> usize
-    ensures { result ≡ count_by begins_character text.now }
-{
-    text.iter().filter(|b| !continues_character(**b)).count()
+    count_chars(text)
 }
 
 /// The first character, and the text after it (string(n), string index); `None` if the text is empty.

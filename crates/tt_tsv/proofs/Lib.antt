@@ -1,2 +1,4 @@
+pub mod Changing
 pub mod Filling
 pub mod HeldLaw
+pub mod ListAnswers

@@ -1,15 +1,18 @@
 ghost use Rattle.std.specs.Prelude.{◌≡◌, IfOk, OnOk};
 ghost use Rattle.tt_tsv.specs.Calls.{act, changes, changes_by, holds, moves, run, run_asked, step_after, table_after};
 ghost use Rattle.tt_tsv.specs.Calls.{unholds};
+ghost use Rattle.tt_tsv.specs.Elements.{change_of_missing, missing_as};
+ghost use Rattle.tt_tsv.specs.inside.Changed.{reply_of, table_ended};
 ghost use Rattle.tt_tsv.specs.Words.{asked_of};
 
 use crate::Arrays;
-use crate::change::{Change, change_if};
+use crate::change::{Change, change_of, missing_as};
 use crate::telling::{empty, exists, found, list_reply, missing, names_reply, not_asked, truth};
 use crate::usage::{ElementUsage, Usage};
 use crate::words::asked;
 use tt_calls::{Reply, Step, TsvCall};
 use tt_text::{NoMemory, Text};
+use tt_value::Value;
 
 impl Arrays {
     /// What a call of a thread on shared variables does, and its reply; `Wait` exactly if it has to wait, and then
@@ -86,6 +89,7 @@ impl Arrays {
         }
     }
 
+    #[tactic(auto, using(crate::proofs::Changing::table_there, crate::proofs::Changing::reply_there, crate::proofs::Changing::missing_there))]
     fn element_call(
         &mut self,
         usage: ElementUsage,
@@ -96,7 +100,45 @@ impl Arrays {
         ensures table { OnOk result (self.new ≡ (changes_by self.old usage name.now key.now words.now).table) }
         ensures reply { IfOk result (λ reply. reply ≡ (changes_by self.old usage name.now key.now words.now).reply) }
     {
-        let change = change_if(self.alloc, name, key, usage, words, self.element(name, key))?;
+        match self.change_there(name, key, usage, words)? {
+            Some(change) => Ok(self.end_change(name, key, change)),
+            None => self.change_missing(usage, name, key, words),
+        }
+    }
+
+    // After an element was changed where it stood.
+    fn end_change(&mut self, name: &Text, key: &Text, change: Change) -> Reply
+        ensures table { self.new ≡ table_ended self.old name.now key.now change }
+        ensures reply { result ≡ reply_of change }
+    {
+        match change {
+            Change::Kept(answer) => list_reply(answer),
+            Change::Put(_, answer) => Reply::Value(answer),
+            Change::Removed(answer) => {
+                self.remove(name, key);
+                Reply::Value(answer)
+            }
+        }
+    }
+
+    fn change_missing(
+        &mut self,
+        usage: ElementUsage,
+        name: &Text,
+        key: &Text,
+        words: &[Text],
+    ) -> Result<Reply, NoMemory>
+        ensures table { OnOk result (self.new ≡ (changes self.old name.now key.now
+            (change_of_missing name.now key.now usage words.now (missing_as usage))).table) }
+        ensures reply { IfOk result (λ reply. reply ≡ (changes self.old name.now key.now
+            (change_of_missing name.now key.now usage words.now (missing_as usage))).reply) }
+    {
+        let Some(text) = missing_as(usage) else {
+            return missing(self.alloc, name, key);
+        };
+        let text = Text::from_bytes(self.alloc, text)?;
+        let mut value = Value::from_text(text);
+        let change = change_of(self.alloc, usage, &mut value, words)?;
         self.change(name, key, change)
     }
 

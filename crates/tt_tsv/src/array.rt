@@ -1,12 +1,19 @@
-ghost use Rattle.std.specs.Prelude.{◌≡◌, OnOk, Some};
+ghost use Rattle.std.specs.Prelude.{◌≡◌, IfOk, OnOk, Some, bytes_eq};
+ghost use Rattle.std.specs.Map.{lookup};
+ghost use Rattle.std.specs.Option.{option_map};
 ghost use Rattle.tt_tsv.specs.Calls.{is_held_by_other};
 ghost use Rattle.tt_tsv.specs.Arrays.{added, emptied, held, is_held, is_held_by, let_go, new_array, with_element};
-ghost use Rattle.tt_tsv.specs.Arrays.{without_element};
+ghost use Rattle.tt_tsv.specs.Arrays.{with_elements, without_element};
+ghost use Rattle.tt_tsv.specs.Elements.{change_of};
+ghost use Rattle.tt_tsv.specs.inside.Changed.{elements_left};
 
 use crate::Elements;
+use crate::change::Change;
+use crate::usage::ElementUsage;
 use std::alloc::Global;
 use tt_ids::number_after;
 use tt_text::{NoMemory, Text};
+use tt_value::Value;
 
 /// A shared array.
 #[derive(Debug, Drop)]
@@ -71,10 +78,25 @@ impl Array {
         }
     }
 
-    pub(crate) fn put(&mut self, key: &Text, value: Text) -> Result<(), NoMemory>
+    pub(crate) fn put(&mut self, key: &Text, value: Value) -> Result<(), NoMemory>
         ensures { OnOk result (self.new ≡ with_element key.now value self.old) }
     {
         self.elements.put(key.copy()?, value)
+    }
+
+    /// Changes an element where it stands; `None` if there is no such element.
+    pub(crate) fn change(
+        &mut self,
+        key: &Text,
+        usage: ElementUsage,
+        words: &[Text],
+    ) -> Result<Option<Change>, NoMemory>
+        ensures change { IfOk result (λ change. change ≡ option_map (λ value. change_of usage value words.now)
+            (lookup (bytes_eq key.now) self.old.elements)) }
+        ensures left { IfOk result (λ change.
+            self.new ≡ with_elements self.old (elements_left key.now change self.old.elements)) }
+    {
+        self.elements.change(key, usage, words)
     }
 
     pub(crate) fn remove(&mut self, key: &Text)

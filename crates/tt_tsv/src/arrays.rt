@@ -5,14 +5,19 @@ ghost use Rattle.indexmap.specs.IndexMap.{insert_entry};
 ghost use Rattle.tt_tsv.specs.Calls.{is_held_by_other, is_own, unsets, waits};
 ghost use Rattle.tt_tsv.specs.Arrays.{added, array_of, changed, element_of, emptied, held, is_held, let_go, with_array};
 ghost use Rattle.tt_tsv.specs.Arrays.{with_element, without_array, without_element};
+ghost use Rattle.tt_tsv.specs.Elements.{change_of};
+ghost use Rattle.tt_tsv.specs.inside.Changed.{table_left};
 
 use crate::Array;
+use crate::change::Change;
+use crate::usage::ElementUsage;
 use crate::words::array_in;
 use indexmap::IndexMap;
 use std::alloc::Global;
 use std::marker::Model;
 use tt_calls::TsvCall;
 use tt_text::{NoMemory, Text, Texts};
+use tt_value::Value;
 
 /// The shared arrays. Contracts see the list of them, each under its name, in the order in which they were made.
 #[derive(Debug, Drop)]
@@ -72,7 +77,7 @@ impl Arrays {
         self.arrays.get(name)
     }
 
-    pub(crate) fn element(&self, name: &Text, key: &Text) -> Option<&Text>
+    pub(crate) fn element(&self, name: &Text, key: &Text) -> Option<&Value>
         ensures { option_copied result ≡ element_of self.now name.now key.now }
     {
         match self.find(name) {
@@ -100,7 +105,7 @@ impl Arrays {
     }
 
     // Gives an element this value; a missing array is made.
-    pub(crate) fn put(&mut self, name: &Text, key: &Text, value: Text) -> Result<(), NoMemory>
+    pub(crate) fn put(&mut self, name: &Text, key: &Text, value: Value) -> Result<(), NoMemory>
         ensures { OnOk result (self.new ≡ with_array (with_element key.now value) self.old name.now) }
     {
         match self.arrays.get_mut(name) {
@@ -110,6 +115,25 @@ impl Arrays {
                 array.put(key, value)?;
                 self.add(name, array)
             }
+        }
+    }
+
+    // Changes an element where it stands; `None` if there is no such element.
+    #[tactic(auto, using(crate::proofs::Changing::in_table, crate::proofs::Changing::of_array, crate::proofs::Changing::of_none))]
+    pub(crate) fn change_there(
+        &mut self,
+        name: &Text,
+        key: &Text,
+        usage: ElementUsage,
+        words: &[Text],
+    ) -> Result<Option<Change>, NoMemory>
+        ensures change { IfOk result (λ change. change ≡ option_map (λ value. change_of usage value words.now)
+            (element_of self.old name.now key.now)) }
+        ensures left { IfOk result (λ change. self.new ≡ table_left self.old name.now key.now change) }
+    {
+        match self.arrays.get_mut(name) {
+            Some(array) => array.change(key, usage, words),
+            None => Ok(None),
         }
     }
 

@@ -4,19 +4,24 @@ ghost use Rattle.std.specs.Option.{option_copied, option_map};
 ghost use Rattle.indexmap.specs.IndexMap.{insert_entry};
 ghost use Rattle.tt_tsv.specs.Calls.{pairs_like};
 ghost use Rattle.tt_tsv.specs.Arrays.{filled};
+ghost use Rattle.tt_tsv.specs.Elements.{change_of};
+ghost use Rattle.tt_tsv.specs.inside.Changed.{elements_left};
 ghost use Rattle.tt_tsv.specs.inside.Pairs.{first_pair};
 
+use crate::change::{Change, change_of};
 use crate::telling::is_like;
+use crate::usage::ElementUsage;
 use indexmap::IndexMap;
 use std::alloc::Global;
 use std::marker::Model;
 use tt_text::{NoMemory, Text, Texts};
+use tt_value::Value;
 
-/// The elements of an array, in the order of their first insertion. Contracts see the list of pairs of a key and a
-/// value.
+/// The elements of an array, in the order of their first insertion. A value keeps what it was read as. Contracts see the
+/// list of pairs of a key and a value's text.
 #[derive(Debug, Drop)]
 pub struct Elements {
-    map: IndexMap<Text, Text>,
+    map: IndexMap<Text, Value>,
 }
 
 impl Model for Elements {
@@ -38,18 +43,38 @@ impl Elements {
     }
 
     /// The value of a key.
-    pub(crate) fn get(&self, key: &Text) -> Option<&Text>
+    pub(crate) fn get(&self, key: &Text) -> Option<&Value>
         ensures { option_copied result ≡ lookup (bytes_eq key.now) self.now }
     {
         self.map.get(key)
     }
 
     /// Gives a key this value. A key that is there keeps its place, and a new one goes last.
-    pub(crate) fn put(&mut self, key: Text, value: Text) -> Result<(), NoMemory>
+    pub(crate) fn put(&mut self, key: Text, value: Value) -> Result<(), NoMemory>
         ensures { OnOk result (self.new ≡ insert_entry bytes_eq self.old key value) }
     {
         self.map.insert(key, value)?;
         Ok(())
+    }
+
+    /// Changes the value of a key where it stands; `None` if there is no such key.
+    #[tactic(auto, using(crate::proofs::Changing::in_elements))]
+    pub(crate) fn change(
+        &mut self,
+        key: &Text,
+        usage: ElementUsage,
+        words: &[Text],
+    ) -> Result<Option<Change>, NoMemory>
+        ensures change { IfOk result (λ change.
+            change ≡ option_map (λ value. change_of usage value words.now) (lookup (bytes_eq key.now) self.old)) }
+        ensures left { IfOk result (λ change. self.new ≡ elements_left key.now change self.old) }
+    {
+        let alloc = *self.map.allocator();
+        let Some(value) = self.map.get_mut(key) else {
+            return Ok(None);
+        };
+        let change = change_of(alloc, usage, value, words)?;
+        Ok(Some(change))
     }
 
     /// Takes out the element of a key; those after it move up.
@@ -81,11 +106,12 @@ impl Elements {
     pub(crate) fn pairs_like(&self, pattern: &[Text]) -> Result<Texts, NoMemory>
         ensures { IfOk result (λ pairs. pairs ≡ pairs_like pattern.now self.now) }
     {
-        let mut pairs = Texts::new(*self.map.allocator());
+        let alloc = *self.map.allocator();
+        let mut pairs = Texts::new(alloc);
         for (key, value) in &self.map {
             if is_like(pattern, key.as_bytes()) {
                 pairs.push(key.copy()?)?;
-                pairs.push(value.copy()?)?;
+                pairs.push(value.to_text(alloc)?)?;
             }
         }
         Ok(pairs)
@@ -98,7 +124,7 @@ impl Elements {
     {
         let mut left = items;
         'pairs: while let Some((key, value, later)) = first_pair(left) {
-            self.put(key.copy()?, value.copy()?)?;
+            self.put(key.copy()?, Value::from_text(value.copy()?))?;
             left = later;
         }
         Ok(())

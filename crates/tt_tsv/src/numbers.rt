@@ -6,30 +6,51 @@ ghost use Rattle.tt_number.specs.Numerals.{whole_of};
 ghost use Rattle.tt_number.specs.Operators.{binary_of};
 ghost use Rattle.tt_number.specs.declared.operators.NumOp.TheVariants.{Add};
 ghost use Rattle.tt_tsv.specs.Elements.{increments, incremented, stepped, sum_told};
+ghost use Rattle.tt_tsv.specs.Elements as table;
+ghost use Rattle.tt_tsv.specs.inside.Changed.{left_by};
 
 use crate::change::{Change, not_asked, puts};
 use std::alloc::Global;
 use tt_lists::ListAnswer;
 use tt_number::{NumOp, NumberFault, binary, read_whole, whole_text};
 use tt_text::{NoMemory, Text};
+use tt_value::Value;
 
 /// The value and the step, which is 1 if no word says it.
-pub(crate) fn increment(alloc: Global, value: &[u8], words: &[Text]) -> Result<Change, NoMemory>
-    ensures { IfOk result (λ change. change ≡ increments value.now words.now) }
+pub(crate) fn increment(
+    alloc: Global,
+    value: &mut Value,
+    words: &[Text],
+) -> Result<Change, NoMemory>
+    ensures change { IfOk result (λ change. change ≡ increments value.old words.now) }
+    ensures value { IfOk result (λ change. value.new ≡ left_by change value.old) }
 {
     match words {
-        [] => puts(incremented(alloc, value, b"1")?),
-        [step] => puts(incremented(alloc, value, step.as_bytes())?),
+        [] => increment_by(alloc, value, b"1"),
+        [step] => increment_by(alloc, value, step.as_bytes()),
         _ => not_asked(alloc),
     }
 }
 
-fn incremented(alloc: Global, value: &[u8], step: &[u8]) -> Result<ListAnswer, NoMemory>
-    ensures { IfOk result (λ answer. answer ≡ incremented value.now step.now (whole_of value.now)) }
+fn increment_by(alloc: Global, value: &mut Value, step: &[u8]) -> Result<Change, NoMemory>
+    ensures change { IfOk result (λ change.
+        change ≡ table.puts (incremented value.old step.now (whole_of value.old))) }
+    ensures value { IfOk result (λ change. value.new ≡ left_by change value.old) }
 {
-    match read_whole(value) {
+    let answer = incremented(alloc, value, step)?;
+    puts(value, answer)
+}
+
+fn incremented(alloc: Global, value: &mut Value, step: &[u8]) -> Result<ListAnswer, NoMemory>
+    ensures answer { IfOk result (λ answer. answer ≡ incremented value.old step.now (whole_of value.old)) }
+    ensures same { value.new ≡ value.old }
+{
+    match value.whole(alloc)? {
         Ok(number) => stepped(alloc, number, step),
-        Err(fault) => no_number(alloc, fault, value),
+        Err(fault) => {
+            let text = value.to_text(alloc)?;
+            no_number(alloc, fault, text.as_bytes())
+        }
     }
 }
 

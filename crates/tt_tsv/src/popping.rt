@@ -3,15 +3,18 @@ ghost use Rattle.std.specs.Prelude.{◌≡◌, ◌<◌, length, IfOk, IfSome};
 ghost use Rattle.std.specs.Option.{ForSome};
 ghost use Rattle.tt_lists.specs.Reading.{split_of};
 ghost use Rattle.tt_tsv.specs.Elements.{place_within, pops, pops_among, pops_at, pops_of};
+ghost use Rattle.tt_tsv.specs.inside.Changed.{left_by};
 
 use crate::change::{Change, not_asked};
 use std::alloc::Global;
-use tt_lists::{ListAnswer, Split, bad_index, index, join_list, split};
-use tt_text::{NoMemory, Text, Texts};
+use tt_lists::{ListAnswer, bad_index, index};
+use tt_text::{NoMemory, Text};
+use tt_value::Value;
 
 /// The first item, or that of an index; outside the list none.
-pub(crate) fn pop(alloc: Global, value: &[u8], words: &[Text]) -> Result<Change, NoMemory>
-    ensures { IfOk result (λ change. change ≡ pops value.now words.now) }
+pub(crate) fn pop(alloc: Global, value: &mut Value, words: &[Text]) -> Result<Change, NoMemory>
+    ensures change { IfOk result (λ change. change ≡ pops value.old words.now) }
+    ensures value { IfOk result (λ change. value.new ≡ left_by change value.old) }
 {
     match words {
         [] => pop_of(alloc, value, b"0"),
@@ -20,28 +23,35 @@ pub(crate) fn pop(alloc: Global, value: &[u8], words: &[Text]) -> Result<Change,
     }
 }
 
-fn pop_of(alloc: Global, value: &[u8], word: &[u8]) -> Result<Change, NoMemory>
-    ensures { IfOk result (λ change. change ≡ pops_of (split_of value.now) word.now) }
+#[tactic(auto, using(crate::proofs::ListAnswers::is_split, crate::proofs::ListAnswers::is_no_list))]
+fn pop_of(alloc: Global, value: &mut Value, word: &[u8]) -> Result<Change, NoMemory>
+    ensures change { IfOk result (λ change. change ≡ pops_of (split_of value.old) word.now) }
+    ensures value { IfOk result (λ change. value.new ≡ left_by change value.old) }
 {
-    match split(alloc, value)? {
-        Split::Items(items) => pop_among(alloc, items, word),
-        Split::Bad(fault) => {
+    match value.items(alloc)? {
+        Ok(items) => pop_among(alloc, value, items.as_slice(), word),
+        Err(fault) => {
             let message = fault.message(alloc)?;
             Ok(Change::Kept(ListAnswer::Bad(message)))
         }
     }
 }
 
-fn pop_among(alloc: Global, items: Texts, word: &[u8]) -> Result<Change, NoMemory>
-    ensures { IfOk result (λ change. change ≡ pops_among items word.now) }
+fn pop_among(
+    alloc: Global,
+    value: &mut Value,
+    items: &[Text],
+    word: &[u8],
+) -> Result<Change, NoMemory>
+    ensures change { IfOk result (λ change. change ≡ pops_among items.now word.now) }
+    ensures value { IfOk result (λ change. value.new ≡ left_by change value.old) }
 {
     let Some(index) = index(word) else {
         let message = bad_index(alloc, word)?;
         return Ok(Change::Kept(ListAnswer::Bad(message)));
     };
-    let count = items.as_slice().len();
-    let place = place_within(index.place(count), count);
-    pop_at(alloc, items, place)
+    let place = place_within(index.place(items.len()), items.len());
+    pop_at(alloc, value, items, place)
 }
 
 // A place, if it is one of so many.
@@ -56,15 +66,33 @@ fn place_within(place: i128, count: usize) -> Option<usize>
     }
 }
 
-fn pop_at(alloc: Global, items: Texts, place: Option<usize>) -> Result<Change, NoMemory>
-    requires { ForSome place (λ place. place < length items) }
-    ensures { IfOk result (λ change. change ≡ pops_at items place) }
+// The others are the value then, as a list whose text is made when it is asked for.
+fn pop_at(
+    alloc: Global,
+    value: &mut Value,
+    items: &[Text],
+    place: Option<usize>,
+) -> Result<Change, NoMemory>
+    requires { ForSome place (λ place. place < length items.now) }
+    ensures change { IfOk result (λ change. change ≡ pops_at items.now place) }
+    ensures value { IfOk result (λ change. value.new ≡ left_by change value.old) }
 {
     let Some(place) = place else {
         return Ok(Change::Kept(ListAnswer::Made(Text::new(alloc))));
     };
-    let mut left = items.into_vec();
-    let item = left.remove(place);
-    let list = join_list(alloc, left.as_slice())?;
-    Ok(Change::Put(list, item))
+    let mut others = copies(alloc, items)?;
+    let item = others.remove(place);
+    *value = Value::from_items(others)?;
+    Ok(Change::Put(value.copy()?, item))
+}
+
+fn copies(alloc: Global, items: &[Text]) -> Result<Vec<Text>, NoMemory>
+    ensures { IfOk result (λ copies. copies.items ≡ items.now) }
+{
+    let mut copies = Vec::new(alloc);
+    copies.reserve(items.len())?;
+    for item in items {
+        copies.push(item.copy()?)?;
+    }
+    Ok(copies)
 }

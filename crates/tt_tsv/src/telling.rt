@@ -79,11 +79,11 @@ pub(crate) fn truth(alloc: Global, is: bool) -> Result<Reply, NoMemory>
     Ok(Reply::Value(text))
 }
 
-pub(crate) fn found(alloc: Global, value: Option<&Text>) -> Result<Reply, NoMemory>
+pub(crate) fn found(alloc: Global, value: Option<&tt_value::Value>) -> Result<Reply, NoMemory>
     ensures { IfOk result (λ reply. reply ≡ answers.found (option_copied value.entry)) }
 {
     match value {
-        Some(value) => Ok(Reply::Found(true, value.copy()?)),
+        Some(value) => Ok(Reply::Found(true, value.to_text(alloc)?)),
         None => Ok(Reply::Found(false, Text::new(alloc))),
     }
 }
