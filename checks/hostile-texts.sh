@@ -1,0 +1,179 @@
+#!/usr/bin/env bash
+# Runs the program on scripts, schedules and input at their limits and past them, each in at most a minute and 1 GiB of
+# addresses (or as much as the line says). Prints the time and the memory of each; ends with an error if one ended
+# otherwise than the manual page and the definitions say. With WORD only those whose name has that word.
+# Usage: checks/hostile-texts.sh [WORD]
+set -euo pipefail
+cd "$(dirname "$0")/.."
+word=${1:-}
+folder=$(mktemp -d)
+trap 'rm -rf "$folder"' EXIT
+./tclthread --replay examples/hello.schedule examples/hello.tcl >/dev/null
+program=$PWD/crates/tclthread/out/tclthread
+cd "$folder"
+failed=0 gib=1
+: >empty
+: >input
+
+# Runs the program with the words after the third, on the file `input`: how it is named, the exit code that is wanted, and
+# how what it writes begins, standard output before standard error.
+check() {
+    local name=$1 wanted=$2 begins=$3 code=0 took
+    shift 3
+    case $name in *"$word"*) ;; *) return ;; esac
+    (ulimit -v $((gib << 20)) && exec timeout 60 /usr/bin/env time -f '%e s, %M KiB' -o took "$program" "$@") \
+        <input >out 2>err || code=$?
+    took=$(tail -n 1 took)
+    if [ "$code" -eq "$wanted" ] && [[ $(head -c 200 out)$(head -c 200 err) == "$begins"* ]]; then
+        echo "$name: as it has to be ($took)"
+    else
+        echo "$name: NOT as it has to be: code $code, $(head -c 100 out)$(head -c 200 err) ($took)"
+        failed=1
+    fi
+}
+
+# Prints a text in so many lines. That `yes` is cut off is no error.
+lines() {
+    { yes "$2" || true; } | head -n "$1"
+}
+
+# Prints a text so many times.
+times() {
+    lines "$1" "$2" | tr -d '\n'
+}
+
+# ---- schedules
+
+{ echo 'schedule 1' && lines 16777216 $'1 1\n2 1'; } >long
+check 'a schedule of 16,777,216 lines' 108 'tclthread: bad schedule at entry 2' --replay long empty
+echo '1 1' >>long
+check 'a schedule of one line more' 108 'tclthread: bad schedule at byte 67108875' --replay long empty
+{ echo 'schedule 1' && head -c 268435445 /dev/zero; } >bytes
+check 'a schedule of 268,435,456 bytes' 108 'tclthread: bad schedule at byte 11' --replay bytes empty
+printf x >>bytes
+check 'a schedule of one byte more' 104 'tclthread: read fault' --replay bytes empty
+check 'a script of 268,435,457 bytes' 104 'tclthread: read fault' bytes
+rm long bytes
+
+# ---- scripts of 16 MiB
+
+letters() { head -c "$1" /dev/zero | tr '\0' a; }
+
+{ printf 'puts [string length ' && letters 16777216 && printf ']'; } >script
+check 'a word of 16 MiB' 0 16777216 script
+{ printf 'set ' && letters 16777216 && printf ' 7; puts [llength [info procs]]'; } >script
+check 'a name of 16 MiB' 0 0 script
+{ printf 'puts [llength {' && times 8388608 'a ' && printf '}]'; } >script
+check 'a list of 16 MiB' 0 8388608 script
+{ printf 'puts [string length {' && times 8388608 '{' && times 8388608 '}' && printf '}]'; } >script
+check 'braces in braces of 16 MiB' 0 16777216 script
+{ printf 'puts ' && times 16777216 '{'; } >script
+check 'open braces of 16 MiB' 1 'missing close-brace' script
+{ printf 'puts ' && times 16777216 '['; } >script
+check 'open brackets of 16 MiB' 1 'nested too deeply' script
+{ printf 'puts "' && times 8388608 '[a'; } >script
+check 'open brackets in quotes of 16 MiB' 1 'nested too deeply' script
+{ printf 'puts [catch {expr {1' && times 8388608 '+1' && printf '}}]'; } >script
+check 'an expression of 16 MiB' 0 1 script
+{ printf 'puts [catch {expr {' && times 16777216 '(' && printf '}}]'; } >script
+# The reader of expressions keeps each open parenthesis, in some 110 bytes.
+gib=2 check 'open parentheses of 16 MiB' 0 1 script
+{ times 4194304 'a;;;'; } >script
+check 'a script of 16 MiB of commands that are not there' 1 'invalid command name "a"' script
+# shellcheck disable=SC2016
+{ times 8388608 '$a'; } >script
+check 'variables of 16 MiB' 1 "can't read \"a\"" script
+{ printf 'puts [string length "' && times 4194304 '\x41' && printf '"]'; } >script
+check 'backslash sequences of 16 MiB' 0 4194304 script
+{ times 16777215 '#' && printf '\nputs a'; } >script
+check 'a comment of 16 MiB' 0 a script
+
+# ---- texts that a script makes
+
+cat >script <<'TCL'
+set s [string repeat a 268435456]
+puts [string length $s]
+TCL
+check 'a text at its greatest length' 0 268435456 script
+cat >script <<'TCL'
+puts "[catch {string repeat a 268435457} e] $e"
+TCL
+check 'a text past its greatest length' 0 '1 result too long' script
+cat >script <<'TCL'
+set t [thread::create]
+puts [thread::send $t [list string length [string repeat a 50000000]]]
+TCL
+check 'a text of 50 MB in a send' 0 50000000 script
+cat >script <<'TCL'
+tsv::set a b [string repeat a 50000000]
+tsv::append a b c
+puts [string length [tsv::get a b]]
+TCL
+check 'a text of 50 MB that is shared' 0 50000001 script
+cat >script <<'TCL'
+lassign [chan pipe] r w
+puts -nonewline $w [string repeat a 100000000]
+close $w
+puts [string length [gets $r]]
+TCL
+check 'a text of 100 MB through a pipe, with no newline' 0 100000000 script
+cat >script <<'TCL'
+set x a
+for {set i 0} {$i < 10000} {incr i} {set x [list $x b]}
+puts [string length $x]
+TCL
+check '10,000 lists, each in the next' 0 39999 script
+cat >script <<'TCL'
+proc p0 {} {error oops}
+for {set i 1} {$i <= 300} {incr i} {proc p$i {} [list p[expr {$i - 1}]]}
+catch p300
+puts "[llength [split $errorInfo \n]] [string range $errorInfo 0 3]"
+TCL
+check 'a trace of 906 lines' 0 '906 oops' script
+
+# ---- threads, posts and jobs
+
+cat >script <<'TCL'
+for {set i 0} {$i < 999} {incr i} {lappend all [thread::create -joinable]}
+puts "[catch {thread::create} e] $e"
+foreach t $all {thread::release $t; thread::join $t}
+for {set i 0} {$i < 999} {incr i} {set last [thread::create]}
+puts "$last [catch {thread::create} e] $e"
+TCL
+check '999 threads, ended and made again' 0 $'1 too many threads\ntid1999 1 too many threads' script
+cat >script <<'TCL'
+for {set i 0} {$i < 99} {incr i} {thread::create}
+set p [tpool::create -minworkers 900 -maxworkers 900]
+puts "[catch {thread::create} e] $e"
+set j [tpool::post $p {expr 6 * 7}]
+tpool::wait $p $j
+puts [tpool::get $p $j]
+TCL
+check 'a pool of 900 workers beside 100 threads' 0 $'1 too many threads\n42' script
+cat >script <<'TCL'
+set me [thread::id]
+for {set i 0} {$i < 1000000} {incr i} {thread::send -async $me {incr n}}
+update
+puts $n
+TCL
+check 'a queue of 1,000,000 posts' 0 1000000 script
+
+# ---- input
+
+cat >script <<'TCL'
+puts [string length [gets stdin]]
+puts [string length [gets stdin]]
+TCL
+{ letters 16777216 && echo && echo b; } >input
+check 'a line of input of 16,777,216 bytes' 0 $'16777216\n1' script
+cat >script <<'TCL'
+puts "[catch {gets stdin} e] $e"
+TCL
+{ letters 16777217 && echo && echo b; } >input
+check 'a line of input of one byte more' 0 '1 line too long' script
+head -c 1000000 /dev/zero >input
+cat >script <<'TCL'
+puts [string length [gets stdin]]
+TCL
+check 'input of zero bytes' 0 1000000 script
+exit "$failed"
