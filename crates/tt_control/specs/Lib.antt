@@ -6,4 +6,3 @@ pub mod Evaluating
 pub mod Refusals
 pub mod Table
 pub mod Turns
-pub mod inside

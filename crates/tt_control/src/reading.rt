@@ -1,7 +1,6 @@
-ghost use Rattle.std.specs.Prelude.{◌≡◌, IfOk, IsTrue};
+ghost use Rattle.std.specs.Prelude.{◌≡◌, IfOk};
 ghost use Rattle.tt_control.specs.Refusals.{wrong_number};
 ghost use Rattle.tt_control.specs.Table as table;
-ghost use Rattle.tt_control.specs.inside.Words.{takes_texts};
 
 use crate::Control;
 use crate::branches::branch;
@@ -13,7 +12,7 @@ use crate::evaluating::{catch, expression, for_loop, while_loop};
 use crate::turns::foreach;
 use std::alloc::Global;
 use tt_script::plain_name;
-use tt_text::{NoMemory, Text};
+use tt_text::NoMemory;
 use tt_value::{Value, texts_of};
 
 /// What the words of a command mean, its name first. A leading `::` of the name is dropped.
@@ -41,37 +40,31 @@ fn by_command(
     ensures { IfOk result (λ control. control ≡ table.by_command command words.now) }
 {
     match command {
-        Some(Command::Foreach) => foreach(alloc, usage(Command::Foreach), words),
-        Some(Command::Return) => return_value(alloc, usage(Command::Return), words),
-        Some(command) => {
-            let words = texts_of(alloc, words)?;
-            meaning(alloc, command, usage(command), words.as_slice())
-        }
+        Some(command) => meaning(alloc, command, usage(command), words),
         None => Ok(Control::Other),
     }
 }
 
-// What words mean that are taken as texts.
 fn meaning(
     alloc: Global,
     command: Command,
     usage: &[u8],
-    words: &[Text],
+    words: &[Value],
 ) -> Result<Control, NoMemory>
-    requires texts { IsTrue (takes_texts command) }
     ensures { IfOk result (λ control. control ≡ (table.row_of command).meaning (wrong_number usage.now) words.now) }
 {
     match command {
-        Command::Break => break_loop(alloc, usage, words),
-        Command::Catch => catch(alloc, usage, words),
-        Command::Continue => continue_loop(alloc, usage, words),
-        Command::Dict => dict(alloc, usage, words),
-        Command::Error => error(alloc, usage, words),
-        Command::Expr => expression(alloc, usage, words),
-        Command::For => for_loop(alloc, usage, words),
-        Command::If => branch(alloc, usage, words),
-        Command::Switch => switch(alloc, usage, words),
-        Command::While => while_loop(alloc, usage, words),
-        Command::Foreach | Command::Return => unreachable!(),
+        Command::Break => break_loop(alloc, usage, texts_of(alloc, words)?.as_slice()),
+        Command::Catch => catch(alloc, usage, texts_of(alloc, words)?.as_slice()),
+        Command::Continue => continue_loop(alloc, usage, texts_of(alloc, words)?.as_slice()),
+        Command::Dict => dict(alloc, usage, texts_of(alloc, words)?.as_slice()),
+        Command::Error => error(alloc, usage, texts_of(alloc, words)?.as_slice()),
+        Command::Expr => expression(alloc, usage, texts_of(alloc, words)?.as_slice()),
+        Command::For => for_loop(alloc, usage, texts_of(alloc, words)?.as_slice()),
+        Command::Foreach => foreach(alloc, usage, words),
+        Command::If => branch(alloc, usage, texts_of(alloc, words)?.as_slice()),
+        Command::Return => return_value(alloc, usage, words),
+        Command::Switch => switch(alloc, usage, texts_of(alloc, words)?.as_slice()),
+        Command::While => while_loop(alloc, usage, texts_of(alloc, words)?.as_slice()),
     }
 }

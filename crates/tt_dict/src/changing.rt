@@ -75,18 +75,65 @@ fn step_of(
             step_on(alloc, &edit, pairs, path.as_slice())
         }
         Change::Unset { path } => step_on(alloc, &Edit::Remove, pairs, path.as_slice()),
-        Change::Incr { key, by } => {
-            let text = increased(alloc, value_or(pairs, key, b"0"), *by)?;
-            putting(key, text)
-        }
-        Change::Append { key, pieces } => {
-            let text = appended(alloc, value_or(pairs, key, b""), pieces.as_slice())?;
-            putting(key, Ok(text))
-        }
-        Change::Lappend { key, items } => {
-            let text = listed(alloc, value_or(pairs, key, b""), items.as_slice())?;
-            putting(key, text)
-        }
+        Change::Incr { key, by } => incr(alloc, pairs, key, *by),
+        Change::Append { key, pieces } => append(alloc, pairs, key, pieces.as_slice()),
+        Change::Lappend { key, items } => lappend(alloc, pairs, key, items.as_slice()),
+    }
+}
+
+fn incr(
+    alloc: Global,
+    pairs: &Dictionary,
+    key: &Text,
+    by: i64,
+) -> Result<Result<Step, Text>, NoMemory>
+    ensures step { IfOk result (λ made. IfOk made (λ step.
+        changing.putting pairs.now key.now
+        (changing.increased (changing.value_or (codes "0") pairs.now key.now) by) ≡ Ok (stepped step pairs.now))) }
+    ensures bad { IfOk result (λ made. IfErr made (λ message.
+        changing.putting pairs.now key.now
+        (changing.increased (changing.value_or (codes "0") pairs.now key.now) by) ≡ Err message)) }
+{
+    match increased(alloc, value_or(pairs, key, b"0"), by)? {
+        Ok(text) => Ok(Ok(Step::Puts(key.copy()?, text))),
+        Err(message) => Ok(Err(message)),
+    }
+}
+
+fn append(
+    alloc: Global,
+    pairs: &Dictionary,
+    key: &Text,
+    pieces: &[Text],
+) -> Result<Result<Step, Text>, NoMemory>
+    ensures step { IfOk result (λ made. IfOk made (λ step.
+        changing.putting pairs.now key.now
+        (Ok (changing.appended (changing.value_or [] pairs.now key.now) pieces.now)) ≡ Ok (stepped step pairs.now))) }
+    ensures bad { IfOk result (λ made. IfErr made (λ message.
+        changing.putting pairs.now key.now
+        (Ok (changing.appended (changing.value_or [] pairs.now key.now) pieces.now)) ≡ Err message)) }
+{
+    let text = appended(alloc, value_or(pairs, key, b""), pieces)?;
+    Ok(Ok(Step::Puts(key.copy()?, text)))
+}
+
+fn lappend(
+    alloc: Global,
+    pairs: &Dictionary,
+    key: &Text,
+    items: &[Text],
+) -> Result<Result<Step, Text>, NoMemory>
+    ensures step { IfOk result (λ made. IfOk made (λ step.
+        changing.putting pairs.now key.now
+        (changing.listed (split_of (changing.value_or [] pairs.now key.now)) items.now)
+        ≡ Ok (stepped step pairs.now))) }
+    ensures bad { IfOk result (λ made. IfErr made (λ message.
+        changing.putting pairs.now key.now
+        (changing.listed (split_of (changing.value_or [] pairs.now key.now)) items.now) ≡ Err message)) }
+{
+    match listed(alloc, value_or(pairs, key, b""), items)? {
+        Ok(text) => Ok(Ok(Step::Puts(key.copy()?, text))),
+        Err(message) => Ok(Err(message)),
     }
 }
 
@@ -97,19 +144,6 @@ fn value_or<'a>(pairs: &'a Dictionary, key: &Text, missing: &'a [u8]) -> &'a [u8
     match pairs.get(key) {
         Some(value) => value.as_bytes(),
         None => missing,
-    }
-}
-
-// What was made is the key's value.
-fn putting(key: &Text, made: Result<Text, Text>) -> Result<Result<Step, Text>, NoMemory>
-    ensures step { (pairs : Pairs) → IfOk result (λ step. IfOk step (λ step.
-        changing.putting pairs key.now made ≡ Ok (stepped step pairs))) }
-    ensures bad { (pairs : Pairs) → IfOk result (λ step. IfErr step (λ message.
-        changing.putting pairs key.now made ≡ Err message)) }
-{
-    match made {
-        Ok(text) => Ok(Ok(Step::Puts(key.copy()?, text))),
-        Err(message) => Ok(Err(message)),
     }
 }
 

@@ -11,8 +11,8 @@ loop-rest-preserved c =
     c.loop-rest.columns.items
     c.push.new.self.items
     c.in-Column.column
-    c.as_bytes.result.now
-    c.as_bytes-in-len2-up.result.now
+    c.names-item.result
+    c.values-item.result
     c.loop-rest.rest.now
     c.in-len2-up.len_at_least
     (search rules)
