@@ -85,12 +85,7 @@ fn run(
 }
 
 // The least of some times, in nanoseconds.
-fn least_time(
-    rt: &impl Clock,
-    alloc: Global,
-    name: &str,
-    words: &Values,
-) -> anyhow::Result<u128> {
+fn least_time(rt: &impl Clock, alloc: Global, name: &str, words: &Values) -> anyhow::Result<u128> {
     let mut least = u128::MAX;
     for _ in 0..ROUNDS {
         let start = Instant::now(rt)?;

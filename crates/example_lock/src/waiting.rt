@@ -14,13 +14,7 @@ use tt_noted::{Noted, Pass, Waking};
 type Count = Unnoted<u64>;
 
 // Adds to the count, and leaves with news for all that rest, or for one of them.
-fn add<R: Wait>(
-    rt: &R,
-    lock: &Noted<Count>,
-    pass: &mut Pass<Count>,
-    more: u64,
-    waking: Waking,
-)
+fn add<R: Wait>(rt: &R, lock: &Noted<Count>, pass: &mut Pass<Count>, more: u64, waking: Waking)
     requires { IsPassOf lock.now pass.old × (turn_of pass.old ≡ None) }
     ensures { IsSamePass lock.now pass.old pass.new × (turn_of pass.new ≡ None) }
 {

@@ -87,10 +87,7 @@ fn element(alloc: Global, name: &Text, values: &mut Stack) -> Result<Step, NoMem
         → act (code.Element name.now) next values.old ≡ stepped step next values.new) }
 {
     match values.pop() {
-        Some(index) => Ok(Step::Halts(Halt::Element(
-            name.copy()?,
-            index.into_text(alloc)?,
-        ))),
+        Some(index) => Ok(Step::Halts(Halt::Element(name.copy()?, index.into_text(alloc)?))),
         None => wrong_operands(alloc),
     }
 }

@@ -32,11 +32,7 @@ pub fn read_control(alloc: Global, words: &[Value]) -> Result<Control, NoMemory>
     }
 }
 
-fn by_command(
-    alloc: Global,
-    command: Option<Command>,
-    words: &[Value],
-) -> Result<Control, NoMemory>
+fn by_command(alloc: Global, command: Option<Command>, words: &[Value]) -> Result<Control, NoMemory>
     ensures { IfOk result (λ control. control ≡ table.by_command command words.now) }
 {
     match command {

@@ -54,12 +54,7 @@ fn canonical(alloc: Global, dictionary: &Value) -> Result<Outcome, NoMemory>
     }
 }
 
-fn get_at(
-    alloc: Global,
-    dictionary: &Value,
-    key: &Text,
-    keys: &[Text],
-) -> Result<Outcome, NoMemory>
+fn get_at(alloc: Global, dictionary: &Value, key: &Text, keys: &[Text]) -> Result<Outcome, NoMemory>
     ensures { IfOk result (λ outcome.
         outcome ≡ telling.answered
         (paths.for_pairs (λ pairs. paths.value_at pairs key.now keys.now) (reading_of dictionary.now))) }
@@ -95,7 +90,10 @@ fn exists_at(
         (reading_of dictionary.now)) }
 {
     match dictionary.to_pairs(alloc)? {
-        Ok(pairs) => truth(alloc, value_on(alloc, pairs.dictionary(), key, keys)?.is_ok()),
+        Ok(pairs) => truth(
+            alloc,
+            value_on(alloc, pairs.dictionary(), key, keys)?.is_ok(),
+        ),
         Err(message) => Outcome::failed(message),
     }
 }
@@ -137,11 +135,7 @@ pub(crate) fn keys(alloc: Global, usage: &[u8], words: &[Value]) -> Result<Outco
     }
 }
 
-fn keys_like(
-    alloc: Global,
-    dictionary: &Value,
-    pattern: Option<&Text>,
-) -> Result<Outcome, NoMemory>
+fn keys_like(alloc: Global, dictionary: &Value, pattern: Option<&Text>) -> Result<Outcome, NoMemory>
     ensures { IfOk result (λ outcome.
         outcome ≡ telling.text_answer (λ pairs. telling.like (option_copied pattern.entry) (keys_of pairs))
         (reading_of dictionary.now)) }

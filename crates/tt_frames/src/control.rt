@@ -164,7 +164,12 @@ pub(crate) fn after_caught(
         }
         ending => {
             let number = Text::from_bytes(alloc, code_number(ending.code()))?;
-            let next = store(alloc, variable, ending.into_value(), Value::from_text(number))?;
+            let next = store(
+                alloc,
+                variable,
+                ending.into_value(),
+                Value::from_text(number),
+            )?;
             Ok(next)
         }
     }

@@ -17,11 +17,7 @@ pub const LONGEST: usize = 268_435_456;
 ///
 /// The message if the count is no whole number, if it is negative, and if the text of the list would have more than
 /// `LONGEST` bytes; then the list isn't made. `NoMemory` if memory is refused.
-pub fn repeat(
-    alloc: Global,
-    count: &[u8],
-    values: &[Text],
-) -> Result<Result<Texts, Text>, NoMemory>
+pub fn repeat(alloc: Global, count: &[u8], values: &[Text]) -> Result<Result<Texts, Text>, NoMemory>
     ensures answer { IfOk result (λ made. made_of made ≡ repeat_answer count.now values.now) }
 {
     match read_whole(count) {

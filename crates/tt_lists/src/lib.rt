@@ -17,8 +17,10 @@ mod spelling;
 mod splitting;
 
 pub use answer::ListAnswer;
-pub use commands::{count, count_text, insert, insert_among, item, item_among};
-pub use commands::{range, range_among, replace, replace_among};
+pub use commands::{
+    count, count_text, insert, insert_among, item, item_among, range, range_among, replace,
+    replace_among,
+};
 pub use growing::push_item;
 pub use indices::index;
 pub use items::{ListFault, Split};

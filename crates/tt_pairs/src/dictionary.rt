@@ -18,7 +18,6 @@ pub struct Dictionary {
 
 impl Model for Dictionary {
     ghost use Rattle.std.specs.Prelude.{ℕ, List};
-
     ghost use Rattle.tt_pairs.specs.PairLaws.{KeysDiffer};
 
     ghost Value = { List (List ℕ × List ℕ) };

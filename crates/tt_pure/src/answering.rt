@@ -3,7 +3,7 @@ ghost use Rattle.tt_pure.specs.Table as table;
 
 use crate::command::{Command, command_of, usage};
 use crate::formatting::format;
-use crate::made::{outcome_of};
+use crate::made::outcome_of;
 use crate::searching::lsearch;
 use crate::sorting::lsort;
 use crate::strings::string;

@@ -162,7 +162,13 @@ pub(crate) fn lreplace(alloc: Global, usage: &[u8], words: &[Value]) -> Result<M
             let first = first.to_text(alloc)?;
             let last = last.to_text(alloc)?;
             let others = texts_of(alloc, others)?;
-            replace(alloc, list, first.as_bytes(), last.as_bytes(), others.as_slice())
+            replace(
+                alloc,
+                list,
+                first.as_bytes(),
+                last.as_bytes(),
+                others.as_slice(),
+            )
         }
         _ => refuse(alloc, usage),
     }

@@ -33,12 +33,7 @@ pub(crate) fn lsort(alloc: Global, usage: &[u8], words: &[Value]) -> Result<Made
     }
 }
 
-fn sort_by(
-    alloc: Global,
-    usage: &[u8],
-    options: &[Text],
-    list: &Value,
-) -> Result<Made, NoMemory>
+fn sort_by(alloc: Global, usage: &[u8], options: &[Text], list: &Value) -> Result<Made, NoMemory>
     ensures { IfOk result (λ made.
         IsSortBy (wrong_number usage.now) (first_unknown sort_flags options.now) options.now list.now
         made) }

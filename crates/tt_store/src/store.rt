@@ -191,11 +191,7 @@ impl Store {
     }
 }
 
-fn value_of(
-    alloc: Global,
-    word: &Text,
-    found: Result<Value, VarFault>,
-) -> Result<Outcome, NoMemory>
+fn value_of(alloc: Global, word: &Text, found: Result<Value, VarFault>) -> Result<Outcome, NoMemory>
     ensures { IfOk result (λ outcome. outcome ≡ held.value_of word.now found) }
 {
     match found {

@@ -160,10 +160,7 @@ pub(crate) fn own_items(alloc: Global, kept: &Kept) -> Result<Result<Items, List
 }
 
 // The list, which is shared if it is kept.
-fn listing_of(
-    alloc: Global,
-    kept: &Kept,
-) -> Result<Result<Arc<Listing>, ListFault>, NoMemory>
+fn listing_of(alloc: Global, kept: &Kept) -> Result<Result<Arc<Listing>, ListFault>, NoMemory>
     ensures text { IfOk result (λ read. IfOk read (λ list. (arc_value list).text ≡ text_of kept.now)) }
     ensures fault { IfOk result (λ read. IfErr read (λ fault. split_of (text_of kept.now) ≡ Split.Bad fault)) }
 {

@@ -300,11 +300,7 @@ impl Value {
     /// Takes out the pair of a key, likewise; those after it move up.
     ///
     /// `NoMemory` if memory is refused; then nothing is said of the value.
-    pub fn remove_pair(
-        &mut self,
-        alloc: Global,
-        key: &Text,
-    ) -> Result<Result<(), Text>, NoMemory>
+    pub fn remove_pair(&mut self, alloc: Global, key: &Text) -> Result<Result<(), Text>, NoMemory>
         ensures removed { IfOk result (λ removed. OnOk removed
             (after (λ pairs. entries.without_key pairs key.now) (reading_of self.old) ≡ Ok self.new)) }
         ensures fault { IfOk result (λ removed. IfErr removed (λ message. reading_of self.old ≡ Err message)) }

@@ -11,7 +11,7 @@ ghost use Rattle.tt_vars.specs.inside.Ending.{KeepsLinks};
 
 use crate::reading::Reading;
 use crate::variable::{
-    Found, Place, Variable, first_written, change_in, read_in, remove_from, write_to,
+    Found, Place, Variable, change_in, first_written, read_in, remove_from, write_to,
 };
 use crate::{VarFault, Written};
 use indexmap::IndexMap;
