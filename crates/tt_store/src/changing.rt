@@ -1,8 +1,9 @@
 //! Commands that change a variable's value where it stands (append(n), lappend(n), incr(n)).
-ghost use Rattle.std.specs.Prelude.{◌≡◌, IfOk};
+ghost use Rattle.std.specs.Prelude.{◌≡◌, [], IfOk, codes};
 ghost use Rattle.tt_store.specs.Listed as listed;
 ghost use Rattle.tt_store.specs.Scalars as scalars;
 ghost use Rattle.tt_store.specs.Spots.{spot_of};
+ghost use Rattle.tt_value.specs.Growing.{appended, listed as listed_at_end};
 
 use crate::Store;
 use crate::increment::Increment;
@@ -23,12 +24,17 @@ impl Store {
                 let word = word.to_text(self.alloc)?;
                 self.read_word(&word)
             }
-            [word, values @ ..] => {
-                let word = word.to_text(self.alloc)?;
-                let texts = texts_of(self.alloc, values)?;
-                self.change(&word, b"", &Appending { texts })
-            }
+            [word, values @ ..] => self.append_to(word, values),
         }
+    }
+
+    fn append_to(&mut self, word: &Value, values: &[Value]) -> Result<Outcome, NoMemory>
+        ensures { IfOk result (λ outcome.
+            scalars.Changes word.now [] (appended values.now) self.old outcome self.new) }
+    {
+        let word = word.to_text(self.alloc)?;
+        let texts = texts_of(self.alloc, values)?;
+        self.change(&word, b"", &Appending { texts })
     }
 
     pub(crate) fn lappend(&mut self, usage: &[u8], words: &[Value]) -> Result<Outcome, NoMemory>
@@ -36,12 +42,17 @@ impl Store {
     {
         match words {
             [] => self.refuse(usage),
-            [word, values @ ..] => {
-                let word = word.to_text(self.alloc)?;
-                let items = texts_of(self.alloc, values)?;
-                self.change(&word, b"", &Lengthening { items })
-            }
+            [word, values @ ..] => self.append_items_to(word, values),
         }
+    }
+
+    fn append_items_to(&mut self, word: &Value, values: &[Value]) -> Result<Outcome, NoMemory>
+        ensures { IfOk result (λ outcome.
+            scalars.Changes word.now [] (listed_at_end values.now) self.old outcome self.new) }
+    {
+        let word = word.to_text(self.alloc)?;
+        let items = texts_of(self.alloc, values)?;
+        self.change(&word, b"", &Lengthening { items })
     }
 
     pub(crate) fn incr(&mut self, usage: &[u8], words: &[Value]) -> Result<Outcome, NoMemory>
@@ -49,17 +60,20 @@ impl Store {
     {
         match words {
             [word] => {
-                let word = word.to_text(self.alloc)?;
                 let step = Text::from_bytes(self.alloc, b"1")?;
-                self.change(&word, b"0", &Increment { step })
+                self.increment(word, step)
             }
-            [word, step] => {
-                let word = word.to_text(self.alloc)?;
-                let step = step.to_text(self.alloc)?;
-                self.change(&word, b"0", &Increment { step })
-            }
+            [word, step] => self.increment(word, step.to_text(self.alloc)?),
             _ => self.refuse(usage),
         }
+    }
+
+    fn increment(&mut self, word: &Value, step: Text) -> Result<Outcome, NoMemory>
+        ensures { IfOk result (λ outcome.
+            scalars.Changes word.now (codes "0") (scalars.incremented step) self.old outcome self.new) }
+    {
+        let word = word.to_text(self.alloc)?;
+        self.change(&word, b"0", &Increment { step })
     }
 
     /// Changes the value of what a command's word names; a missing variable begins as this text. Answers the value, or

@@ -2,15 +2,15 @@ use Rattle.std.proofs.Common.{rules}
 use Rattle.tt_store.proofs.Changed.{bad-ok, begun-ok, made, unread-ok}
 use Rattle.tt_store.proofs.store.Store.change_at.Goals as goal
 
-pub returns-in-Ok-Made : goal.returns-in-Ok-Made
-returns-in-Ok-Made g c =
-    made (g.C.Changing.meaning c.args.changing.now) c.args.missing.now c.args.word.now c.args.self.now _ c.in-Ok-Made.text c.fine.result (search rules) (search rules)
-    (search rules) (search rules)
+pub returns-in-Ok-into_result : goal.returns-in-Ok-into_result
+returns-in-Ok-into_result g c =
+    made (g.C.Changing.meaning c.args.changing.now) c.args.missing.now c.args.word.now c.args.self.now _ c.in-Ok-into_result.value c.with_result.result
+    (search rules) (search rules) (search rules) (search rules)
 
-pub returns-in-Ok-Bad : goal.returns-in-Ok-Bad
-returns-in-Ok-Bad g c =
-    bad-ok (g.C.Changing.meaning c.args.changing.now) c.args.missing.now c.args.word.now c.args.self.now _ c.in-Ok-Bad.message c.failed.result (search rules) (search rules)
-    (search rules) (search rules)
+pub returns-in-Err-into_result : goal.returns-in-Err-into_result
+returns-in-Err-into_result g c =
+    bad-ok (g.C.Changing.meaning c.args.changing.now) c.args.missing.now c.args.word.now c.args.self.now _ c.in-Err-into_result.message c.failed.result
+    (search rules) (search rules) (search rules) (search rules)
 
 pub returns-in-Err-NoSuchVariable : goal.returns-in-Err-NoSuchVariable
 returns-in-Err-NoSuchVariable g c =
