@@ -1,14 +1,13 @@
 #!/usr/bin/env bash
 # Prints the time of a turn with `dict set`, `dict get`, `dict incr` and `dict exists` on a variable whose dictionary has
-# 1,000 and 100,000 keys, with TURNS turns among 1,000 and a hundredth of them among 100,000; and the time of a whole
-# `dict for` over 100,000 pairs. Each is the least of RUNS runs, less that of the same script without turns.
-# If tclsh is installed, its time of such a turn stands beside each, over 100 times TURNS turns.
+# 1,000 and 100,000 keys, over TURNS turns; and the time of a whole `dict for` over 100,000 pairs. Each is the least of
+# RUNS runs, less that of the same script without turns. If tclsh is installed, its time stands beside each.
 # Further runs differ by what else the machine does.
 # Usage: bench/dict.sh [RUNS [TURNS]]
 set -euo pipefail
 shopt -s inherit_errexit
 cd "$(dirname "$0")/.."
-runs=${1:-3} turns=${2:-2000}
+runs=${1:-3} turns=${2:-200000}
 . bench/lib/scripts.bash
 
 # The least time in ns of RUNS runs of a command.
@@ -56,10 +55,9 @@ report() {
 }
 
 for keys in 1000 100000; do
-    here=$((turns * 1000 / keys)) there=$((turns * 100))
-    report 'dict set' $keys $here $there 'dict set d k500 $i'
-    report 'dict get' $keys $here $there 'dict get $d k500'
-    report 'dict incr' $keys $here $there 'dict incr d k500'
-    report 'dict exists' $keys $here $there 'dict exists $d k500'
+    report 'dict set' $keys $turns $turns 'dict set d k500 $i'
+    report 'dict get' $keys $turns $turns 'dict get $d k500'
+    report 'dict incr' $keys $turns $turns 'dict incr d k500'
+    report 'dict exists' $keys $turns $turns 'dict exists $d k500'
 done
 report 'dict for, all pairs' 100000 5 5 'dict for {k v} $d {}'

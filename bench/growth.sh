@@ -5,9 +5,9 @@
 # the least of RUNS runs; the start of the process is taken off.
 #
 # It ends with 1 if a row grows more than twice as fast as tclsh's. A row that is known to do so is marked `later`, and
-# doesn't count: lists wait for words of commands that are values, `string length` for texts that know that each
-# character is one byte, elements that are unset for gaps that stay, and `tsv::lpop` for values that give up an item in
-# place.
+# doesn't count: `linsert` copies all items, as tclsh does with less for each; `string length` waits for texts that know
+# that each character is one byte, elements that are unset for gaps that stay, and `tsv::lpop` for values that give up an
+# item in place.
 # Usage: bench/growth.sh [N] [RUNS]
 set -euo pipefail
 shopt -s inherit_errexit
@@ -19,16 +19,16 @@ runs=${2:-3}
 # Each row: a name, with `later` before it if it doesn't count yet, and a script in which N stands for the number.
 rows() {
     cat <<'ROWS'
-later lindex|set l [lrepeat N abc]; for {set i 0} {$i < N} {incr i} {lindex $l $i}
-later llength|set l [lrepeat N abc]; for {set i 0} {$i < N} {incr i} {llength $l}
+lindex|set l [lrepeat N abc]; for {set i 0} {$i < N} {incr i} {lindex $l $i}
+llength|set l [lrepeat N abc]; for {set i 0} {$i < N} {incr i} {llength $l}
 lrange|set l [lrepeat N abc]; for {set i 0} {$i < N} {incr i} {lrange $l $i $i}
-later lreplace|set l [lrepeat N abc]; for {set i 0} {$i < 100} {incr i} {set l [lreplace $l $i $i x]}
+lreplace|set l [lrepeat N abc]; for {set i 0} {$i < 100} {incr i} {set l [lreplace $l $i $i x]}
 later linsert at the end|set l {}; for {set i 0} {$i < N/10} {incr i} {set l [linsert $l end $i]}
 lappend|set l {}; for {set i 0} {$i < N} {incr i} {lappend l $i}
 foreach|set l [lrepeat N abc]; for {set i 0} {$i < 20} {incr i} {foreach x $l {}}
 lassign|set l [lrepeat N abc]; for {set i 0} {$i < N} {incr i} {lassign $l a b}
-later lrange, one less|set q [lrepeat [expr {N / 10}] abc]; while {[llength $q]} {set q [lrange $q 1 end]}
-later a procedure given a list|proc p {l} {lindex $l 0}; set l [lrepeat N abc]; for {set i 0} {$i < N} {incr i} {p $l}
+lrange, one less|set q [lrepeat [expr {N / 10}] abc]; while {[llength $q]} {set q [lrange $q 1 end]}
+a procedure given a list|proc p {l} {lindex $l 0}; set l [lrepeat N abc]; for {set i 0} {$i < N} {incr i} {p $l}
 string index|set s [string repeat abc N]; for {set i 0} {$i < N} {incr i} {string index $s $i}
 later string length|set s [string repeat abc N]; for {set i 0} {$i < N} {incr i} {string length $s}
 string range|set s [string repeat abc N]; for {set i 0} {$i < N} {incr i} {string range $s $i $i}
