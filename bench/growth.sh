@@ -5,8 +5,8 @@
 # the least of RUNS runs; the start of the process is taken off.
 #
 # It ends with 1 if a row grows more than twice as fast as tclsh's. A row that is known to do so is marked `later`, and
-# doesn't count: `linsert` copies all items, as tclsh does with less for each; `string length` waits for texts that know
-# that each character is one byte, elements that are unset for gaps that stay, and `tsv::lpop` for values that give up an
+# doesn't count: `linsert` copies all items, as tclsh does with less for each; `string length` and `string range` wait for texts that
+# know that each character is one byte, elements that are unset for gaps that stay, and `tsv::lpop` for values that give up an
 # item in place.
 # Usage: bench/growth.sh [N] [RUNS]
 set -euo pipefail
@@ -31,7 +31,7 @@ lrange, one less|set q [lrepeat [expr {N / 10}] abc]; while {[llength $q]} {set 
 a procedure given a list|proc p {l} {lindex $l 0}; set l [lrepeat N abc]; for {set i 0} {$i < N} {incr i} {p $l}
 string index|set s [string repeat abc N]; for {set i 0} {$i < N} {incr i} {string index $s $i}
 later string length|set s [string repeat abc N]; for {set i 0} {$i < N} {incr i} {string length $s}
-string range|set s [string repeat abc N]; for {set i 0} {$i < N} {incr i} {string range $s $i $i}
+later string range|set s [string repeat abc N]; for {set i 0} {$i < N} {incr i} {string range $s $i $i}
 elements set|for {set i 0} {$i < N} {incr i} {set a($i) $i}
 elements read|for {set i 0} {$i < N} {incr i} {set a($i) $i}; for {set i 0} {$i < N} {incr i} {set a($i)}
 later elements unset|for {set i 0} {$i < N} {incr i} {set a($i) $i}; for {set i 0} {$i < N} {incr i} {unset a($i)}
