@@ -5,9 +5,9 @@
 # the least of RUNS runs; the start of the process is taken off.
 #
 # It ends with 1 if a row grows more than twice as fast as tclsh's. A row that is known to do so is marked `later`, and
-# doesn't count: `linsert` copies all items, as tclsh does with less for each; `string length` and `string range` wait for texts that
-# know that each character is one byte, elements that are unset for gaps that stay, and `tsv::lpop` for values that give up an
-# item in place.
+# doesn't count: `linsert` copies all items, as tclsh does with less for each; `string length` and `string range` wait for
+# texts that know that each character is one byte, elements that are unset for gaps that stay, and `tsv::lpop` for values
+# that give up an item in place.
 # Usage: bench/growth.sh [N] [RUNS]
 set -euo pipefail
 shopt -s inherit_errexit
