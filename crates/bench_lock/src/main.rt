@@ -14,7 +14,7 @@ use std::sync::{Mutex, Wait};
 use std::thread::Threads;
 use std::time::{Duration, Instant};
 use std::{env, io, thread};
-use tt_noted::{Noted, Pass, Tie, Waking};
+use tt_noted::{Noted, Pass, Tie};
 
 // Enters and leaves of all threads together, with and without the argument `time`.
 const TIMED: u64 = 1 << 20;
@@ -91,7 +91,7 @@ fn enter_and_leave<R: Wait, S: State>(
     for _ in 0..rounds {
         let mut turn = lock.enter(rt, pass);
         turn.state.count();
-        lock.leave(pass, turn, (), Waking::All);
+        lock.leave(pass, turn, ());
     }
 }
 
@@ -154,7 +154,7 @@ fn rest_until<R: Wait>(
     for _ in rt.forever() {
         let turn = lock.enter(rt, pass);
         let count = turn.state;
-        lock.leave(pass, turn, (), Waking::Nobody);
+        lock.leave_quietly(pass, turn, ());
         if count >= rounds {
             return;
         }
@@ -177,7 +177,7 @@ fn count_quietly<R: Wait + Clock>(
     for _ in 1..rounds {
         let mut turn = lock.enter(rt, pass);
         turn.state = turn.state.wrapping_add(1);
-        lock.leave(pass, turn, (), Waking::Nobody);
+        lock.leave_quietly(pass, turn, ());
     }
     let end = Instant::now(rt);
     enter_and_leave(rt, lock, pass, 1);

@@ -7,7 +7,7 @@ use std::alloc::{AllocError, Global};
 use std::sync::Wait;
 use std::thread;
 use std::thread::Threads;
-use tt_noted::{Noted, Pass, Tie, Waking};
+use tt_noted::{Noted, Pass, Tie};
 
 /// A sum, of which each pass notes what it has added.
 pub struct Summed;
@@ -30,7 +30,7 @@ pub fn add_one<R: Wait>(rt: &R, lock: &Noted<Summed>, pass: &mut Pass<Summed>, n
 {
     let mut turn = lock.enter(rt, pass);
     turn.state += 1;
-    lock.leave(pass, turn, noted + 1, Waking::Nobody);
+    lock.leave(pass, turn, noted + 1);
 }
 
 fn add_many<R: Wait>(rt: &R, lock: &Noted<Summed>, pass: &mut Pass<Summed>, rounds: u32)

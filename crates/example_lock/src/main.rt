@@ -44,7 +44,7 @@ fn count_after<R: Threads + Wait + Clock + Sync, W: Work<u64> + Sync>(
     value_after(rt, alloc, 0, threads, work).map_err(|_| AllocError)
 }
 
-// If `rest` didn't wait, or leaves that wake nobody ended it, there would be thousands of looks.
+// If `rest` didn't wait, or quiet leaves ended it, there would be thousands of looks.
 fn print_resting<R: Threads + Wait + Clock + Print + Sync>(
     rt: &R,
     alloc: Global,

@@ -9,18 +9,18 @@ use std::sync::atomic::AtomicU64;
 use std::sync::atomic::Ordering::SeqCst;
 use std::thread;
 use std::time::Duration;
-use tt_noted::{Noted, Pass, Waking};
+use tt_noted::{Noted, Pass};
 
 type Count = Unnoted<u64>;
 
-// Adds to the count, and leaves with news for all that rest, or for one of them.
-fn add<R: Wait>(rt: &R, lock: &Noted<Count>, pass: &mut Pass<Count>, more: u64, waking: Waking)
+// Adds to the count, and leaves with news.
+fn add<R: Wait>(rt: &R, lock: &Noted<Count>, pass: &mut Pass<Count>, more: u64)
     requires { IsPassOf lock.now pass.old × (turn_of pass.old ≡ None) }
     ensures { IsSamePass lock.now pass.old pass.new × (turn_of pass.new ≡ None) }
 {
     let mut turn = lock.enter(rt, pass);
     turn.state = turn.state.wrapping_add(more);
-    lock.leave(pass, turn, (), waking);
+    lock.leave(pass, turn, ());
 }
 
 // Adds to the count, leaves quietly, and answers the count.
@@ -31,7 +31,7 @@ fn add_quietly<R: Wait>(rt: &R, lock: &Noted<Count>, pass: &mut Pass<Count>, mor
     let mut turn = lock.enter(rt, pass);
     let count = turn.state.wrapping_add(more);
     turn.state = count;
-    lock.leave(pass, turn, (), Waking::Nobody);
+    lock.leave_quietly(pass, turn, ());
     count
 }
 
@@ -55,7 +55,7 @@ impl Work<u64> for RestWhileBusy {
     {
         if place == 0 {
             thread::sleep(rt, Duration::from_millis(50));
-            add(rt, lock, pass, 1, Waking::All);
+            add(rt, lock, pass, 1);
             return;
         }
         for _ in rt.forever() {
@@ -88,7 +88,7 @@ impl Work<u64> for TakeTurns {
                 return;
             }
             if count % 2 == place as u64 {
-                add(rt, lock, pass, 1, Waking::One);
+                add(rt, lock, pass, 1);
             } else {
                 lock.rest(rt, pass);
             }
@@ -119,7 +119,7 @@ impl Work<u64> for EnterWhileHeld {
             self.held.store(1, SeqCst);
             thread::sleep(rt, Duration::from_millis(50));
             turn.state = turn.state.wrapping_add(1);
-            lock.leave(pass, turn, (), Waking::All);
+            lock.leave(pass, turn, ());
             return;
         }
         for _ in rt.forever() {
@@ -128,12 +128,12 @@ impl Work<u64> for EnterWhileHeld {
             }
             thread::sleep(rt, Duration::from_millis(1));
         }
-        add(rt, lock, pass, 1, Waking::All);
+        add(rt, lock, pass, 1);
     }
 }
 
-/// Passes add one 10,000 times each, leave with news for one or quietly, and rest, all at random. The first never rests
-/// and adds nothing, and leaves with news for all until the others have ended.
+/// Passes add one 10,000 times each, leave with news or quietly, and rest, all at random. The first never rests and
+/// adds nothing, and leaves with news until the others have ended.
 #[derive(Drop)]
 pub struct AtRandom {
     /// How many of the others have ended.
@@ -151,7 +151,7 @@ impl AtRandom {
             if self.ended.load(SeqCst) >= self.others {
                 return;
             }
-            add(rt, lock, pass, 0, Waking::All);
+            add(rt, lock, pass, 0);
         }
     }
 
@@ -174,7 +174,7 @@ impl AtRandom {
             if choice % 2 == 0 {
                 add_quietly(rt, lock, pass, 1);
             } else {
-                add(rt, lock, pass, 1, Waking::One);
+                add(rt, lock, pass, 1);
             }
             if choice >= 14 {
                 lock.rest(rt, pass);

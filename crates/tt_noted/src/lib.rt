@@ -9,6 +9,6 @@ mod pass;
 mod table;
 mod tie;
 
-pub use noted::{Noted, Waking};
+pub use noted::Noted;
 pub use pass::{Pass, Turn};
 pub use tie::Tie;

@@ -21,18 +21,14 @@ const SPINS: u32 = 16;
 
 const YIELDS: u32 = 32;
 
-/// Which of the passes that rest are woken by a leave. One that wakes has news, which a pass that is about to rest finds.
-#[derive(Clone, Copy, Debug, PartialEq, Eq)]
-pub enum Waking {
-    /// All of them.
-    All,
-    /// One of them, if any rests.
-    One,
-    /// None of them, and no rest ends: for a turn that left nothing to do, or that sees to what it left itself.
-    Nobody,
+/// How a pass leaves: with news for those that rest, or without.
+#[derive(Clone, Copy)]
+enum Manner {
+    Loud,
+    Quiet,
 }
 
-impl Waking {
+impl Manner {
     // What a leave adds to word 0: one, so that it is even again, and where it has news one to its upper half, which
     // counts them. That the lower half runs over into the upper one after 2 ^ 32 steps is news too, which does no harm.
     #[inline]
@@ -40,8 +36,8 @@ impl Waking {
         ensures odd { result % 2 ≡ 1 }
     {
         match self {
-            Waking::All | Waking::One => (1 << 32) + 1,
-            Waking::Nobody => 1,
+            Manner::Loud => (1 << 32) + 1,
+            Manner::Quiet => 1,
         }
     }
 }
@@ -220,7 +216,7 @@ impl<T: Tie> Noted<T> {
         seat: &mut Place<T>,
         state: T::State,
         _note: &T::Note,
-        waking: Waking,
+        manner: Manner,
     ) -> u64
         requires of_table { seat.old.table_id ≡ self.now.table.shared.table_id }
         requires held { seat.old.me.1 ≡ (0, None) ∷ [] }
@@ -232,7 +228,7 @@ impl<T: Tie> Noted<T> {
         let shared = &self.table.shared;
         let found = shared.exchange(seat, 0, Some(state));
         let None = found else { unreachable!() };
-        let more = waking.adds();
+        let more = manner.adds();
         shared
             .fetch_add::<Note<K>>(seat, 0, more)
             .wrapping_add(more)
@@ -240,7 +236,7 @@ impl<T: Tie> Noted<T> {
 
     // Puts the state back, and gives the pass its new note and the lock up.
     #[inline]
-    fn end_turn(&self, pass: &mut Pass<T>, turn: Turn<T>, note: T::Note, waking: Waking)
+    fn end_turn(&self, pass: &mut Pass<T>, turn: Turn<T>, note: T::Note, manner: Manner)
         requires own { IsPassOf self.now pass.old }
         requires turn { turn_of pass.old ≡ Some (entered_of turn) }
         requires fits { KeepsFit T.fits self.now pass.old turn note }
@@ -254,17 +250,17 @@ impl<T: Tie> Noted<T> {
             left,
             seat,
         } = pass;
-        *left = news_in(self.put_back::<Brand>(seat, state, &note, waking));
+        *left = news_in(self.put_back::<Brand>(seat, state, &note, manner));
         if self.waiting.load(SeqCst) > 0 {
             self.table.shared.wake_one(0);
         }
     }
 
-    /// Puts the state back, gives the pass its new note and the lock up, and wakes passes that rest.
+    /// Puts the state back, gives the pass its new note and the lock up, and wakes the passes that rest.
     /// Whatever the other notes are, the state has to fit with the new note if it fitted with the old one as it was
     /// entered.
     #[inline]
-    pub fn leave(&self, pass: &mut Pass<T>, turn: Turn<T>, note: T::Note, waking: Waking)
+    pub fn leave(&self, pass: &mut Pass<T>, turn: Turn<T>, note: T::Note)
         requires own { IsPassOf self.now pass.old }
         requires turn { turn_of pass.old ≡ Some (entered_of turn) }
         requires fits { KeepsFit T.fits self.now pass.old turn note }
@@ -272,26 +268,29 @@ impl<T: Tie> Noted<T> {
         ensures note { note_of pass.new ≡ Some note }
         ensures no_turn { turn_of pass.new ≡ None }
     {
-        self.end_turn(pass, turn, note, waking);
-        self.wake(waking);
+        self.end_turn(pass, turn, note, Manner::Loud);
+        if self.resting.load(SeqCst) > 0 {
+            self.wakes.fetch_add(1, SeqCst);
+            self.wakes.wake_all();
+        }
     }
 
-    // Wakes passes that rest, after the leave.
+    /// Puts the state back, and gives the pass its new note and the lock up, as `leave` does. It wakes no pass that
+    /// rests, and ends no rest: for a turn that found nothing to do.
     #[inline]
-    fn wake(&self, waking: Waking) {
-        if matches!(waking, Waking::Nobody) || self.resting.load(SeqCst) == 0 {
-            return;
-        }
-        self.wakes.fetch_add(1, SeqCst);
-        match waking {
-            Waking::All => self.wakes.wake_all(),
-            Waking::One => self.wakes.wake_one(),
-            Waking::Nobody => {}
-        }
+    pub fn leave_quietly(&self, pass: &mut Pass<T>, turn: Turn<T>, note: T::Note)
+        requires own { IsPassOf self.now pass.old }
+        requires turn { turn_of pass.old ≡ Some (entered_of turn) }
+        requires fits { KeepsFit T.fits self.now pass.old turn note }
+        ensures own { IsSamePass self.now pass.old pass.new }
+        ensures note { note_of pass.new ≡ Some note }
+        ensures no_turn { turn_of pass.new ≡ None }
+    {
+        self.end_turn(pass, turn, note, Manner::Quiet);
     }
 
-    /// Waits for another pass's `leave`. It may end for no reason, and begins no wait where a pass has left with news
-    /// since this pass's own last leave of any kind.
+    /// Waits for another pass's `leave`. It may end for no reason, and begins no wait where a pass has left, other than
+    /// quietly, since this pass's own last leave of either kind.
     pub fn rest<R: Wait>(&self, rt: &R, pass: &mut Pass<T>)
         requires own { IsPassOf self.now pass.old }
         requires no_turn { turn_of pass.old ≡ None }

@@ -66,7 +66,7 @@ fn one_round<R: Wait, S: Source + Send, K: Sink + Send, E: Sink + Send, G: Gate>
     }
 }
 
-/// One turn under the lock. The world says whom of the workers that rest it wakes.
+/// One turn under the lock. It wakes the workers that rest if one of them could do something.
 fn take_turn<R: Wait, S: Source + Send, K: Sink + Send, E: Sink + Send>(
     rt: &R,
     lock: &Noted<Tied<S, K, E>>,
@@ -84,7 +84,10 @@ fn take_turn<R: Wait, S: Source + Send, K: Sink + Send, E: Sink + Send>(
     let mut turn = lock.enter(rt, pass);
     let next = turn.state.turn(pass.number(), done);
     let note = turn.state.note(&next);
-    let waking = turn.state.waking(&next);
-    lock.leave(pass, turn, note, waking);
+    if turn.state.wakes() {
+        lock.leave(pass, turn, note);
+    } else {
+        lock.leave_quietly(pass, turn, note);
+    }
     next
 }

@@ -21,16 +21,12 @@ use crate::roster::Roster;
 use std::alloc::Global;
 use std::marker::Model;
 use std::snapshot::Snapshot;
-use tt_calls::{Reply, Request, Start};
+use tt_calls::{Reply, Start};
 use tt_core::Began;
 use tt_devices::{Sink, Source};
 use tt_interp::Setup;
-use tt_noted::Waking;
 use tt_run::{Desk, NewFault, StepFault};
 use tt_text::NoMemory;
-
-// How many threads in a row may come back after a short evaluation before one counts as long.
-const MOST_SHORT: u32 = 64;
 
 /// A run on workers: what it stands on, the places of its threads, and its end if there is one.
 #[derive(Drop)]
@@ -42,8 +38,6 @@ pub struct World<S: Source, K: Sink, E: Sink> {
     roster: Roster,
     // The thread that went on last.
     last: u32,
-    // How many threads in a row came back after a short evaluation: 0 after a long one, or if none came.
-    short: u32,
     end: Option<RunEnd>,
     alloc: Global,
 }
@@ -101,7 +95,6 @@ impl<S: Source, K: Sink, E: Sink> World<S, K, E> {
                     desk,
                     roster,
                     last: 0,
-                    short: 0,
                     end: None,
                     alloc,
                 }),
@@ -140,28 +133,14 @@ impl<S: Source, K: Sink, E: Sink> World<S, K, E> {
         }
     }
 
-    /// Whom a worker wakes of those that rest, after a turn that answered this: all of them if the run has its end. It
-    /// wakes one if a thread can go on still and this worker may be away for long: if the thread that it takes has never
-    /// run, or it brought back one that had evaluated long, or none. Else it comes back soon and takes that thread
-    /// itself. It takes no memory.
-    pub fn waking(&self, next: &Next) -> Waking
-        ensures end { IsSome self.now.end → result ≡ Waking.All }
+    /// Whether a worker could do something: whether the run has its end, or a thread can go on. It takes no memory.
+    pub fn wakes(&self) -> bool
+        ensures end { IsSome self.now.end → IsTrue result }
+        ensures able { (number : ℕ) → IsTrue (can_go self.now.desk self.now.places number) → IsTrue result }
+        ensures barren { self.now.end ≡ None →
+            ((number : ℕ) → IsFalse (can_go self.now.desk self.now.places number)) → IsFalse result }
     {
-        if self.end.is_some() {
-            return Waking::All;
-        }
-        if self.may_be_long(next) && self.roster.next_after(&self.desk, 0).is_some() {
-            return Waking::One;
-        }
-        Waking::Nobody
-    }
-
-    // Whether the worker may be away long with what it takes.
-    fn may_be_long(&self, next: &Next) -> bool {
-        match next {
-            Next::Run(task) => self.short == 0 || task.reply.is_none(),
-            Next::Rest | Next::Over => false,
-        }
+        self.end.is_some() || self.roster.next_after(&self.desk, 0).is_some()
     }
 
     /// The note of a pass after a turn.
@@ -192,7 +171,6 @@ impl<S: Source, K: Sink, E: Sink> World<S, K, E> {
             desk,
             roster: _,
             last: _,
-            short: _,
             end,
             alloc: _,
         } = self;
@@ -213,7 +191,7 @@ impl<S: Source, K: Sink, E: Sink> World<S, K, E> {
     {
         match done {
             Some(done) => self.take_back(done),
-            None => self.short = 0,
+            None => {}
         }
     }
 
@@ -227,10 +205,7 @@ impl<S: Source, K: Sink, E: Sink> World<S, K, E> {
             return;
         }
         match done.resumption {
-            Resumption::Halted => {
-                self.short = short_after(self.short, done.interp.request());
-                self.roster.park(done.thread, done.interp);
-            }
+            Resumption::Halted => self.roster.park(done.thread, done.interp),
             Resumption::OutOfMemory => {
                 self.desk.run_out();
                 self.end = Some(RunEnd::Memory);
@@ -334,16 +309,6 @@ impl<S: Source, K: Sink, E: Sink> World<S, K, E> {
                 }
             },
         }
-    }
-}
-
-// How many in a row came back after a short evaluation, if one more asks this. A pause comes after a whole stretch of
-// evaluation; and so many short ones may be long together, so the next counts as long.
-fn short_after(short: u32, request: &Request) -> u32 {
-    if matches!(request, Request::Pause) || short >= MOST_SHORT {
-        0
-    } else {
-        short + 1
     }
 }
 
