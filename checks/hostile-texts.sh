@@ -16,7 +16,7 @@ failed=0 gib=1
 : >input
 
 # Runs the program with the words after the third, on the file `input`: how it is named, the exit code that is wanted, and
-# how what it writes begins, standard output before standard error.
+# how what it writes begins, standard output without its zero bytes before standard error.
 check() {
     local name=$1 wanted=$2 begins=$3 code=0 took
     shift 3
@@ -24,7 +24,7 @@ check() {
     (ulimit -v $((gib << 20)) && exec timeout 60 /usr/bin/env time -f '%e s, %M KiB' -o took "$program" "$@") \
         <input >out 2>err || code=$?
     took=$(tail -n 1 took)
-    if [ "$code" -eq "$wanted" ] && [[ $(head -c 200 out)$(head -c 200 err) == "$begins"* ]]; then
+    if [ "$code" -eq "$wanted" ] && [[ $(head -c 200 out | tr -d '\0')$(head -c 200 err) == "$begins"* ]]; then
         echo "$name: as it has to be ($took)"
     else
         echo "$name: NOT as it has to be: code $code, $(head -c 100 out)$(head -c 200 err) ($took)"
@@ -73,6 +73,9 @@ check 'open braces of 16 MiB' 1 'missing close-brace' script
 check 'open brackets of 16 MiB' 1 'nested too deeply' script
 { printf 'puts "' && times 8388608 '[a'; } >script
 check 'open brackets in quotes of 16 MiB' 1 'nested too deeply' script
+# shellcheck disable=SC2016
+{ printf 'puts ' && times 5592404 '$a('; } >script
+check 'open indices of 16 MiB' 1 'nested too deeply' script
 { printf 'puts [catch {expr {1' && times 8388608 '+1' && printf '}}]'; } >script
 check 'an expression of 16 MiB' 0 1 script
 { printf 'puts [catch {expr {' && times 16777216 '(' && printf '}}]'; } >script
@@ -130,6 +133,31 @@ catch p300
 puts "[llength [split $errorInfo \n]] [string range $errorInfo 0 3]"
 TCL
 check 'a trace of 906 lines' 0 '906 oops' script
+
+cat >script <<'TCL'
+for {set i 0} {$i < 10000} {incr i} {lappend names p$i; lappend values $i}
+proc f $names {return "$p0 $p9999"}
+puts [f {*}$values]
+TCL
+check 'a procedure of 10,000 parameters' 0 '0 9999' script
+
+# ---- names with a zero byte and bytes that are no UTF-8
+
+name='n\377\200\000e'
+# The dollars are Tcl's, and the name is a part of each format.
+# shellcheck disable=SC2059
+{
+    printf "set {$name} 1; incr {$name}; puts \${$name}\n"
+    printf "set a($name) 2; puts \$a($name)[array names a $name]\n"
+    printf "proc {$name} {{$name}} {return \${$name}}; puts [{$name} 3]\n"
+    printf "tsv::set {$name} {$name} 4; puts [tsv::get {$name} {$name}]\n"
+    printf "puts [thread::send [thread::create] [list set {$name} 5]]\n"
+    printf "dict set d {$name} 6; puts [dict get \$d {$name}]\n"
+    printf "upvar 0 {$name} z; puts \$z\n"
+    printf "puts [catch {{$name}x} e][catch {thread::mutex lock {$name}} e][catch {puts {$name} y} e]\n"
+} >script
+check 'such names of variables, elements, procedures, shared variables, keys and ids' 0 \
+    $'2\n2n\377\200e\n3\n4\n5\n6\n2\n111' script
 
 # ---- threads, posts and jobs
 

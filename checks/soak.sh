@@ -61,13 +61,17 @@ run() {
     echo "$code" >"$folder/$name.code"
 }
 
-# A recorded run that was not over is replayed to the end of its schedule, with a status line of its own.
+# Whether the replay ended otherwise than it has to. A recorded run that was not over is replayed to the end of its
+# schedule, with a status line of its own. A greater code than those of the statuses is a crash, or two minutes.
 differs() {
-    if [ "$(cat "$folder/first.code")" -ge 101 ]; then
-        [ "$(cat "$folder/again.code")" -ne 109 ] || return 1
-        return 0
+    local first again
+    first=$(cat "$folder/first.code") again=$(cat "$folder/again.code")
+    if [ "$first" -gt 109 ]; then return 0; fi
+    if [ "$first" -ge 101 ]; then
+        [ "$again" -ne 109 ]
+        return
     fi
-    ! cmp -s "$folder/first.code" "$folder/again.code" || ! cmp -s "$folder/first.err" "$folder/again.err"
+    [ "$first" -ne "$again" ] || ! cmp -s "$folder/first.err" "$folder/again.err"
 }
 
 runs=0 entries=0 differences=0
@@ -82,7 +86,7 @@ while [ "$(date +%s)" -lt "$end" ]; do
         if ! cmp -s "$folder/first.out" "$folder/again.out" || differs; then
             differences=$((differences + 1))
             echo "differs on $workers workers: $script ${arguments[*]}"
-            cp -r "$folder" "/tmp/soak-$differences.$$"
+            cp -r "$folder" "${TMPDIR:-/tmp}/soak-$differences.$$"
         fi
     done
 done
