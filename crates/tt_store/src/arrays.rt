@@ -39,7 +39,7 @@ impl Store {
             held.Drops self.old (spot name.now (option_copied index.entry)) self.new removed) }
     {
         let spot = spot_named(self.alloc, name, index)?;
-        let removed = self.nesting.unset(&spot);
+        let removed = self.nesting.unset(&spot)?;
         Ok(removed)
     }
 

@@ -236,8 +236,9 @@ impl Nesting {
     }
 
     /// Removes a name.
-    pub(crate) fn unset(&mut self, spot: &Spot) -> Result<(), VarFault>
-        ensures removed { Removes self.old.frames (place_in self.old.current spot.now) self.new.frames result }
+    pub(crate) fn unset(&mut self, spot: &Spot) -> Result<Result<(), VarFault>, NoMemory>
+        ensures removed { IfOk result
+            (Removes self.old.frames (place_in self.old.current spot.now) self.new.frames) }
         ensures rest { self.new ≡ with_frames self.old self.new.frames }
     {
         let frame = self.frame_of(spot);

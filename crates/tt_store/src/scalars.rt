@@ -74,7 +74,7 @@ impl Store {
         ensures { IfOk result (λ message. scalars.DropsOne nocomplain name.now self.old message self.new) }
     {
         let spot = spot_of(self.alloc, name.as_bytes())?;
-        let removed = self.nesting.unset(&spot);
+        let removed = self.nesting.unset(&spot)?;
         match told_of(nocomplain, removed) {
             Some(fault) => Ok(Some(cannot_unset(self.alloc, name.as_bytes(), fault)?)),
             None => Ok(None),

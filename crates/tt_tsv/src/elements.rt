@@ -17,8 +17,8 @@ use std::marker::Model;
 use tt_text::{NoMemory, Text, Texts};
 use tt_value::Value;
 
-/// The elements of an array, in the order of their first insertion. A value keeps what it was read as. Contracts see the
-/// list of pairs of a key and a value's text.
+/// The elements of an array, in the order of their first insertion. A value keeps what it was read as. Contracts see
+/// the list of pairs of a key and a value's text.
 #[derive(Debug, Drop)]
 pub struct Elements {
     map: IndexMap<Text, Value>,

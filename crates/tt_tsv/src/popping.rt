@@ -9,7 +9,7 @@ use crate::change::{Change, not_asked};
 use std::alloc::Global;
 use tt_lists::{ListAnswer, bad_index, index};
 use tt_text::{NoMemory, Text};
-use tt_value::Value;
+use tt_value::{Items, Value};
 
 /// The first item, or that of an index; outside the list none.
 pub(crate) fn pop(alloc: Global, value: &mut Value, words: &[Text]) -> Result<Change, NoMemory>
@@ -29,7 +29,7 @@ fn pop_of(alloc: Global, value: &mut Value, word: &[u8]) -> Result<Change, NoMem
     ensures value { IfOk result (λ change. value.new ≡ left_by change value.old) }
 {
     match value.items(alloc)? {
-        Ok(items) => pop_among(alloc, value, items.as_slice(), word),
+        Ok(items) => pop_among(alloc, value, items, word),
         Err(fault) => {
             let message = fault.message(alloc)?;
             Ok(Change::Kept(ListAnswer::Bad(message)))
@@ -40,17 +40,18 @@ fn pop_of(alloc: Global, value: &mut Value, word: &[u8]) -> Result<Change, NoMem
 fn pop_among(
     alloc: Global,
     value: &mut Value,
-    items: &[Text],
+    items: Items,
     word: &[u8],
 ) -> Result<Change, NoMemory>
-    ensures change { IfOk result (λ change. change ≡ pops_among items.now word.now) }
+    ensures change { IfOk result (λ change. change ≡ pops_among items word.now) }
     ensures value { IfOk result (λ change. value.new ≡ left_by change value.old) }
 {
     let Some(index) = index(word) else {
         let message = bad_index(alloc, word)?;
         return Ok(Change::Kept(ListAnswer::Bad(message)));
     };
-    let place = place_within(index.place(items.len()), items.len());
+    let count = items.as_slice().len();
+    let place = place_within(index.place(count), count);
     pop_at(alloc, value, items, place)
 }
 
@@ -66,33 +67,24 @@ fn place_within(place: i128, count: usize) -> Option<usize>
     }
 }
 
-// The others are the value then, as a list whose text is made when it is asked for.
+// The others are the value then, as a list whose text is made when it is asked for. The value gives up its share of the
+// items first, so that none is copied if nobody else has them.
 fn pop_at(
     alloc: Global,
     value: &mut Value,
-    items: &[Text],
+    items: Items,
     place: Option<usize>,
 ) -> Result<Change, NoMemory>
-    requires { ForSome place (λ place. place < length items.now) }
-    ensures change { IfOk result (λ change. change ≡ pops_at items.now place) }
+    requires { ForSome place (λ place. place < length items) }
+    ensures change { IfOk result (λ change. change ≡ pops_at items place) }
     ensures value { IfOk result (λ change. value.new ≡ left_by change value.old) }
 {
     let Some(place) = place else {
         return Ok(Change::Kept(ListAnswer::Made(Text::new(alloc))));
     };
-    let mut others = copies(alloc, items)?;
+    *value = Value::new(alloc);
+    let mut others = items.into_vec()?;
     let item = others.remove(place);
     *value = Value::from_items(others)?;
     Ok(Change::Put(value.copy()?, item))
-}
-
-fn copies(alloc: Global, items: &[Text]) -> Result<Vec<Text>, NoMemory>
-    ensures { IfOk result (λ copies. copies.items ≡ items.now) }
-{
-    let mut copies = Vec::new(alloc);
-    copies.reserve(items.len())?;
-    for item in items {
-        copies.push(item.copy()?)?;
-    }
-    Ok(copies)
 }

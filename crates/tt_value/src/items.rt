@@ -1,10 +1,10 @@
-ghost use Rattle.std.specs.Prelude.{◌≡◌};
+ghost use Rattle.std.specs.Prelude.{◌≡◌, IfOk};
 ghost use Rattle.std.specs.Arc.{arc_value};
 
 use crate::listing::Listing;
 use std::marker::Model;
 use std::sync::Arc;
-use tt_text::Text;
+use tt_text::{NoMemory, Text};
 
 /// The items of a list (Tcl(n)), shared with the value that they were read from. Contracts see the list of them.
 #[derive(Debug, Drop)]
@@ -33,5 +33,17 @@ impl Items {
         ensures items { result.now ≡ self.now }
     {
         self.list.items()
+    }
+
+    /// The items as a vector. They are copied only if a value or other `Items` share them.
+    ///
+    /// `NoMemory` if the memory for copies is refused.
+    pub fn into_vec(self) -> Result<Vec<Text>, NoMemory>
+        ensures items { IfOk result (λ items. items.items ≡ self) }
+    {
+        match Arc::try_unwrap(self.list) {
+            Ok(list) => Ok(list.into_items()),
+            Err(list) => list.copied_items(),
+        }
     }
 }

@@ -69,6 +69,22 @@ impl Listing {
         self.items.as_slice()
     }
 
+    /// The items as a vector. None is copied.
+    pub(crate) fn into_items(self) -> Vec<Text>
+        ensures items { result.items ≡ self.items }
+    {
+        let Listing { items, .. } = self;
+        items
+    }
+
+    /// Copies of the items.
+    pub(crate) fn copied_items(&self) -> Result<Vec<Text>, NoMemory>
+        ensures items { IfOk result (λ items. items.items ≡ self.now.items) }
+    {
+        let items = Texts::from_copies(*self.items.allocator(), self.items.as_slice())?;
+        Ok(items.into_vec())
+    }
+
     /// What is known of them. Nothing runs here.
     #[tactic(auto, using(crate::proofs::AtEnd::is_split))]
     pub(crate) fn is_split(&self)
@@ -106,9 +122,8 @@ impl Listing {
     pub(crate) fn copy(&self) -> Result<Self, NoMemory>
         ensures copied { IfOk result (λ list. list ≡ self.now) }
     {
-        let items = Texts::from_copies(*self.items.allocator(), self.items.as_slice())?;
         Ok(Listing {
-            items: items.into_vec(),
+            items: self.copied_items()?,
             spelling: copied(&self.spelling)?,
         })
     }

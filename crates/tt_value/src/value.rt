@@ -1,4 +1,4 @@
-ghost use Rattle.std.specs.Prelude.{◌≡◌, ◌++◌, [], Err, IfErr, IfOk, Ok, OnErr, OnOk};
+ghost use Rattle.std.specs.Prelude.{◌≡◌, ◌++◌, [], Err, IfErr, IfOk, IfSome, Ok, OnErr, OnOk};
 ghost use Rattle.std.specs.Fmt.{signed_decimal};
 ghost use Rattle.std.specs.List.{flat_map};
 ghost use Rattle.tt_lists.specs.Commands.{item_of, range_answer};
@@ -129,6 +129,16 @@ impl Value {
         }
     }
 
+    /// The whole number that is kept, whose decimal text this is; of another value nothing is said.
+    pub fn number(&self) -> Option<i64>
+        ensures written { IfSome result (λ number. self.now ≡ signed_decimal number) }
+    {
+        match self.kept {
+            Kept::Number(number) => Some(number),
+            _ => None,
+        }
+    }
+
     /// What the text is read as as a whole number (expr(n), OPERANDS), with the faults of `read_whole`. A number whose
     /// decimal text the value has is kept.
     ///
@@ -247,8 +257,8 @@ impl Value {
         })
     }
 
-    /// What the text is read as as a dictionary (dict(n)), with the messages of `tt_pairs::read`. The pairs are kept beside
-    /// the text, so that the next reading takes constant time.
+    /// What the text is read as as a dictionary (dict(n)), with the messages of `tt_pairs::read`. The pairs are kept
+    /// beside the text, so that the next reading takes constant time.
     ///
     /// `NoMemory` if memory is refused.
     pub fn pairs(&mut self, alloc: Global) -> Result<Result<Pairs, Text>, NoMemory>
@@ -267,10 +277,10 @@ impl Value {
         kept_pairs::own_pairs(alloc, &self.kept)
     }
 
-    /// Makes the text the canonical one of the pairs that the value is read as (dict(n)); or says why it is no dictionary,
-    /// and then it stays.
+    /// Makes the text the canonical one of the pairs that the value is read as (dict(n)); or says why it is no
+    /// dictionary, and then it stays.
     ///
-    /// `NoMemory` if memory is refused; then the text is as it was.
+    /// `NoMemory` if memory is refused; then nothing is said of the value.
     pub fn pairs_alone(&mut self, alloc: Global) -> Result<Result<(), Text>, NoMemory>
         ensures alone { IfOk result (λ alone. OnOk alone (after (λ pairs. pairs) (reading_of self.old) ≡ Ok self.new)) }
         ensures fault { IfOk result (λ alone. IfErr alone (λ message. reading_of self.old ≡ Err message)) }
@@ -279,8 +289,9 @@ impl Value {
         kept_pairs::pairs_alone(alloc, &mut self.kept)
     }
 
-    /// Gives a key this value in the dictionary that the value is, whose text is then the canonical one (dict(n)); or says
-    /// why it is none, and then it stays. Once its pairs are kept and if no copy shares them, that takes constant time.
+    /// Gives a key this value in the dictionary that the value is, whose text is then the canonical one (dict(n)); or
+    /// says why it is none, and then it stays. Once its pairs are kept and if no copy shares them, that takes constant
+    /// time.
     ///
     /// `NoMemory` if memory is refused; then nothing is said of the value.
     pub fn put_pair(

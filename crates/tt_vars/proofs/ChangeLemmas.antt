@@ -6,22 +6,16 @@ use Rattle.std.specs.Map.{values_of}
 use Rattle.indexmap.specs.IndexMap.{set_value_at}
 use Rattle.tt_lists.specs.declared.answer.ListAnswer.{ListAnswer}
 use Rattle.tt_lists.specs.declared.answer.ListAnswer.TheVariants.{Made, Bad}
-use Rattle.tt_value.specs.Growing.{value_after}
 use Rattle.tt_vars.specs.declared.answers.VarFault.{VarFault}
 use Rattle.tt_vars.specs.declared.answers.VarFault.TheVariants.{IsArray}
 use Rattle.tt_vars.specs.declared.answers.Written.TheVariants.{Yes}
 use Rattle.tt_vars.specs.declared.variable.Place.{Place}
 use Rattle.tt_vars.specs.declared.variable.Found.{Found}
 use Rattle.tt_vars.specs.declared.variable.Variable.{Variable}
-use Rattle.tt_vars.specs.Variables.{Frame, Pairs, Puts, result_of}
+use Rattle.tt_vars.specs.Variables.{Frame, Puts, result_of}
 use Rattle.tt_vars.specs.Links.{Changes, Takes, frame_at, with_frame}
 use Rattle.tt_vars.specs.inside.Found.{FindsAt, after_change, put_at, put_by, put_in, text_at}
 use Rattle.tt_vars.proofs.FrameLemmas.{set_value_at-same}
-
-pub among : (es : Pairs) (i : ℕ) (old new : List ℕ) (answer : ListAnswer) → slice_get (values_of es) i ≡ Some old
-    → new ≡ value_after answer old → set_value_at es i new ≡ after_change (set_value_at es i) es (Some answer)
-among es i old new (Made text) at is = ap (set_value_at es i) is
-among es i old new (Bad message) at is = ap (set_value_at es i) is ∙ set_value_at-same es i old at
 
 pub in-frame : (frame : Frame) (found : Found) (v w : Variable) (answer : Option ListAnswer) → slice_get (values_of frame) found.variable ≡ Some v
     → w ≡ after_change (put_in v found.element) v answer → set_value_at frame found.variable w ≡ after_change (put_at frame found) frame answer

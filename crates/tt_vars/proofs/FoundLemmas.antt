@@ -1,10 +1,10 @@
 -- What is found by a name is what reading and removing the name work on.
 use Rattle.std.proofs.Common.{◌≡◌, ℕ, List, Option, Some, None, Result, Ok, Err, bytes_eq, slice_get, position, remove}
-use Rattle.std.proofs.Common.{refl, ap, sym, subst, ◌∙◌, is_some, true≢false}
+use Rattle.std.proofs.Common.{refl, ap, sym, subst, ◌∙◌}
 use Rattle.std.specs.Map.{keys_of, values_of, lookup, remove_entry}
 use Rattle.std.specs.Option.{ok_or}
 use Rattle.indexmap.specs.IndexMap.{set_value_at, insert_entry}
-use Rattle.indexmap.proofs.MapLemmas.{Found-position, Missing-position, remove_entry-first, insert_entry-first, some_index}
+use Rattle.indexmap.proofs.MapLemmas.{Found-position, remove_entry-first, insert_entry-first}
 use Rattle.tt_vars.specs.declared.answers.VarFault.{VarFault}
 use Rattle.tt_vars.specs.declared.answers.VarFault.TheVariants.{NoSuchElement, IsArray}
 use Rattle.tt_vars.specs.declared.variable.Variable.{Variable}
@@ -13,7 +13,7 @@ use Rattle.tt_vars.specs.Variables.{Name, Frame, named, leads, read, with, witho
 use Rattle.tt_vars.specs.declared.variable.Found.{Found}
 use Rattle.tt_vars.specs.declared.variable.Place.{Place}
 use Rattle.tt_vars.specs.Links.{at, frame_at, with_frame, written_at}
-use Rattle.tt_vars.specs.inside.Found.{element_in, put_at, put_by, text_at, text_in, removed_in}
+use Rattle.tt_vars.specs.inside.Found.{has_element, put_at, put_by, text_at, text_in, removed_in}
 
 err_is_ok : {X E : Type 0} {e : E} {x : X} → Err e ≡ Ok x → ⊥
 err_is_ok h = cc
@@ -34,124 +34,92 @@ same_ok h = cc
 same_err : {X : Type 0} {x y : VarFault} → ◌≡◌ {A = Result X VarFault} (Err x) (Err y) → x ≡ y
 same_err h = cc
 
-no_link_found : (v : Variable) (index : Option Name) (e : Option ℕ) → element_in v index ≡ Ok e → leads (Some v) ≡ None
-no_link_found (Scalar text) index e is = refl
-no_link_found (Array elements) index e is = refl
-no_link_found (Link to) index e is = absurd (err_is_ok is)
+no_link_found : (v : Variable) (index : Option Name) → has_element v index ≡ Ok tt → leads (Some v) ≡ None
+no_link_found (Scalar text) index is = refl
+no_link_found (Array elements) index is = refl
+no_link_found (Link to) index is = absurd (err_is_ok is)
 
 Faults : VarFault → Frame → Name → Variable → Option Name → VarFault → Type 0
 Faults missing frame n v index fault = (removed missing frame n (Some v) index ≡ Err fault) × (read missing (Some v) index ≡ Err fault)
 
-faults : (missing : VarFault) (frame : Frame) (n : Name) (v : Variable) (index : Option Name) (fault : VarFault) → element_in v index ≡ Err fault →
+faults : (missing : VarFault) (frame : Frame) (n : Name) (v : Variable) (index : Option Name) (fault : VarFault) → has_element v index ≡ Err fault →
     Faults missing frame n v index fault
 unfolding Faults
 faults missing frame n (Scalar text) None fault is = absurd (err_is_ok (sym is))
 faults missing frame n (Array elements) None fault is = absurd (err_is_ok (sym is))
 faults missing frame n (Scalar text) (Some index) fault is = (ap Err (same_err is), ap Err (same_err is))
 faults missing frame n (Link to) index fault is = (ap Err (same_err is), ap Err (same_err is))
-faults missing frame n (Array elements) (Some index) fault is = by (position (bytes_eq index) (keys_of elements)) refl is
+faults missing frame n (Array elements) (Some index) fault is = by (lookup (bytes_eq index) elements) is
   where
-    by : (r : Option ℕ) → position (bytes_eq index) (keys_of elements) ≡ r → result_of Some (ok_or r NoSuchElement) ≡ Err fault
-        → (without_element frame n elements index (lookup (bytes_eq index) elements) ≡ Err fault)
-        × (ok_or (lookup (bytes_eq index) elements) NoSuchElement ≡ Err fault)
-    by (Some place) p is = absurd (err_is_ok (sym is))
-    by None p is =
-        let none = (Missing-position (bytes_eq index) elements p).value in
-        (ap (without_element frame n elements index) none ∙ ap Err (same_err is), ap (λ r. ok_or r NoSuchElement) none ∙ ap Err (same_err is))
+    by : (r : Option (List ℕ)) → result_of {Y = Unit {0}} (λ text. tt) (ok_or r NoSuchElement) ≡ Err fault
+        → (without_element frame n elements index r ≡ Err fault) × (ok_or r NoSuchElement ≡ Err fault)
+    by None is = (ap Err (same_err is), ap Err (same_err is))
+    by (Some text) is = absurd (err_is_ok (sym is))
 
-Finds : VarFault → Frame → Name → Variable → ℕ → Option Name → Option ℕ → Type 0
-Finds missing frame n v i index e =
-    (removed missing frame n (Some v) index ≡ Ok (removed_in frame i (Some v) e)) × (read missing (Some v) index ≡ ok_or (text_in (Some v) e) IsArray)
+Finds : VarFault → Frame → Name → Variable → ℕ → Option Name → Type 0
+Finds missing frame n v i index =
+    (removed missing frame n (Some v) index ≡ Ok (removed_in frame i (Some v) index))
+    × (read missing (Some v) index ≡ ok_or (text_in (Some v) index) IsArray)
 
-finds : (missing : VarFault) (frame : Frame) (n : Name) (v : Variable) (i : ℕ) (index : Option Name) (e : Option ℕ) →
-    position (bytes_eq n) (keys_of frame) ≡ Some i → element_in v index ≡ Ok e → Finds missing frame n v i index e
+finds : (missing : VarFault) (frame : Frame) (n : Name) (v : Variable) (i : ℕ) (index : Option Name) →
+    position (bytes_eq n) (keys_of frame) ≡ Some i → has_element v index ≡ Ok tt → Finds missing frame n v i index
 unfolding Finds
-finds missing frame n (Scalar text) i None e p is =
-    let none : None ≡ e = same_ok is in (
-      ap Ok (removed_place frame n i p)
-          ∙ ap (λ e. Ok (removed_in frame i (Some (Scalar text)) e)) none,
-      ap (λ e. ok_or (text_in (Some (Scalar text)) e) IsArray) none,
-    )
-finds missing frame n (Array elements) i None e p is =
-    let none : None ≡ e = same_ok is in (
-      ap Ok (removed_place frame n i p)
-          ∙ ap (λ e. Ok (removed_in frame i (Some (Array elements)) e)) none,
-      ap (λ e. ok_or (text_in (Some (Array elements)) e) IsArray) none,
-    )
-finds missing frame n (Scalar text) i (Some index) e p is = absurd (err_is_ok is)
-finds missing frame n (Link to) i index e p is = absurd (err_is_ok is)
-finds missing frame n (Array elements) i (Some index) e p is =
-    by (position (bytes_eq index) (keys_of elements)) (lookup (bytes_eq index) elements) refl refl is
+finds missing frame n (Scalar text) i None p is = (ap Ok (removed_place frame n i p), refl)
+finds missing frame n (Array elements) i None p is = (ap Ok (removed_place frame n i p), refl)
+finds missing frame n (Scalar text) i (Some index) p is = absurd (err_is_ok is)
+finds missing frame n (Link to) i index p is = absurd (err_is_ok is)
+finds missing frame n (Array elements) i (Some index) p is = by (lookup (bytes_eq index) elements) is
   where
-    by : (r : Option ℕ) (t : Option (List ℕ)) → position (bytes_eq index) (keys_of elements) ≡ r → lookup (bytes_eq index) elements ≡ t →
-        result_of Some (ok_or r NoSuchElement) ≡ Ok e
-        → (without_element frame n elements index (lookup (bytes_eq index) elements) ≡ Ok (removed_in frame i (Some (Array elements)) e))
-        × (ok_or (lookup (bytes_eq index) elements) NoSuchElement ≡ ok_or (text_in (Some (Array elements)) e) IsArray)
-    by None t q l is = absurd (err_is_ok is)
-    by (Some j) None q l is = absurd (true≢false (ap is_some (sym q) ∙ some_index (bytes_eq index) elements ∙ ap is_some l))
-    by (Some j) (Some text) q l is = (
-      ap (without_element frame n elements index) l
-          ∙ ap Ok (ap (λ ps. with frame n (Array ps)) (removed_place elements index j q) ∙ put_place frame n i p (Array (remove elements j)))
-          ∙ ap (λ e. Ok (removed_in frame i (Some (Array elements)) e)) (same_ok is),
-      ap (λ r. ok_or r NoSuchElement) l
-          ∙ ap (λ r. ok_or r IsArray) (sym l ∙ at_place elements index j q)
-          ∙ ap (λ e. ok_or (text_in (Some (Array elements)) e) IsArray) (same_ok is),
-    )
+    by : (r : Option (List ℕ)) → result_of {Y = Unit {0}} (λ text. tt) (ok_or r NoSuchElement) ≡ Ok tt
+        → (without_element frame n elements index r ≡ Ok (removed_in frame i (Some (Array elements)) (Some index)))
+        × (ok_or r NoSuchElement ≡ ok_or r IsArray)
+    by None is = absurd (err_is_ok is)
+    by (Some text) is = (ap Ok (put_place frame n i p (Array (remove_entry (bytes_eq index) elements))), refl)
 
 none_at : {old : List ℕ} → None ≡ Some old → ⊥
 none_at h = cc
 
 -- if a text is found, another is written in its stead
-puts : (frame : Frame) (n : Name) (v : Variable) (i : ℕ) (index : Option Name) (e : Option ℕ) (old text : List ℕ) →
-    position (bytes_eq n) (keys_of frame) ≡ Some i → element_in v index ≡ Ok e → text_in (Some v) e ≡ Some old →
-    result_of (with frame n) (written (Some v) index text) ≡ Ok (put_by frame i (Some v) e text)
-puts frame n (Scalar was) i None e old text p is there =
-    ap Ok (put_place frame n i p (Scalar text)) ∙ ap (λ e. Ok (put_by frame i (Some (Scalar was)) e text)) (same_ok is)
-puts frame n (Array elements) i None e old text p is there =
-    absurd (none_at (ap (text_in (Some (Array elements))) (same_ok is) ∙ there))
-puts frame n (Scalar was) i (Some index) e old text p is there = absurd (err_is_ok is)
-puts frame n (Link to) i index e old text p is there = absurd (err_is_ok is)
-puts frame n (Array elements) i (Some index) e old text p is there =
-    by (position (bytes_eq index) (keys_of elements)) refl is
-  where
-    by : (r : Option ℕ) → position (bytes_eq index) (keys_of elements) ≡ r → result_of Some (ok_or r NoSuchElement) ≡ Ok e
-        → ◌≡◌ {A = Result Frame VarFault} (Ok (with frame n (Array (insert_entry bytes_eq elements index text))))
-        (Ok (put_by frame i (Some (Array elements)) e text))
-    by None q is = absurd (err_is_ok is)
-    by (Some j) q is =
-        ap Ok (ap (λ ps. with frame n (Array ps)) (put_place elements index j q text) ∙ put_place frame n i p (Array (set_value_at elements j text)))
-        ∙ ap (λ e. Ok (put_by frame i (Some (Array elements)) e text)) (same_ok is)
+puts : (frame : Frame) (n : Name) (v : Variable) (i : ℕ) (index : Option Name) (old text : List ℕ) →
+    position (bytes_eq n) (keys_of frame) ≡ Some i → has_element v index ≡ Ok tt → text_in (Some v) index ≡ Some old →
+    result_of (with frame n) (written (Some v) index text) ≡ Ok (put_by frame i (Some v) index text)
+puts frame n (Scalar was) i None old text p is there = ap Ok (put_place frame n i p (Scalar text))
+puts frame n (Array elements) i None old text p is there = absurd (none_at there)
+puts frame n (Scalar was) i (Some index) old text p is there = absurd (err_is_ok is)
+puts frame n (Link to) i index old text p is there = absurd (err_is_ok is)
+puts frame n (Array elements) i (Some index) old text p is there =
+    ap Ok (put_place frame n i p (Array (insert_entry bytes_eq elements index text)))
 
 module _ (missing : VarFault) (frame : Frame) (n : Name) (v : Variable) (index : Option Name) (named_is : named frame n ≡ Some v) where
-  pub find-fault : (fault : VarFault) → element_in v index ≡ Err fault → removed missing frame n (named frame n) index ≡ Err fault
+  pub find-fault : (fault : VarFault) → has_element v index ≡ Err fault → removed missing frame n (named frame n) index ≡ Err fault
   unfolding Faults
   find-fault fault is = ap (λ s. removed missing frame n s index) named_is ∙ (faults missing frame n v index fault is).0
 
-  pub find-no_text : (fault : VarFault) → element_in v index ≡ Err fault → read missing (named frame n) index ≡ Err fault
+  pub find-no_text : (fault : VarFault) → has_element v index ≡ Err fault → read missing (named frame n) index ≡ Err fault
   unfolding Faults
   find-no_text fault is = ap (λ s. read missing s index) named_is ∙ (faults missing frame n v index fault is).1
 
-  module _ (i : ℕ) (e : Option ℕ) (p : position (bytes_eq n) (keys_of frame) ≡ Some i) (is : element_in v index ≡ Ok e) where
+  module _ (i : ℕ) (p : position (bytes_eq n) (keys_of frame) ≡ Some i) (is : has_element v index ≡ Ok tt) where
     there : Some v ≡ slice_get (values_of frame) i
     there = sym named_is ∙ at_place frame n i p
 
-    pub find-removed : removed missing frame n (named frame n) index ≡ Ok (removed_in frame i (slice_get (values_of frame) i) e)
+    pub find-removed : removed missing frame n (named frame n) index ≡ Ok (removed_in frame i (slice_get (values_of frame) i) index)
     unfolding Finds
-    find-removed = ap (λ s. removed missing frame n s index) named_is ∙ (finds missing frame n v i index e p is).0 ∙ ap (λ s. Ok (removed_in frame i s e)) there
+    find-removed = ap (λ s. removed missing frame n s index) named_is ∙ (finds missing frame n v i index p is).0 ∙ ap (λ s. Ok (removed_in frame i s index)) there
 
-    pub find-text : read missing (named frame n) index ≡ ok_or (text_in (slice_get (values_of frame) i) e) IsArray
+    pub find-text : read missing (named frame n) index ≡ ok_or (text_in (slice_get (values_of frame) i) index) IsArray
     unfolding Finds
-    find-text = ap (λ s. read missing s index) named_is ∙ (finds missing frame n v i index e p is).1 ∙ ap (λ s. ok_or (text_in s e) IsArray) there
+    find-text = ap (λ s. read missing s index) named_is ∙ (finds missing frame n v i index p is).1 ∙ ap (λ s. ok_or (text_in s index) IsArray) there
 
     pub find-no_link : leads (slice_get (values_of frame) i) ≡ None
-    find-no_link = ap leads (sym there) ∙ no_link_found v index e is
+    find-no_link = ap leads (sym there) ∙ no_link_found v index is
 
-    pub find-written : (old text : List ℕ) → text_in (slice_get (values_of frame) i) e ≡ Some old
-        → result_of (with frame n) (written (named frame n) index text) ≡ Ok (put_by frame i (slice_get (values_of frame) i) e text)
+    pub find-written : (old text : List ℕ) → text_in (slice_get (values_of frame) i) index ≡ Some old
+        → result_of (with frame n) (written (named frame n) index text) ≡ Ok (put_by frame i (slice_get (values_of frame) i) index text)
     find-written old text found =
         ap (λ s. result_of (with frame n) (written s index text)) named_is
-        ∙ puts frame n v i index e old text p is (ap (λ s. text_in s e) there ∙ found)
-        ∙ ap (λ s. Ok (put_by frame i s e text)) there
+        ∙ puts frame n v i index old text p is (ap (λ s. text_in s index) there ∙ found)
+        ∙ ap (λ s. Ok (put_by frame i s index text)) there
 
 written-in : (frames : List Frame) (place : Place) (made : Result Variable VarFault) (after : Frame) →
     result_of (with (frame_at frames place.frame) place.name) made ≡ Ok after →
@@ -171,3 +139,13 @@ found-written frames stands place frame found is here each old text there =
     ∙ written-in frames place (written (at frames place) place.index text) (put_at (frame_at frames place.frame) found text)
     (subst (λ f. (old text : List ℕ) → text_at f found ≡ Some old →
     result_of (with f place.name) (written (named f place.name) place.index text) ≡ Ok (put_at f found text)) here each old text there)
+
+-- what is written at a place with an index is written with a copy of the index
+pub written-copy : (frame : Frame) (n : Name) (index copy : Option Name) (place : ℕ) → copy ≡ index →
+    ((old text : List ℕ) → text_in (slice_get (values_of frame) place) index ≡ Some old →
+    result_of (with frame n) (written (named frame n) index text) ≡ Ok (put_by frame place (slice_get (values_of frame) place) index text)) →
+    (old text : List ℕ) → text_in (slice_get (values_of frame) place) copy ≡ Some old →
+    result_of (with frame n) (written (named frame n) index text) ≡ Ok (put_by frame place (slice_get (values_of frame) place) copy text)
+written-copy frame n index copy place is each old text there =
+    each old text (ap (text_in (slice_get (values_of frame) place)) (sym is) ∙ there)
+    ∙ ap (λ e. Ok (put_by frame place (slice_get (values_of frame) place) e text)) (sym is)

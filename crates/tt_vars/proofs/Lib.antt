@@ -4,4 +4,5 @@ mod FollowLemmas
 mod FoundLemmas
 mod FrameLemmas
 mod LinkLemmas
+mod SlotLemmas
 mod StandsLemmas

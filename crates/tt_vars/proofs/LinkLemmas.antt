@@ -143,7 +143,7 @@ pub keeps-taken : {S : Type 0} (m n : IndexMap Name Variable S) (i : ℕ) (taken
 keeps-taken m n i None at updates same is = subst (KeepsLinks m.entries) (sym same) (keeps-itself m.entries)
 keeps-taken m n i (Some p) at updates same is = keeps-removed m.entries n.entries i p.0 p.1 (sym at) updates.0 is
 
-keeps-element : (es : Frame) (place element : ℕ) → KeepsLinks es (removed_in es place (slice_get (values_of es) place) (Some element))
+keeps-element : (es : Frame) (place : ℕ) (element : Name) → KeepsLinks es (removed_in es place (slice_get (values_of es) place) (Some element))
 keeps-element es place element = by (slice_get (values_of es) place) refl
   where
     led : (v : Variable) → leads (Some (without_at v element)) ≡ leads (Some v)
@@ -155,5 +155,5 @@ keeps-element es place element = by (slice_get (values_of es) place) refl
     by None at = keeps-itself es
     by (Some v) at = keeps-set_at es place v (without_at v element) at (led v)
 
-pub keeps-without : (es fs : Frame) (place element : ℕ) → fs ≡ removed_in es place (slice_get (values_of es) place) (Some element) → KeepsLinks es fs
+pub keeps-without : (es fs : Frame) (place : ℕ) (element : Name) → fs ≡ removed_in es place (slice_get (values_of es) place) (Some element) → KeepsLinks es fs
 keeps-without es fs place element is = subst (KeepsLinks es) (sym is) (keeps-element es place element)

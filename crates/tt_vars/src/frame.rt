@@ -6,9 +6,11 @@ ghost use Rattle.tt_vars.specs.declared.answers.VarFault.TheVariants.{IsArray};
 ghost use Rattle.tt_vars.specs.declared.variable.Variable.TheVariants.{Link};
 ghost use Rattle.tt_vars.specs.Variables.{Name, named, is_set, leads, elements_of, read, written, with, removed};
 ghost use Rattle.tt_vars.specs.Variables.{result_of, Puts};
-ghost use Rattle.tt_vars.specs.inside.Found.{after_change, element_in, put_at, text_at, removed_at, removed_in};
+ghost use Rattle.tt_vars.specs.inside.Found.{after_change, has_element, put_at, put_by, removed_at, removed_in};
+ghost use Rattle.tt_vars.specs.inside.Found.{text_at, text_in};
 ghost use Rattle.tt_vars.specs.inside.Ending.{KeepsLinks};
 
+use crate::links::owned_index;
 use crate::reading::Reading;
 use crate::variable::{
     Found, Place, Variable, change_in, first_written, read_in, remove_from, write_to,
@@ -116,39 +118,67 @@ impl Frame {
 
     /// Finds what is read, written where it stands, or removed by a name; `missing` is the fault where there is no such
     /// name.
+    ///
+    /// `NoMemory` if there are too many copies of the index.
     pub(crate) fn find(
         &self,
         name: &Text,
         index: Option<&Text>,
         missing: VarFault,
-    ) -> Result<Found, VarFault>
-        ensures removed { IfOk result (λ found.
+    ) -> Result<Result<Found, VarFault>, NoMemory>
+        ensures removed { IfOk result (λ answer. IfOk answer (λ found.
             removed missing self.now name.now (named self.now name.now) (option_copied index.entry)
-            ≡ Ok (removed_at self.now found)) }
-        ensures text { IfOk result (λ found.
+            ≡ Ok (removed_at self.now found))) }
+        ensures text { IfOk result (λ answer. IfOk answer (λ found.
             read missing (named self.now name.now) (option_copied index.entry)
-            ≡ ok_or (text_at self.now found) IsArray) }
-        ensures written { IfOk result (λ found.
+            ≡ ok_or (text_at self.now found) IsArray)) }
+        ensures written { IfOk result (λ answer. IfOk answer (λ found.
             (old text : List ℕ) → text_at self.now found ≡ Some old →
             result_of (with self.now name.now)
             (written (named self.now name.now) (option_copied index.entry) text)
-            ≡ Ok (put_at self.now found text)) }
+            ≡ Ok (put_at self.now found text))) }
+        ensures fault { IfOk result (λ answer. IfErr answer (λ fault.
+            removed missing self.now name.now (named self.now name.now) (option_copied index.entry) ≡ Err fault)) }
+        ensures no_text { IfOk result (λ answer. IfErr answer (λ fault.
+            read missing (named self.now name.now) (option_copied index.entry) ≡ Err fault)) }
+    {
+        let variable = match self.place(name, index, missing) {
+            Ok(variable) => variable,
+            Err(fault) => return Ok(Err(fault)),
+        };
+        let element = owned_index(index)?;
+        Ok(Ok(Found { variable, element }))
+    }
+
+    // Which variable it is.
+    fn place(&self, name: &Text, index: Option<&Text>, missing: VarFault) -> Result<usize, VarFault>
+        ensures removed { IfOk result (λ place.
+            removed missing self.now name.now (named self.now name.now) (option_copied index.entry)
+            ≡ Ok (removed_in self.now place (slice_get (values_of self.now) place) (option_copied index.entry))) }
+        ensures text { IfOk result (λ place.
+            read missing (named self.now name.now) (option_copied index.entry)
+            ≡ ok_or (text_in (slice_get (values_of self.now) place) (option_copied index.entry)) IsArray) }
+        ensures written { IfOk result (λ place. (old text : List ℕ) →
+            text_in (slice_get (values_of self.now) place) (option_copied index.entry) ≡ Some old →
+            result_of (with self.now name.now)
+            (written (named self.now name.now) (option_copied index.entry) text)
+            ≡ Ok (put_by self.now place (slice_get (values_of self.now) place) (option_copied index.entry) text)) }
         ensures fault { IfErr result (λ fault.
             removed missing self.now name.now (named self.now name.now) (option_copied index.entry) ≡ Err fault) }
         ensures no_text { IfErr result (λ fault.
             read missing (named self.now name.now) (option_copied index.entry) ≡ Err fault) }
     {
-        let (variable, _, named) = self.map.get_full(name).ok_or(missing)?;
-        let element = place_in(named, index)?;
-        Ok(Found { variable, element })
+        let (place, _, named) = self.map.get_full(name).ok_or(missing)?;
+        has_element(named, index)?;
+        Ok(place)
     }
 
     /// Removes what was found. The names after it move up.
-    pub(crate) fn remove_at(&mut self, found: Found)
-        ensures removed { self.new ≡ removed_at self.old found }
+    pub(crate) fn remove_at(&mut self, found: &Found)
+        ensures removed { self.new ≡ removed_at self.old found.now }
         ensures links { KeepsLinks self.old self.new }
     {
-        match found.element {
+        match &found.element {
             None => self.remove_variable(found.variable),
             Some(element) => self.remove_element(found.variable, element),
         }
@@ -163,8 +193,9 @@ impl Frame {
     }
 
     // Removes an element of the array at a place.
-    fn remove_element(&mut self, place: usize, element: usize)
-        ensures removed { self.new ≡ removed_in self.old place (slice_get (values_of self.old) place) (Some element) }
+    fn remove_element(&mut self, place: usize, element: &Text)
+        ensures removed { self.new
+            ≡ removed_in self.old place (slice_get (values_of self.old) place) (Some element.now) }
         ensures links { KeepsLinks self.old self.new }
     {
         if let Some(variable) = self.map.get_index_mut(place) {
@@ -177,17 +208,18 @@ impl Frame {
     /// `NoMemory` if memory is refused.
     pub(crate) fn read_at<R: Reading>(
         &mut self,
-        found: Found,
+        found: &Found,
         reading: &R,
     ) -> Result<Option<R::Answer>, NoMemory>
-        ensures answer { IfOk result (λ answer. answer ≡ option_map (R.meaning reading.now) (text_at self.old found)) }
+        ensures answer { IfOk result (λ answer.
+            answer ≡ option_map (R.meaning reading.now) (text_at self.old found.now)) }
         ensures same { self.new ≡ self.old }
     {
         let alloc = *self.map.allocator();
         let Some(variable) = self.map.get_index_mut(found.variable) else {
             return Ok(None);
         };
-        read_in(alloc, variable, found.element, reading)
+        read_in(alloc, variable, found.element.as_ref(), reading)
     }
 
     /// Changes the value that was found; None if it is an array.
@@ -195,19 +227,19 @@ impl Frame {
     /// `NoMemory` if memory is refused; then nothing is said of the value.
     pub(crate) fn change_at<C: Changing>(
         &mut self,
-        found: Found,
+        found: &Found,
         changing: &C,
     ) -> Result<Option<Made>, NoMemory>
         ensures answer { IfOk result (λ answer.
-            answer ≡ option_map (C.meaning changing.now) (text_at self.old found)) }
-        ensures changed { IfOk result (λ answer. self.new ≡ after_change (put_at self.old found) self.old answer) }
+            answer ≡ option_map (C.meaning changing.now) (text_at self.old found.now)) }
+        ensures changed { IfOk result (λ answer. self.new ≡ after_change (put_at self.old found.now) self.old answer) }
         ensures links { KeepsLinks self.old self.new }
     {
         let alloc = *self.map.allocator();
         let Some(variable) = self.map.get_index_mut(found.variable) else {
             return Ok(None);
         };
-        change_in(alloc, variable, found.element, changing)
+        change_in(alloc, variable, found.element.as_ref(), changing)
     }
 
     /// The indices of an array, in order; None if the name is no array.
@@ -246,17 +278,13 @@ impl Frame {
     }
 }
 
-// Which element of a variable an index names; None without an index.
-fn place_in(variable: &Variable, index: Option<&Text>) -> Result<Option<usize>, VarFault>
-    ensures element { IfOk result (λ element. element_in variable.now (option_copied index.entry) ≡ Ok element) }
-    ensures fault { IfErr result (λ fault. element_in variable.now (option_copied index.entry) ≡ Err fault) }
+// Whether a variable has what an index names.
+fn has_element(variable: &Variable, index: Option<&Text>) -> Result<(), VarFault>
+    ensures { result ≡ has_element variable.now (option_copied index.entry) }
 {
     match (variable, index) {
-        (Variable::Scalar(_) | Variable::Array(_), None) => Ok(None),
-        (Variable::Array(elements), Some(index)) => {
-            let element = elements.position(index).ok_or(VarFault::NoSuchElement)?;
-            Ok(Some(element))
-        }
+        (Variable::Scalar(_) | Variable::Array(_), None) => Ok(()),
+        (Variable::Array(elements), Some(index)) => elements.has(index),
         (Variable::Scalar(_) | Variable::Link(_), _) => Err(VarFault::NotArray),
     }
 }

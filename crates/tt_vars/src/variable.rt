@@ -1,7 +1,7 @@
 ghost use Rattle.std.specs.Prelude.{◌≡◌, Some, None, Ok, IfOk, OnErr};
 ghost use Rattle.tt_vars.specs.Variables.{leads, written, Puts};
 ghost use Rattle.tt_vars.specs.inside.Found.{after_change, put_in, text_in, without_at};
-ghost use Rattle.std.specs.Option.{option_map};
+ghost use Rattle.std.specs.Option.{option_copied, option_map};
 
 use crate::elements::Elements;
 use crate::reading::Reading;
@@ -18,11 +18,11 @@ pub(crate) struct Place {
     pub(crate) index: Option<Text>,
 }
 
-/// Which variable of a frame, counted from 0, and which of its elements.
-#[derive(Clone, Copy, Debug)]
+/// Which variable of a frame, counted from 0, and the index of its element.
+#[derive(Debug, Drop)]
 pub(crate) struct Found {
     pub(crate) variable: usize,
-    pub(crate) element: Option<usize>,
+    pub(crate) element: Option<Text>,
 }
 
 /// What a name is in its frame (Tcl(n), upvar(n)).
@@ -79,11 +79,11 @@ pub(crate) fn write_to(
 }
 
 /// Removes an element of an array.
-pub(crate) fn remove_from(variable: &mut Variable, element: usize)
-    ensures removed { variable.new ≡ without_at variable.old element }
+pub(crate) fn remove_from(variable: &mut Variable, element: &Text)
+    ensures removed { variable.new ≡ without_at variable.old element.now }
 {
     if let Variable::Array(elements) = variable {
-        elements.remove_at(element);
+        elements.remove(element);
     }
 }
 
@@ -93,11 +93,11 @@ pub(crate) fn remove_from(variable: &mut Variable, element: usize)
 pub(crate) fn read_in<R: Reading>(
     alloc: Global,
     variable: &mut Variable,
-    element: Option<usize>,
+    element: Option<&Text>,
     reading: &R,
 ) -> Result<Option<R::Answer>, NoMemory>
     ensures answer { IfOk result (λ answer.
-        answer ≡ option_map (R.meaning reading.now) (text_in (Some variable.old) element)) }
+        answer ≡ option_map (R.meaning reading.now) (text_in (Some variable.old) (option_copied element.entry))) }
     ensures same { variable.new ≡ variable.old }
 {
     match (variable, element) {
@@ -105,7 +105,7 @@ pub(crate) fn read_in<R: Reading>(
             let answer = reading.read(alloc, value)?;
             Ok(Some(answer))
         }
-        (Variable::Array(elements), Some(element)) => elements.read_at(element, reading),
+        (Variable::Array(elements), Some(element)) => elements.read_as(element, reading),
         _ => Ok(None),
     }
 }
@@ -116,13 +116,13 @@ pub(crate) fn read_in<R: Reading>(
 pub(crate) fn change_in<C: Changing>(
     alloc: Global,
     variable: &mut Variable,
-    element: Option<usize>,
+    element: Option<&Text>,
     changing: &C,
 ) -> Result<Option<Made>, NoMemory>
     ensures answer { IfOk result (λ answer.
-        answer ≡ option_map (C.meaning changing.now) (text_in (Some variable.old) element)) }
+        answer ≡ option_map (C.meaning changing.now) (text_in (Some variable.old) (option_copied element.entry))) }
     ensures changed { IfOk result (λ answer.
-        variable.new ≡ after_change (put_in variable.old element) variable.old answer) }
+        variable.new ≡ after_change (put_in variable.old (option_copied element.entry)) variable.old answer) }
     ensures link { leads (Some variable.new) ≡ leads (Some variable.old) }
 {
     match (variable, element) {
@@ -130,7 +130,7 @@ pub(crate) fn change_in<C: Changing>(
             let answer = changing.change(alloc, value)?;
             Ok(Some(answer))
         }
-        (Variable::Array(elements), Some(element)) => elements.change_at(element, changing),
+        (Variable::Array(elements), Some(element)) => elements.change(element, changing),
         _ => Ok(None),
     }
 }

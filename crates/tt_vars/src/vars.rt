@@ -113,17 +113,29 @@ impl Vars {
     }
 
     /// Removes a name (unset(n)): what it stands for after its links, which stay.
-    pub fn unset(&mut self, frame: u64, name: &Text, index: Option<&Text>) -> Result<(), VarFault>
+    ///
+    /// `NoMemory` if memory is refused; then nothing has changed.
+    pub fn unset(
+        &mut self,
+        frame: u64,
+        name: &Text,
+        index: Option<&Text>,
+    ) -> Result<Result<(), VarFault>, NoMemory>
         requires { frame < length self.old }
-        ensures { Removes self.old (place_of frame name.now (option_copied index.entry)) self.new result }
+        ensures removed { IfOk result
+            (Removes self.old (place_of frame name.now (option_copied index.entry)) self.new) }
+        ensures unchanged { OnErr result (self.new ≡ self.old) }
     {
-        let (number, found) = self.find(frame, name, index)?;
-        self.frames[number].remove_at(found);
-        Ok(())
+        let (number, found) = match self.find(frame, name, index)? {
+            Ok(found) => found,
+            Err(fault) => return Ok(Err(fault)),
+        };
+        self.frames[number].remove_at(&found);
+        Ok(Ok(()))
     }
 
-    /// Changes the value of a name where it stands (append(n), lappend(n), incr(n)), with the faults of `read`. No frame
-    /// comes or goes.
+    /// Changes the value of a name where it stands (append(n), lappend(n), incr(n)), with the faults of `read`. No
+    /// frame comes or goes.
     ///
     /// `NoMemory` if memory is refused; then nothing is said of the value.
     pub fn change<C: Changing>(
@@ -139,11 +151,11 @@ impl Vars {
             answer) }
         ensures frames { length self.new ≡ length self.old }
     {
-        let (number, found) = match self.find(frame, name, index) {
+        let (number, found) = match self.find(frame, name, index)? {
             Ok(found) => found,
             Err(fault) => return Ok(Err(fault)),
         };
-        let answer = self.frames[number].change_at(found, changing)?;
+        let answer = self.frames[number].change_at(&found, changing)?;
         Ok(answer.ok_or(VarFault::IsArray))
     }
 
@@ -281,11 +293,11 @@ impl Vars {
             ReadsAs (R.meaning reading.now) self.old (place_of frame name.now (option_copied index.entry)) answer) }
         ensures same { self.new ≡ self.old }
     {
-        let (number, found) = match self.find(frame, name, index) {
+        let (number, found) = match self.find(frame, name, index)? {
             Ok(found) => found,
             Err(fault) => return Ok(Err(fault)),
         };
-        let answer = self.frames[number].read_at(found, reading)?;
+        let answer = self.frames[number].read_at(&found, reading)?;
         Ok(answer.ok_or(VarFault::IsArray))
     }
 
@@ -295,9 +307,9 @@ impl Vars {
         frame: u64,
         name: &Text,
         index: Option<&Text>,
-    ) -> Result<(usize, Found), VarFault>
+    ) -> Result<Result<(usize, Found), VarFault>, NoMemory>
         requires { frame < length self.now }
-        ensures { FindsAt self.now (place_of frame name.now (option_copied index.entry)) result }
+        ensures { IfOk result (FindsAt self.now (place_of frame name.now (option_copied index.entry))) }
     {
         let frames = self.frames.as_slice();
         let spot = follow(frames, Spot { frame, name, index });
@@ -325,19 +337,18 @@ fn find_spot(
     frames: &[Frame],
     index: Option<&Text>,
     spot: Option<Spot>,
-) -> Result<(usize, Found), VarFault>
+) -> Result<Result<(usize, Found), VarFault>, NoMemory>
     requires { IfSome spot (λ spot. spot.frame < length frames.now) }
-    ensures { IsFound frames.now (option_copied index.entry) (option_map place_at spot.entry) result }
+    ensures { IfOk result (IsFound frames.now (option_copied index.entry) (option_map place_at spot.entry)) }
 {
     let Some(spot) = spot else {
-        return Err(VarFault::NotArray);
+        return Ok(Err(VarFault::NotArray));
     };
-    let found = frame_in(frames, spot.frame).find(
-        spot.name,
-        spot.index,
-        missing(index, spot.index),
-    )?;
-    Ok((spot.frame as usize, found))
+    let frame = frame_in(frames, spot.frame);
+    match frame.find(spot.name, spot.index, missing(index, spot.index))? {
+        Ok(found) => Ok(Ok((spot.frame as usize, found))),
+        Err(fault) => Ok(Err(fault)),
+    }
 }
 
 // Writes a value to a place that is no link.

@@ -1,9 +1,9 @@
 -- What is found by a name, by its place in its frame.
-use Rattle.std.specs.Prelude.{◌≡◌, ℕ, ◌<◌, List, Option, None, Some, Result, Ok, Err, bytes_eq, length, position}
+use Rattle.std.specs.Prelude.{◌≡◌, ℕ, ◌<◌, List, Option, None, Some, Result, Ok, Err, bytes_eq, length}
 use Rattle.std.specs.Prelude.{slice_get, remove}
-use Rattle.std.specs.Map.{keys_of, values_of}
+use Rattle.std.specs.Map.{lookup, remove_entry, values_of}
 use Rattle.std.specs.Option.{ok_or, option_copied}
-use Rattle.indexmap.specs.IndexMap.{set_value_at}
+use Rattle.indexmap.specs.IndexMap.{insert_entry, set_value_at}
 use Rattle.tt_lists.specs.declared.answer.ListAnswer.{ListAnswer}
 use Rattle.tt_lists.specs.declared.answer.ListAnswer.TheVariants.{Made, Bad}
 use Rattle.tt_vars.specs.declared.answers.VarFault.{VarFault}
@@ -16,19 +16,19 @@ use Rattle.tt_vars.specs.declared.variable.Variable.TheVariants.{Scalar, Array, 
 use Rattle.tt_vars.specs.Variables.{Name, Frame, result_of}
 use Rattle.tt_vars.specs.Links.{StandsFor, frame_at, place_of, read_at, removed_of, with_frame, written_at}
 
--- which element an index names
-abbrev pub element_in : Variable → Option Name → Result (Option ℕ) VarFault
-element_in (Scalar text) None = Ok None
-element_in (Array elements) None = Ok None
-element_in (Array elements) (Some index) =
-    result_of Some (ok_or (position (bytes_eq index) (keys_of elements)) NoSuchElement)
-element_in (Scalar text) (Some index) = Err NotArray
-element_in (Link to) index = Err NotArray
+-- whether a variable has what an index names
+abbrev pub has_element : Variable → Option Name → Result Unit VarFault
+has_element (Scalar text) None = Ok tt
+has_element (Array elements) None = Ok tt
+has_element (Array elements) (Some index) =
+    result_of (λ text. tt) (ok_or (lookup (bytes_eq index) elements) NoSuchElement)
+has_element (Scalar text) (Some index) = Err NotArray
+has_element (Link to) index = Err NotArray
 
 -- the text at a place that was found
-abbrev pub text_in : Option Variable → Option ℕ → Option (List ℕ)
+abbrev pub text_in : Option Variable → Option Name → Option (List ℕ)
 text_in (Some (Scalar text)) None = Some text
-text_in (Some (Array elements)) (Some element) = slice_get (values_of elements) element
+text_in (Some (Array elements)) (Some element) = lookup (bytes_eq element) elements
 text_in (Some (Scalar text)) (Some element) = None
 text_in (Some (Array elements)) None = None
 text_in (Some (Link to)) element = None
@@ -38,15 +38,15 @@ abbrev pub text_at : Frame → Found → Option (List ℕ)
 text_at frame found = text_in (slice_get (values_of frame) found.variable) found.element
 
 -- the variable with another text at a place that was found
-abbrev pub put_in : Variable → Option ℕ → List ℕ → Variable
+abbrev pub put_in : Variable → Option Name → List ℕ → Variable
 put_in (Scalar old) None text = Scalar text
-put_in (Array elements) (Some element) text = Array (set_value_at elements element text)
+put_in (Array elements) (Some element) text = Array (insert_entry bytes_eq elements element text)
 put_in (Scalar old) (Some element) text = Scalar old
 put_in (Array elements) None text = Array elements
 put_in (Link to) element text = Link to
 
 -- the frame with it
-abbrev pub put_by : Frame → ℕ → Option Variable → Option ℕ → List ℕ → Frame
+abbrev pub put_by : Frame → ℕ → Option Variable → Option Name → List ℕ → Frame
 put_by frame place None element text = frame
 put_by frame place (Some variable) element text = set_value_at frame place (put_in variable element text)
 
@@ -59,14 +59,14 @@ after_change put old (Some (Made text)) = put text
 after_change put old (Some (Bad message)) = old
 after_change put old None = old
 
--- an array without the element at a place
-abbrev pub without_at : Variable → ℕ → Variable
+-- an array without an element
+abbrev pub without_at : Variable → Name → Variable
 without_at (Scalar text) element = Scalar text
-without_at (Array elements) element = Array (remove elements element)
+without_at (Array elements) element = Array (remove_entry (bytes_eq element) elements)
 without_at (Link to) element = Link to
 
 -- the frame without what is at a place that was found
-abbrev pub removed_in : Frame → ℕ → Option Variable → Option ℕ → Frame
+abbrev pub removed_in : Frame → ℕ → Option Variable → Option Name → Frame
 removed_in frame place variable None = remove frame place
 removed_in frame place None (Some element) = frame
 removed_in frame place (Some variable) (Some element) = set_value_at frame place (without_at variable element)
