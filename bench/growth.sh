@@ -6,8 +6,7 @@
 #
 # It ends with 1 if a row grows more than twice as fast as tclsh's. A row that is known to do so is marked `later`, and
 # doesn't count: `linsert` copies all items, as tclsh does with less for each; `string length` and `string range` wait for
-# texts that know that each character is one byte, elements that are unset for gaps that stay, and `tsv::lpop` for values
-# that give up an item in place.
+# texts that know that each character is one byte; `tsv::lpop` moves up the items behind the one that goes.
 # Usage: bench/growth.sh [N] [RUNS]
 set -euo pipefail
 shopt -s inherit_errexit
@@ -34,7 +33,7 @@ later string length|set s [string repeat abc N]; for {set i 0} {$i < N} {incr i}
 later string range|set s [string repeat abc N]; for {set i 0} {$i < N} {incr i} {string range $s $i $i}
 elements set|for {set i 0} {$i < N} {incr i} {set a($i) $i}
 elements read|for {set i 0} {$i < N} {incr i} {set a($i) $i}; for {set i 0} {$i < N} {incr i} {set a($i)}
-later elements unset|for {set i 0} {$i < N} {incr i} {set a($i) $i}; for {set i 0} {$i < N} {incr i} {unset a($i)}
+elements unset|for {set i 0} {$i < N} {incr i} {set a($i) $i}; for {set i 0} {$i < N} {incr i} {unset a($i)}
 tsv::lappend|for {set i 0} {$i < N/4} {incr i} {tsv::lappend t l $i}
 tsv::lindex|tsv::set t l [lrepeat N abc]; for {set i 0} {$i < N} {incr i} {tsv::lindex t l $i}
 later tsv::lpop|tsv::set t l [lrepeat [expr {N / 10}] abc]; for {set i 0} {$i < N/10} {incr i} {tsv::lpop t l}
