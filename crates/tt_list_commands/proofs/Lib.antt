@@ -1,4 +1,5 @@
 pub mod Equals
+pub mod Keeping
 pub mod Orders
 pub mod Repeats
 pub mod SortLaw

@@ -1,20 +1,20 @@
 -- Lists in order with the same equals are the same, and the function's list is in order.
-use Rattle.std.proofs.Common.{◌≡◌, ◌≢◌, ◌∙◌, ℕ, Bool, true, false, not, ◌&&◌, cond, if◌then◌else◌, List, [], ◌∷◌}
-use Rattle.std.proofs.Common.{Option, Some, None, ap, refl, sym, subst, rules}
+use Rattle.std.proofs.Common.{◌≡◌, ◌≢◌, ◌∙◌, ℕ, Bool, true, false, not, ◌&&◌, cond, List, [], ◌∷◌}
+use Rattle.std.proofs.Common.{Option, Some, None, ap, refl, sym}
 use Rattle.std.proofs.lemmas.List.MinMax.{ranks_by}
 use Rattle.std.specs.Cmp.{IsStrictWeakOrder}
 use Rattle.std.specs.List.{AllByRecursion, filter}
 use Rattle.std.specs.List.Sorted.{IsSorted, ties}
 use Rattle.std.specs.Ordering.{is_lt}
 use Rattle.std.specs.declared.cmp.Ordering.{Ordering}
-use Rattle.tt_list_commands.specs.SortFunction.{SortLaw, in_order, with_item, sort_answer, sort_in, sort_unless}
+use Rattle.tt_list_commands.specs.SortFunction.{SortLaw, in_order, with_item, sort_in, sort_unless}
 use Rattle.tt_list_commands.specs.Sorting.{IsInOrder, IsSortIn, IsSortUnless, fault_of, sort_result, order}
 use Rattle.tt_list_commands.specs.declared.sorting.Sorting.{Sorting}
 use Rattle.tt_list_commands.proofs.Equals.{first_ascends, order-total, sorted_later}
 use Rattle.tt_lists.specs.Reading.{split_of}
 use Rattle.tt_lists.specs.Spelling.{list_of}
 use Rattle.tt_lists.specs.declared.answer.ListAnswer.{ListAnswer}
-use Rattle.tt_lists.specs.declared.answer.ListAnswer.TheVariants.{Made, Bad}
+use Rattle.tt_lists.specs.declared.answer.ListAnswer.TheVariants.{Made}
 use Rattle.tt_lists.specs.declared.items.Split.{Split}
 use Rattle.tt_lists.specs.declared.items.Split.TheVariants as split
 

@@ -1,4 +1,4 @@
-ghost use Rattle.std.specs.Prelude.{◌≡◌, IfOk, map};
+ghost use Rattle.std.specs.Prelude.{◌≡◌, ◌++◌, ◌∷◌, [], IfOk, OnOk, map};
 ghost use Rattle.std.specs.List.{filter};
 ghost use Rattle.tt_list_commands.specs.Concatenating.{concatenation, has_some};
 ghost use Rattle.tt_number.specs.Numerals.{trimmed};
@@ -25,10 +25,18 @@ fn kept_texts(alloc: Global, texts: &[Text]) -> Result<Texts, NoMemory>
 {
     let mut kept = Texts::new(alloc);
     for text in texts {
-        let text = trimmed(text.as_bytes());
-        if !text.is_empty() {
-            kept.push(Text::from_bytes(alloc, text)?)?;
-        }
+        keep(alloc, &mut kept, trimmed(text.as_bytes()))?;
     }
     Ok(kept)
+}
+
+// Puts a text at the end, if there is something in it.
+#[tactic(auto, using(crate::proofs::Keeping::is_kept, crate::proofs::Keeping::is_left_out))]
+fn keep(alloc: Global, kept: &mut Texts, text: &[u8]) -> Result<(), NoMemory>
+    ensures { OnOk result (kept.new ≡ kept.old ++ filter has_some (text.now ∷ [])) }
+{
+    if !text.is_empty() {
+        kept.push(Text::from_bytes(alloc, text)?)?;
+    }
+    Ok(())
 }

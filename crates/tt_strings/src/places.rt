@@ -3,7 +3,7 @@ ghost use Rattle.std.specs.Prelude.{◌≡◌, length, take, drop, min, IsTrue};
 ghost use Rattle.tt_text.specs.Characters.{characters};
 ghost use Rattle.tt_strings.specs.Places.{character_at, bytes_of, places_before, places_through, range};
 
-use tt_text::{char_count, split_character};
+use tt_text::{Text, char_count, split_character};
 
 /// The character at a place (string(n), string index): empty if the text has no such place.
 ///
@@ -25,6 +25,37 @@ pub fn range(text: &[u8], first: i128, last: i128) -> &[u8]
 {
     let front = leading(text, places_through(last, text.len()));
     after(front, places_before(first, text.len()))
+}
+
+/// The same part of a text that knows whether each of its characters is one byte: then in constant time.
+#[tactic(auto, using(crate::proofs::Ranges::text_of))]
+pub fn range_in(text: &Text, first: i128, last: i128) -> &[u8]
+    ensures text { result.now ≡ bytes_of (range first last (characters text.now)) }
+{
+    if text.is_narrow() {
+        narrow_range(text.as_bytes(), first, last)
+    } else {
+        range(text.as_bytes(), first, last)
+    }
+}
+
+/// The same character of such a text.
+#[tactic(auto, using(crate::proofs::Ranges::one_character))]
+pub fn character_in(text: &Text, place: i128) -> &[u8]
+    ensures { result.now ≡ character_at place (characters text.now) }
+{
+    range_in(text, place, place)
+}
+
+// The same part of a text of which each character is one byte.
+#[tactic(auto, using(crate::proofs::Narrow::narrow_range))]
+fn narrow_range(text: &[u8], first: i128, last: i128) -> &[u8]
+    requires narrow { length (characters text.now) ≡ length text.now }
+    ensures characters { characters result.now ≡ range first last (characters text.now) }
+{
+    let (front, _) = text.split_at(places_through(last, text.len()));
+    let (_, part) = front.split_at(places_before(first, text.len()).min(front.len()));
+    part
 }
 
 // How many places are less than this one, and at most so many.

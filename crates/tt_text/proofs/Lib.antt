@@ -5,4 +5,5 @@ pub mod CharacterLemmas
 mod DefinitionExamples
 pub mod GlobLaw
 pub mod GlobLemmas
+pub mod NarrowLemmas
 pub mod RoomLemmas

@@ -1,6 +1,7 @@
 ghost use Rattle.std.specs.Prelude.{◌≡◌, ◌+◌, ◌∷◌, ◌<◌, [], length, MatchOption, IfSome, take_while};
 ghost use Rattle.std.specs.Prelude.{bytes_eq};
-ghost use Rattle.tt_text.specs.Characters.{characters, continues_character};
+ghost use Rattle.std.specs.List.{list_all};
+ghost use Rattle.tt_text.specs.Characters.{begins_character, characters, continues_character};
 
 use tt_lanes::count_chars;
 
@@ -36,6 +37,16 @@ pub fn continues_character(byte: u8) -> bool
     ensures { result ≡ continues_character byte }
 {
     matches!(byte, 0x80..=0xBF)
+}
+
+/// Whether each byte begins a character, so that each character is one byte (string(n)).
+pub(crate) fn is_narrow(text: &[u8]) -> bool
+    ensures { result ≡ list_all begins_character text.now }
+{
+    match text.split_first() {
+        Some((first, _)) => !continues_character(*first) && char_count(text) == text.len(),
+        None => true,
+    }
 }
 
 // Whether a character is this one byte.

@@ -8,6 +8,7 @@ mod comparing;
 mod few;
 mod glob_set;
 pub mod laws;
+mod many;
 mod no_memory;
 mod patterns;
 mod quoted;

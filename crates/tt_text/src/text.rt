@@ -1,8 +1,12 @@
 ghost use Rattle.std.specs.Prelude.{◌≡◌, ◌++◌, ◌≤◌, [], bytes_eq, length, IfOk, OnOk, OnErr, ◌↔◌, IsTrue};
+ghost use Rattle.std.specs.List.{list_all};
+ghost use Rattle.tt_text.specs.Characters.{begins_character, characters};
 ghost use Rattle.tt_text.specs.inside.TextBytes.{bytes_of};
 
 use crate::NoMemory;
+use crate::characters::{char_count, is_narrow};
 use crate::few::{Few, ROOM};
+use crate::many::Many;
 use std::alloc::Global;
 use std::marker::Model;
 use std::sync::Arc;
@@ -11,7 +15,7 @@ use std::sync::Arc;
 #[derive(Debug, Drop)]
 enum Storage {
     Short(Few),
-    Long(Arc<Vec<u8>>),
+    Long(Arc<Many>),
 }
 
 /// A list of bytes, in no encoding, as Tcl(n) has them. Contracts see the list.
@@ -82,7 +86,7 @@ impl Text {
         match storage {
             Storage::Short(few) => Ok(Vec::from_slice(alloc, few.as_slice())?),
             Storage::Long(shared) => match Arc::try_unwrap(shared) {
-                Ok(bytes) => Ok(bytes),
+                Ok(many) => Ok(many.into_vec()),
                 Err(shared) => Ok(Vec::from_slice(alloc, shared.as_slice())?),
             },
         }
@@ -110,6 +114,28 @@ impl Text {
         ensures empty { IsTrue result ↔ (self.now ≡ []) }
     {
         self.as_bytes().is_empty()
+    }
+
+    /// Whether each byte begins a character, and then each character is one byte (string(n)). Constant time.
+    pub fn is_narrow(&self) -> bool
+        ensures narrow { result ≡ list_all begins_character self.now }
+        ensures one_byte_each { IsTrue result → length (characters self.now) ≡ length self.now }
+    {
+        match &self.storage {
+            Storage::Short(few) => is_narrow(few.as_slice()),
+            Storage::Long(shared) => shared.is_narrow(),
+        }
+    }
+
+    /// How many characters there are (string(n), string length), in constant time if each is one byte.
+    pub fn char_count(&self) -> usize
+        ensures count { result ≡ length (characters self.now) }
+    {
+        if self.is_narrow() {
+            self.len()
+        } else {
+            char_count(self.as_bytes())
+        }
     }
 
     /// Whether the other text has the same bytes. Two that are stored in place are compared as they are stored.
@@ -163,7 +189,7 @@ fn in_place(bytes: &[u8]) -> Storage
 fn shared(alloc: Global, bytes: Vec<u8>) -> Result<Storage, NoMemory>
     ensures stored { IfOk result (λ storage. bytes_of storage ≡ bytes.items) }
 {
-    Ok(Storage::Long(Arc::new(alloc, bytes)?))
+    Ok(Storage::Long(Arc::new(alloc, Many::from_vec(bytes))?))
 }
 
 fn push_stored(alloc: Global, storage: &mut Storage, bytes: &[u8]) -> Result<(), NoMemory>
@@ -178,9 +204,9 @@ fn push_stored(alloc: Global, storage: &mut Storage, bytes: &[u8]) -> Result<(),
                 *storage = shared(alloc, joined(alloc, few.as_slice(), bytes)?)?;
             }
         }
-        Storage::Long(vector) => match Arc::get_mut(vector) {
-            Some(vector) => vector.extend_from_slice(bytes)?,
-            None => *storage = shared(alloc, joined(alloc, vector.as_slice(), bytes)?)?,
+        Storage::Long(many) => match Arc::get_mut(many) {
+            Some(many) => many.push(bytes)?,
+            None => *storage = shared(alloc, joined(alloc, many.as_slice(), bytes)?)?,
         },
     }
     Ok(())

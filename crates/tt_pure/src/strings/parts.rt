@@ -11,8 +11,8 @@ ghost use Rattle.tt_pure.specs.Usages.{wrong_number};
 use crate::usages::wrong_number;
 use std::alloc::Global;
 use tt_lists::{ListAnswer, bad_index, count_text, index};
-use tt_strings::{Side, WHITE_SPACE, character_at, lower, range, reversed, trim, upper};
-use tt_text::{NoMemory, Text, char_count};
+use tt_strings::{Side, WHITE_SPACE, character_in, lower, range_in, reversed, trim, upper};
+use tt_text::{NoMemory, Text};
 
 fn made_text(alloc: Global, text: &[u8]) -> Result<ListAnswer, NoMemory>
     ensures { IfOk result (λ answer. answer ≡ ListAnswer.Made text.now) }
@@ -29,10 +29,10 @@ fn no_index(alloc: Global, word: &[u8]) -> Result<ListAnswer, NoMemory>
 }
 
 // The place of a character that a word names.
-fn place_in(text: &[u8], word: &[u8]) -> Option<i128>
+fn place_in(text: &Text, word: &[u8]) -> Option<i128>
     ensures { result ≡ option_map (λ index. place_in index (length (characters text.now))) (index_of word.now) }
 {
-    index(word).map(|index| index.place(char_count(text)))
+    index(word).map(|index| index.place(text.char_count()))
 }
 
 pub(crate) fn length_answer(
@@ -43,15 +43,15 @@ pub(crate) fn length_answer(
     ensures { IfOk result (λ answer. answer ≡ answers.length_answer (wrong_number usage.now) words.now) }
 {
     match words {
-        [text] => count_answer(alloc, text.as_bytes()),
+        [text] => count_answer(alloc, text),
         _ => wrong_number(alloc, usage),
     }
 }
 
-fn count_answer(alloc: Global, text: &[u8]) -> Result<ListAnswer, NoMemory>
+fn count_answer(alloc: Global, text: &Text) -> Result<ListAnswer, NoMemory>
     ensures { IfOk result (λ answer. answer ≡ ListAnswer.Made (decimal (length (characters text.now)))) }
 {
-    let count = count_text(alloc, char_count(text))?;
+    let count = count_text(alloc, text.char_count())?;
     Ok(ListAnswer::Made(count))
 }
 
@@ -63,16 +63,16 @@ pub(crate) fn index_answer(
     ensures { IfOk result (λ answer. answer ≡ answers.index_answer (wrong_number usage.now) words.now) }
 {
     match words {
-        [text, word] => character_answer(alloc, text.as_bytes(), word.as_bytes()),
+        [text, word] => character_answer(alloc, text, word.as_bytes()),
         _ => wrong_number(alloc, usage),
     }
 }
 
-fn character_answer(alloc: Global, text: &[u8], word: &[u8]) -> Result<ListAnswer, NoMemory>
+fn character_answer(alloc: Global, text: &Text, word: &[u8]) -> Result<ListAnswer, NoMemory>
     ensures { IfOk result (λ answer. answer ≡ answers.character_answer text.now word.now) }
 {
     match place_in(text, word) {
-        Some(place) => made_text(alloc, character_at(text, place)),
+        Some(place) => made_text(alloc, character_in(text, place)),
         None => no_index(alloc, word),
     }
 }
@@ -85,16 +85,14 @@ pub(crate) fn range_answer(
     ensures { IfOk result (λ answer. answer ≡ answers.range_answer (wrong_number usage.now) words.now) }
 {
     match words {
-        [text, first, last] => {
-            part_answer(alloc, text.as_bytes(), first.as_bytes(), last.as_bytes())
-        }
+        [text, first, last] => { part_answer(alloc, text, first.as_bytes(), last.as_bytes()) }
         _ => wrong_number(alloc, usage),
     }
 }
 
 fn part_answer(
     alloc: Global,
-    text: &[u8],
+    text: &Text,
     first: &[u8],
     last: &[u8],
 ) -> Result<ListAnswer, NoMemory>
@@ -106,7 +104,7 @@ fn part_answer(
     let Some(to) = place_in(text, last) else {
         return no_index(alloc, last);
     };
-    made_text(alloc, range(text, from, to))
+    made_text(alloc, range_in(text, from, to))
 }
 
 pub(crate) fn reverse_answer(

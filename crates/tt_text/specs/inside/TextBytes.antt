@@ -7,4 +7,4 @@ use Rattle.tt_text.specs.declared.text.Storage.TheVariants.{Short, Long}
 -- the bytes in place, or those that the pointer shares
 abbrev pub bytes_of : Storage → List ℕ
 bytes_of (Short few) = few
-bytes_of (Long shared) = (arc_value shared).items
+bytes_of (Long shared) = arc_value shared
