@@ -17,25 +17,25 @@ use Rattle.tt_core.specs.Stage.{Began}
 use Rattle.tt_devices.specs.declared.files.Files.{Ghosts as OfFiles}
 use Rattle.tt_devices.specs.declared.sink.Sink.{Ghosts as OfSink}
 use Rattle.tt_devices.specs.declared.source.Source.{Ghosts as OfSource}
-use Rattle.tclthread.specs.Answer.{AnswersTo, IsAnswered, IsRefusal, HasRun, IsWordRefusal}
-use Rattle.tclthread.specs.Answer as answer
+use Rattle.tt_session.specs.Answer.{AnswersTo, IsAnswered, IsRefusal, HasRun, IsWordRefusal}
+use Rattle.tt_session.specs.Answer as answer
 use Rattle.tclthread.specs.AnswerLaws.{GotSame, IsSettled, OneAnswerLaw, ReplayLaw, replayed_as}
-use Rattle.tclthread.specs.Asking.{BeginsAs, HasWrongText, IsMissing, generate_setup, plain_setup, record_of, replay_setup}
-use Rattle.tclthread.specs.Choosing.{Allows, Chooses, Freely, InTurn, Mode, Replaying, TakesTurns, limit_of}
-use Rattle.tclthread.specs.Choosing as turn
-use Rattle.tclthread.specs.Ending.{EndsAs, IsFull, IsRefused, IsWhole, cause_of}
-use Rattle.tclthread.specs.Recording.{Records}
-use Rattle.tclthread.specs.Recording as recording
-use Rattle.tclthread.specs.Running.{HasMachine}
-use Rattle.tclthread.specs.Status.{ended_status, refused_status}
-use Rattle.tclthread.specs.declared.ended.Ended.{Ended}
-use Rattle.tclthread.specs.declared.status.End.{End}
-use Rattle.tclthread.specs.declared.status.End.TheVariants as ends
-use Rattle.tclthread.specs.declared.status.Place.TheVariants.{Byte, Entry}
-use Rattle.tclthread.specs.declared.status.Refusal.{Refusal}
-use Rattle.tclthread.specs.declared.status.Refusal.TheVariants as refusal
-use Rattle.tclthread.specs.declared.status.Status.{Status}
-use Rattle.tclthread.specs.declared.status.Status.TheVariants.{Done, Usage, NoFile, BadSchedule, ScheduleEnded, Stalled, StepLimit}
+use Rattle.tt_session.specs.Asking.{BeginsAs, HasWrongText, IsMissing, generate_setup, plain_setup, record_of, replay_setup}
+use Rattle.tt_session.specs.Choosing.{Allows, Chooses, Freely, InTurn, Mode, Replaying, TakesTurns, limit_of}
+use Rattle.tt_session.specs.Choosing as turn
+use Rattle.tt_session.specs.Ending.{EndsAs, IsFull, IsRefused, IsWhole, cause_of}
+use Rattle.tt_session.specs.Recording.{Records}
+use Rattle.tt_session.specs.Recording as recording
+use Rattle.tt_session.specs.Running.{HasMachine}
+use Rattle.tt_session.specs.Status.{ended_status, refused_status}
+use Rattle.tt_session.specs.declared.ended.Ended.{Ended}
+use Rattle.tt_session.specs.declared.status.End.{End}
+use Rattle.tt_session.specs.declared.status.End.TheVariants as ends
+use Rattle.tt_session.specs.declared.status.Place.TheVariants.{Byte, Entry}
+use Rattle.tt_session.specs.declared.status.Refusal.{Refusal}
+use Rattle.tt_session.specs.declared.status.Refusal.TheVariants as refusal
+use Rattle.tt_session.specs.declared.status.Status.{Status}
+use Rattle.tt_session.specs.declared.status.Status.TheVariants.{Done, Usage, NoFile, BadSchedule, ScheduleEnded, Stalled, StepLimit}
 
 -- ---- how a settled run ends
 

@@ -1,8 +1,2 @@
 pub mod AnswerLemmas
-pub mod CloseLemmas
-pub mod FollowLemmas
-pub mod FreelyLemmas
-pub mod LineLemmas
-pub mod RunLemmas
-pub mod TurnLemmas
 pub mod WordLemmas

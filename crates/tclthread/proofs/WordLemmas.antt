@@ -3,9 +3,9 @@ use Rattle.std.proofs.Common.{◌≡◌, ◌∙◌, ℕ, List, [], ◌∷◌, �
 use Rattle.std.proofs.Common.{sym, ap, subst, arith, append_assoc, append-nil}
 use Rattle.std.specs.Vec.Iter.{into_iter_items, into_iter_len, into_iter_steps}
 use Rattle.std.specs.declared.vec.IntoIter.{IntoIter}
-use Rattle.tclthread.specs.Answer.{IsWordRefusal}
-use Rattle.tclthread.specs.declared.status.Refusal.{Refusal}
-use Rattle.tclthread.specs.declared.status.Refusal.TheVariants as refusal
+use Rattle.tt_session.specs.Answer.{IsWordRefusal}
+use Rattle.tt_session.specs.declared.status.Refusal.{Refusal}
+use Rattle.tt_session.specs.declared.status.Refusal.TheVariants as refusal
 
 empty-list : {X : Type 0} (n : ℕ) (xs : List X) → n ≡ length xs → n ≡ 0 → xs ≡ []
 empty-list n [] is none = refl

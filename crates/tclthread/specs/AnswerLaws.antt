@@ -8,12 +8,12 @@ use Rattle.tt_devices.specs.declared.sink.Sink.{Ghosts as OfSink}
 use Rattle.tt_devices.specs.declared.source.Source.{Ghosts as OfSource}
 use Rattle.tt_schedule.specs.ScheduleText.{IsScheduleText}
 use Rattle.tt_words.specs.Asked.{Asked, Plain, WordsAskFor, Replay, plain, replay}
-use Rattle.tclthread.specs.Answer.{IsAnswered, HasRun}
-use Rattle.tclthread.specs.Choosing.{limit_of}
-use Rattle.tclthread.specs.declared.ended.Ended.{Ended}
-use Rattle.tclthread.specs.declared.status.Status.{Status}
-use Rattle.tclthread.specs.declared.status.Status.TheVariants.{ScheduleEnded, Stalled, StepLimit}
-use Rattle.tclthread.specs.declared.status.Status.TheVariants.{ReadFault, WriteFault, NoMemory}
+use Rattle.tt_session.specs.Answer.{IsAnswered, HasRun}
+use Rattle.tt_session.specs.Choosing.{limit_of}
+use Rattle.tt_session.specs.declared.ended.Ended.{Ended}
+use Rattle.tt_session.specs.declared.status.Status.{Status}
+use Rattle.tt_session.specs.declared.status.Status.TheVariants.{ScheduleEnded, Stalled, StepLimit}
+use Rattle.tt_session.specs.declared.status.Status.TheVariants.{ReadFault, WriteFault, NoMemory}
 
 -- no device failed, and no memory was refused
 abbrev pub IsSettled : Status → Type 0

@@ -1,16 +1,8 @@
 //! Scripts of threads, run after a schedule or without one.
 #![tactic(auto)]
 
-mod alone;
-mod ended;
 pub mod laws;
-mod line;
-mod prepare;
 mod program;
-mod recording;
-mod run;
-mod session;
-mod status;
 #[cfg(test)]
 mod tests;
 mod words;

@@ -1,13 +1,11 @@
 ghost use Rattle.std.specs.Prelude.{◌≡◌, IfOk, IfErr, drop, map, string_bytes};
 ghost use Rattle.std.specs.Process.{exit_status};
 ghost use Rattle.std.specs.Vec.Iter.{into_iter_items};
-ghost use Rattle.tclthread.specs.Answer.{IsAnswered, IsNoWords, IsUntouched};
-ghost use Rattle.tclthread.specs.Status.{exit_of};
-ghost use Rattle.tclthread.specs.declared.status.Refusal.{Refusal};
+ghost use Rattle.tt_session.specs.Answer.{IsAnswered, IsUntouched};
+ghost use Rattle.tt_session.specs.Status.{exit_of};
+ghost use Rattle.tt_session.specs.declared.status.Refusal.{Refusal};
+ghost use Rattle.tclthread.specs.NoWords.{IsNoWords};
 
-use crate::alone::refuse;
-use crate::ended::Ended;
-use crate::session::session;
 use crate::words::words;
 use std::env::Args;
 use std::io;
@@ -15,6 +13,7 @@ use std::process::ExitCode;
 use std::sync::Wait;
 use std::thread::Threads;
 use tt_devices::{Files, OpenGate, Sink, Source};
+use tt_session::{Ended, refuse, session};
 
 /// The whole program over these devices, and the code that it exits with: that of its status.
 ///

@@ -3,15 +3,13 @@ mod faults;
 mod laws;
 mod workers;
 
-use crate::ended::Ended;
-use crate::session::session;
-use crate::status::{Place, Status};
 use std::alloc::Global;
 use std::sync::Wait;
 use std::test::Fail;
 use std::thread::Threads;
 use tt_devices::{MemoryFiles, MemorySink, MemorySource, OpenGate};
 use tt_schedule::Schedule;
+use tt_session::{Ended, Place, Status, session};
 
 /// What a call left: the words of its status, its exit code, its steps, what it wrote, and the file that it recorded.
 #[derive(Drop)]
@@ -24,23 +22,16 @@ struct Left {
     kept: Option<Vec<u8>>,
 }
 
-/// Which calls fail, counted from 1: reads and writes of files, takes of the input, puts to the output and to standard
-/// error. None has the number 0.
+/// Which write of a file and which take of the input fail, counted from 1. None has the number 0.
 #[derive(Clone, Copy)]
 struct Fails {
-    reads: u64,
     writes: u64,
     takes: u64,
-    puts: u64,
-    error_puts: u64,
 }
 
 const NEVER: Fails = Fails {
-    reads: 0,
     writes: 0,
     takes: 0,
-    puts: 0,
-    error_puts: 0,
 };
 
 /// The words of a status.
@@ -74,7 +65,7 @@ fn call<R: Threads + Wait + Sync + AllocGlobal>(
     let words = owned(alloc, words)?;
     let mut files = MemoryFiles::new(
         alloc,
-        Vec::from_slice(alloc, &[fails.reads])?,
+        Vec::new(alloc),
         Vec::from_slice(alloc, &[fails.writes])?,
     );
     files.add("script", script)?;
@@ -84,8 +75,8 @@ fn call<R: Threads + Wait + Sync + AllocGlobal>(
         Vec::from_slice(alloc, input)?,
         Vec::from_slice(alloc, &[fails.takes])?,
     );
-    let output = MemorySink::new(alloc, Vec::from_slice(alloc, &[fails.puts])?);
-    let errors = MemorySink::new(alloc, Vec::from_slice(alloc, &[fails.error_puts])?);
+    let output = MemorySink::new(alloc, Vec::new(alloc));
+    let errors = MemorySink::new(alloc, Vec::new(alloc));
     let ended = session(
         rt, alloc, &words, &mut files, input, output, errors, &OpenGate,
     );

@@ -1,12 +1,12 @@
 ghost use Rattle.std.specs.Prelude.{◌≡◌, IfOk, IfErr, MatchResult, drop};
 ghost use Rattle.std.specs.Vec.Iter.{into_iter_items};
-ghost use Rattle.tclthread.specs.Answer.{IsNoWords};
+ghost use Rattle.tclthread.specs.NoWords.{IsNoWords};
 
-use crate::status::Refusal;
 use std::alloc::{AllocError, Global};
 use std::env::Args;
 use std::io;
 use std::io::ErrorKind;
+use tt_session::Refusal;
 
 /// The words after the program's name, of those that the system gives.
 ///

@@ -1,7 +1,6 @@
 //! Runs on workers.
 
 use super::{Left, NEVER, WORDS, call, left_of, owned};
-use crate::session::session;
 use std::hint::spin_loop;
 use std::process::Abort;
 use std::sync::Wait;
@@ -10,6 +9,7 @@ use std::sync::atomic::Ordering::SeqCst;
 use std::test::Fail;
 use std::thread::Threads;
 use tt_devices::{Gate, MemoryFiles, MemorySink, MemorySource, Slice};
+use tt_session::session;
 
 /// A script, the most steps of a run, and what that comes to on any number of workers: its status, what it writes, what
 /// standard error gets, and the schedule if there is one alone.

@@ -1,7 +1,7 @@
 use Rattle.std.proofs.Common.{drop, map, string_bytes}
 use Rattle.std.specs.Vec.Iter.{into_iter_items}
-use Rattle.tclthread.specs.Answer.{IsAnswered}
-use Rattle.tclthread.proofs.CloseLemmas.{unread-answer}
+use Rattle.tt_session.specs.Answer.{IsAnswered}
+use Rattle.tt_session.proofs.CloseLemmas.{unread-answer}
 use Rattle.tclthread.proofs.WordLemmas.{if-given, no-memory, of-given}
 use Rattle.tclthread.proofs.program.call.Goals as goal
 

@@ -1,0 +1,3 @@
+set t [thread::create]
+thread::send -async $t {puts a}
+thread::send -async -head $t {puts b}

@@ -1,0 +1,44 @@
+//! How a call ended, in words.
+
+use std::alloc::Global;
+use tt_session::{Place, Status};
+use tt_text::Text;
+
+/// The exit code and the status.
+pub(crate) fn told(alloc: Global, status: &Status) -> anyhow::Result<Text> {
+    let mut told = numbered(alloc, "", u64::from(status.exit()))?;
+    told.push_bytes(b" ")?;
+    told.push_bytes(words(alloc, status)?.as_bytes())?;
+    Ok(told)
+}
+
+fn words(alloc: Global, status: &Status) -> anyhow::Result<Text> {
+    match status {
+        Status::Done(_) => plain(alloc, "done"),
+        Status::Usage => plain(alloc, "usage"),
+        Status::NoFile(name) => {
+            let mut words = Text::from_bytes(alloc, b"no file ")?;
+            words.push_bytes(name.as_bytes())?;
+            Ok(words)
+        }
+        Status::BadSchedule(Place::Byte(offset)) => numbered(alloc, "bad byte ", *offset),
+        Status::BadSchedule(Place::Entry(number)) => numbered(alloc, "bad entry ", *number),
+        Status::ScheduleEnded => plain(alloc, "schedule ended"),
+        Status::Stalled => plain(alloc, "stalled"),
+        Status::StepLimit(steps) => numbered(alloc, "step limit ", *steps),
+        Status::ReadFault => plain(alloc, "read fault"),
+        Status::WriteFault => plain(alloc, "write fault"),
+        Status::NoMemory => plain(alloc, "no memory"),
+    }
+}
+
+fn plain(alloc: Global, words: &str) -> anyhow::Result<Text> {
+    let text = Text::from_bytes(alloc, words.as_bytes())?;
+    Ok(text)
+}
+
+fn numbered(alloc: Global, words: &str, number: u64) -> anyhow::Result<Text> {
+    let words = format!(in alloc; "{words}{number}")?;
+    let text = Text::from_bytes(alloc, words.as_bytes())?;
+    Ok(text)
+}

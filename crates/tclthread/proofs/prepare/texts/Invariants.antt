@@ -1,6 +1,0 @@
-use Rattle.std.proofs.Common.{◌≡◌, map, take}
-use Rattle.tt_words.specs.CodeValues.{text_of}
-use Rattle.tclthread.proofs.prepare.texts.Given as goal
-
-abbrev pub invariant-loop-word : goal.invariant-loop-word
-invariant-loop-word l = l.texts ≡ map text_of (take l.word-index l.words)

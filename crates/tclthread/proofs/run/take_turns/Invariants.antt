@@ -1,6 +1,0 @@
-use Rattle.tclthread.proofs.TurnLemmas.{IsTurning}
-use Rattle.tclthread.proofs.run.take_turns.Given as goal
-
-abbrev pub invariant-loop : goal.invariant-loop
-invariant-loop g l =
-    IsTurning g.S.Source.held g.S.Source.fault_count g.K.Sink.fault_count g.E.Sink.fault_count l.fn.system l.system l.last l.counter

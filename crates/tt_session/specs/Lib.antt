@@ -1,0 +1,10 @@
+pub mod Answer
+pub mod Asking
+pub mod Choosing
+pub mod Ended
+pub mod Ending
+pub mod Lines
+pub mod Recording
+pub mod Running
+pub mod Status
+pub mod inside

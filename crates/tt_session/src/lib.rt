@@ -1,0 +1,17 @@
+//! A call of the program over any files and streams: what its words ask for, the run, the schedule that is recorded, and
+//! the line that reports how it ended.
+#![tactic(auto)]
+
+mod ended;
+mod line;
+mod on_workers;
+mod prepare;
+mod recording;
+mod run;
+mod status;
+mod without_workers;
+
+pub use ended::{Alone, Ended, Finish};
+pub use on_workers::session;
+pub use status::{End, Place, Refusal, Status};
+pub use without_workers::{alone, refuse};
