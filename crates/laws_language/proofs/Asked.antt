@@ -13,11 +13,11 @@ use Rattle.tt_evaluation.specs.Plans.{Course, Stop, Fin}
 use Rattle.tt_outcomes.specs.declared.got.Got.{Got}
 use Rattle.tt_outcomes.specs.declared.want.Want.{Want}
 use Rattle.tt_outcomes.specs.declared.want.Want.TheVariants.{Ask}
-use Rattle.tt_interp.specs.Answering.{Answers}
-use Rattle.tt_interp.specs.Asking.{AsksNext, Coming, end_of, having, asks, after_reply, answered, ends}
-use Rattle.tt_interp.specs.Beginning.{IsNext}
-use Rattle.tt_interp.specs.declared.kept.Kept.{Kept}
-use Rattle.tt_interp.specs.declared.setup.Setup.{Setup}
+use Rattle.tt_kept.specs.Answering.{Answers}
+use Rattle.tt_kept.specs.Asking.{AsksNext, Coming, end_of, having, asks, after_reply, answered, ends}
+use Rattle.tt_kept.specs.Beginning.{IsNext}
+use Rattle.tt_kept.specs.declared.kept.Kept.{Kept}
+use Rattle.tt_kept.specs.declared.setup.Setup.{Setup}
 use Rattle.laws_language.specs.OneAnswer.{OneRequestLaw}
 use Rattle.laws_language.proofs.Commands.{answers_law, begins_law}
 use Rattle.laws_language.proofs.Steps.{asked_again, extends-later}

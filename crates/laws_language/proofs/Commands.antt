@@ -19,13 +19,13 @@ use Rattle.tt_store.specs.declared.answers.Answer.TheVariants as answers
 use Rattle.tt_outcomes.specs.declared.got.Got.TheVariants as gots
 use Rattle.tt_outcomes.specs.declared.want.Want.{Want}
 use Rattle.tt_outcomes.specs.declared.want.Want.TheVariants as want
-use Rattle.tt_interp.specs.Answering.{Answers, got_of, truth}
-use Rattle.tt_interp.specs.Answering as answering
-use Rattle.tt_interp.specs.Beginning.{globals}
-use Rattle.tt_interp.specs.Commands.{CallsBody, Continues, Either, OnVariables, Runs, RunsBy, RunsOwn, Table, own_of, with_procedures, with_store}
-use Rattle.tt_interp.specs.declared.commands.Own.{Own}
-use Rattle.tt_interp.specs.declared.commands.Own.TheVariants as own
-use Rattle.tt_interp.specs.declared.kept.Kept.{Kept}
+use Rattle.tt_kept.specs.Answering.{Answers, got_of, truth}
+use Rattle.tt_kept.specs.Answering as answering
+use Rattle.tt_kept.specs.Beginning.{globals}
+use Rattle.tt_kept.specs.Commands.{CallsBody, Continues, Either, OnVariables, Runs, RunsBy, RunsOwn, Table, own_of, with_procedures, with_store}
+use Rattle.tt_kept.specs.declared.commands.Own.{Own}
+use Rattle.tt_kept.specs.declared.commands.Own.TheVariants as own
+use Rattle.tt_kept.specs.declared.kept.Kept.{Kept}
 use Rattle.laws_language.specs.OneAnswer.{AnswersOnceLaw, BeginsOnceLaw, RunsOnceLaw}
 use Rattle.laws_language.proofs.Once.{Once, once-after, once-told}
 use Rattle.laws_language.proofs.Arrays as array_commands

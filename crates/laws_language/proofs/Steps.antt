@@ -13,8 +13,8 @@ use Rattle.tt_outcomes.specs.declared.got.Got.{Got}
 use Rattle.tt_outcomes.specs.declared.got.Got.TheVariants as gots
 use Rattle.tt_outcomes.specs.declared.want.Want.{Want}
 use Rattle.tt_outcomes.specs.declared.want.Want.TheVariants.{Ask}
-use Rattle.tt_interp.specs.Asking.{AsksNext, Coming, having, asks, after_reply, answered, ends}
-use Rattle.tt_interp.specs.declared.kept.Kept.{Kept}
+use Rattle.tt_kept.specs.Asking.{AsksNext, Coming, having, asks, after_reply, answered, ends}
+use Rattle.tt_kept.specs.declared.kept.Kept.{Kept}
 
 -- another evaluation comes to the same wherever this one doesn't run out of steps
 pub record Extends (one other : Coming) : Type 0 where

@@ -4,11 +4,11 @@ use Rattle.tt_calls.specs.declared.outcome.Outcome.{Outcome}
 use Rattle.tt_calls.specs.declared.reply.Reply.{Reply}
 use Rattle.tt_calls.specs.declared.request.Request.{Request}
 use Rattle.tt_calls.specs.declared.start.Start.{Start}
-use Rattle.tt_interp.specs.Answering.{Answers}
-use Rattle.tt_interp.specs.Beginning.{BeginsThread, IsNext}
-use Rattle.tt_interp.specs.Commands.{Runs}
-use Rattle.tt_interp.specs.declared.kept.Kept.{Kept}
-use Rattle.tt_interp.specs.declared.setup.Setup.{Setup}
+use Rattle.tt_kept.specs.Answering.{Answers}
+use Rattle.tt_kept.specs.Beginning.{BeginsThread, IsNext}
+use Rattle.tt_kept.specs.Commands.{Runs}
+use Rattle.tt_kept.specs.declared.kept.Kept.{Kept}
+use Rattle.tt_kept.specs.declared.setup.Setup.{Setup}
 use Rattle.tt_pure.specs.Table.{IsOutcome, command_of}
 use Rattle.tt_store.specs.declared.answers.Answer.{Answer}
 use Rattle.tt_outcomes.specs.declared.got.Got.{Got}

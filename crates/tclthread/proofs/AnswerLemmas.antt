@@ -5,7 +5,7 @@ use Rattle.tt_core.specs.Faithful.{IsFaithful, is_cut}
 use Rattle.tt_core.specs.Stage.{IsNextAfter}
 use Rattle.tt_devices.specs.Names.{Names, Tells}
 use Rattle.tt_devices.specs.Streams.{Grows}
-use Rattle.tt_interp.specs.declared.setup.Setup.{Setup}
+use Rattle.tt_kept.specs.declared.setup.Setup.{Setup}
 use Rattle.tt_machine.proofs.Steps.{not_barred, same_run, same_step}
 use Rattle.tt_machine.specs.Machine.{CanStep, IsBarred, IsStuck, Machine, Runs, Steps, start_machine}
 use Rattle.tt_machine.specs.Machine as run

@@ -12,7 +12,7 @@ use Rattle.tt_run.specs.declared.fault.StepFault.TheVariants as fault
 use Rattle.tt_devices.proofs.StreamLemmas.{Grows-append, Grows-same}
 use Rattle.std.specs.Io.KnownBytes.{Consumes, Keeps, prepend_known}
 use Rattle.tt_devices.specs.Streams.{Grows, GrowsByPart, LosesPart}
-use Rattle.tt_interp.specs.declared.setup.Setup.{Setup}
+use Rattle.tt_kept.specs.declared.setup.Setup.{Setup}
 use Rattle.tt_lines.specs.Lines.{TakesLine, ReadsKnown, reads_line}
 use Rattle.std.proofs.lemmas.List.{append_cancel_left, length-append}
 use Rattle.laws_shared.proofs.Drawn.{few_fit}

@@ -8,14 +8,14 @@ use Rattle.tt_calls.specs.declared.outcome.Code.{Code}
 use Rattle.tt_calls.specs.declared.outcome.Code.TheVariants as code
 use Rattle.tt_calls.specs.declared.reply.Reply.{Reply}
 use Rattle.tt_calls.specs.declared.start.Start.{Start}
-use Rattle.tt_interp.specs.Asking.{AsksNext, asks, ends, end_by, goes_on}
-use Rattle.tt_interp.specs.Beginning.{IsNext}
+use Rattle.tt_kept.specs.Asking.{AsksNext, asks, ends, end_by, goes_on}
+use Rattle.tt_kept.specs.Beginning.{IsNext}
 use Rattle.tt_interp.specs.Interps as interps
 use Rattle.tt_interp.specs.Interps.{Interpreter, coming, request_of, serving_of}
 use Rattle.tt_interp.specs.declared.interp.Standing.{Standing}
 use Rattle.tt_interp.specs.declared.interp.Standing.TheVariants as standing
-use Rattle.tt_interp.specs.declared.kept.Kept.{Kept}
-use Rattle.tt_interp.specs.declared.setup.Setup.{Setup}
+use Rattle.tt_kept.specs.declared.kept.Kept.{Kept}
+use Rattle.tt_kept.specs.declared.setup.Setup.{Setup}
 use Rattle.tt_run.specs.Desk.{Ground}
 use Rattle.tt_outcomes.specs.Endings.{code_of}
 use Rattle.tt_machine.specs.Machine.{Thread, with_reply, thread_with_reply}

@@ -12,7 +12,7 @@ use Rattle.tt_run.specs.declared.fault.StepFault.{StepFault}
 use Rattle.tt_run.specs.declared.fault.StepFault.TheVariants as fault
 use Rattle.tt_devices.specs.Streams.{Grows, GrowsByPart}
 use Rattle.tt_interp.specs.Interps.{Interpreter, request_of, serving_of}
-use Rattle.tt_interp.specs.declared.setup.Setup.{Setup}
+use Rattle.tt_kept.specs.declared.setup.Setup.{Setup}
 use Rattle.tt_lines.specs.Lines.{reads_line}
 use Rattle.tt_machine.proofs.Steps.{not_barred}
 use Rattle.tt_machine.specs.RunActions.{StepsOrderly}

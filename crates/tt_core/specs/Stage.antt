@@ -1,7 +1,7 @@
 -- A system as contracts see it: how it began, what it stands on, and the machine after its schedule.
 use Rattle.std.specs.Prelude.{◌≡◌, ◌<◌, ◌≤◌, ◌⊎◌, ℕ, List, Option, Some, None, IfSome}
 use Rattle.tt_run.specs.Desk.{Ground}
-use Rattle.tt_interp.specs.declared.setup.Setup.{Setup}
+use Rattle.tt_kept.specs.declared.setup.Setup.{Setup}
 use Rattle.tt_machine.specs.Machine.{CanStep, IsBarred, Machine, Runs, start_machine}
 
 -- the devices as they were given

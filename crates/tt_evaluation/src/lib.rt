@@ -9,4 +9,4 @@ mod stack;
 
 pub use language::{Language, Move};
 pub use machine::{Machine, outcome, request, resume, start};
-pub use stack::{Halt, STEPS, Stack, begin, is_waiting, turn};
+pub use stack::{Halt, Pending, STEPS, Stack, begin, is_waiting, turn};

@@ -16,11 +16,13 @@ use tt_text::NoMemory;
 /// nanosecond they last for 146 years.
 pub const STEPS: u64 = 1 << 62;
 
-// A call that waits for its outcome.
+/// A call that waits for its outcome.
 #[derive(Debug, Drop)]
 pub struct Pending<Frame> {
-    frame: Frame,
-    serves: Option<u64>,
+    /// What goes on with the outcome.
+    pub frame: Frame,
+    /// The post that is served meanwhile, if it is one.
+    pub serves: Option<u64>,
 }
 
 // Where moves come to.
@@ -52,10 +54,14 @@ pub enum Halt<Want, Outcome> {
 /// waits for an answer. A contract says of it what it comes to after further answers.
 #[derive(Debug, Drop)]
 pub struct Stack<State, Frame, Asking> {
-    state: State,
-    steps: u64,
-    calls: Vec<Pending<Frame>>,
-    asking: Option<Asking>,
+    /// What the evaluation has counted and keeps.
+    pub state: State,
+    /// How many steps remain.
+    pub steps: u64,
+    /// The calls that wait, the newest of them last.
+    pub calls: Vec<Pending<Frame>>,
+    /// What goes on with the answer, if one is waited for.
+    pub asking: Option<Asking>,
 }
 
 /// A stack that has this job to do, from this state on, and where it halts first.

@@ -1,6 +1,5 @@
 //! Scripts and commands (Tcl(n)).
 ghost use Rattle.tt_frames.specs.Units.{past_limit, spending};
-ghost use Rattle.tt_script.specs.Messages.{parse_message};
 ghost use Rattle.tt_outcomes.specs.Places.{in_command};
 ghost use Rattle.tt_outcomes.specs.Endings.{failed};
 ghost use Rattle.tt_frames.specs.declared.state.Counts.{Counts};
@@ -8,7 +7,7 @@ ghost use Rattle.tt_evaluation.specs.declared.language.Move.TheVariants as moves
 ghost use Rattle.tt_frames.specs.declared.job.Frame.TheVariants as frames;
 ghost use Rattle.tt_frames.specs.declared.job.Asking.TheVariants as askings;
 ghost use Rattle.tt_outcomes.specs.declared.want.Want.TheVariants as wants;
-ghost use Rattle.std.specs.Prelude.{◌≡◌, IfOk, drop, length};
+ghost use Rattle.std.specs.Prelude.{◌≡◌, IfOk, drop};
 ghost use Rattle.std.specs.Arc.{arc_value};
 ghost use Rattle.tt_frames.specs.Frames.{after, command_ended, command_given, command_needs, on_got, steps_from};
 ghost use Rattle.tt_frames.specs.Programs.{end_of, start_of, steps_of};
@@ -24,7 +23,6 @@ use std::sync::Arc;
 use tt_calls::{Boxed, Request};
 use tt_code::{Halt, Running};
 use tt_outcomes::{Ending, Got, Want};
-use tt_script::ParseFault;
 use tt_text::{NoMemory, Text};
 use tt_value::{Value, Values};
 
@@ -32,7 +30,7 @@ use tt_value::{Value, Values};
 pub(crate) fn begin_script(alloc: Global, text: Text, state: &mut State) -> Result<Next, NoMemory>
     ensures { IfOk result (λ move. script text state.old ≡ plan_of after on_got move state.new) }
 {
-    let program = state.kept.script(text)?;
+    let program = state.script(text)?;
     let next = next_command(alloc, program, 0, Value::new(alloc), state)?;
     Ok(next)
 }
@@ -52,8 +50,8 @@ fn next_command(
     match program.step(at) {
         None => Ok(Next::Done(Ending::Fine(last))),
         Some(Step::Wrong(fault, start)) => {
-            let next = wrong(alloc, *fault, *start, program.text())?;
-            Ok(next)
+            let ending = program.unread(alloc, *fault, *start)?;
+            Ok(Next::Done(ending))
         }
         Some(Step::Does(code, ..)) => {
             let code = code.clone()?;
@@ -66,16 +64,6 @@ fn next_command(
             Ok(next)
         }
     }
-}
-
-// A command that can't be read.
-fn wrong(alloc: Global, fault: ParseFault, start: usize, text: &[u8]) -> Result<Next, NoMemory>
-    ensures { IfOk result (λ move.
-        move ≡ moves.Done (in_command text.now start (length text.now) (failed (parse_message fault)))) }
-{
-    let ending = Ending::failed_with(alloc, fault.message())?;
-    let ending = ending.in_command(text, start, text.len())?;
-    Ok(Next::Done(ending))
 }
 
 // A unit is spent for the command of the frame, and it begins.
@@ -143,7 +131,7 @@ fn leave_script(ending: Ending, frame: CommandFrame) -> Result<Next, NoMemory>
         (start_of (steps_from frame)) (end_of (steps_from frame)) ending)) }
 {
     let CommandFrame { program, at, .. } = frame;
-    let ending = ending.in_command(program.text(), program.start(at), program.end(at))?;
+    let ending = program.left(at, ending)?;
     Ok(Next::Done(ending))
 }
 

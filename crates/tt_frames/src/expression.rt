@@ -10,7 +10,7 @@ use tt_text::{NoMemory, Text};
 
 /// An expression, made into code. Contracts see its text.
 #[derive(Debug, Drop)]
-pub(crate) struct Expression {
+pub struct Expression {
     text: Text,
     code: Arc<Code>,
 }
@@ -30,16 +30,16 @@ impl Model for Expression {
 
 impl Expression {
     /// A text with its code.
-    pub(crate) fn new(text: Text, code: Arc<Code>) -> Self
-        requires { needs_of (arc_value code) ≡ text_needs text }
-        ensures { result ≡ text }
+    pub fn new(text: Text, code: Arc<Code>) -> Self
+        requires code { needs_of (arc_value code) ≡ text_needs text }
+        ensures text { result ≡ text }
     {
         Expression { text, code }
     }
 
     /// The text.
-    pub(crate) fn text(&self) -> &[u8]
-        ensures { result.now ≡ self.now }
+    pub fn text(&self) -> &[u8]
+        ensures text { result.now ≡ self.now }
     {
         self.text.as_bytes()
     }
@@ -47,8 +47,8 @@ impl Expression {
     /// The code.
     ///
     /// `NoMemory` if it can't be counted.
-    pub(crate) fn code(&self) -> Result<Arc<Code>, NoMemory>
-        ensures { IfOk result (λ code. needs_of (arc_value code) ≡ text_needs self.now) }
+    pub fn code(&self) -> Result<Arc<Code>, NoMemory>
+        ensures code { IfOk result (λ code. needs_of (arc_value code) ≡ text_needs self.now) }
     {
         let code = self.code.clone()?;
         Ok(code)

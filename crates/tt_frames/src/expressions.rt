@@ -32,7 +32,7 @@ pub(crate) fn begin_expression(
 ) -> Result<Next, NoMemory>
     ensures { IfOk result (λ move. expression purpose text state.old ≡ plan_of after on_got move state.new) }
 {
-    let made = state.kept.expression(text)?;
+    let made = state.expression(text)?;
     let next = begin_made(alloc, purpose, made)?;
     Ok(next)
 }
@@ -74,8 +74,9 @@ fn advance(alloc: Global, purpose: Purpose, running: Running) -> Result<Next, No
     }
 }
 
-fn first_of(alloc: Global, values: Vec<Value>) -> Value
-    ensures { result ≡ first_of values.items }
+/// The first of the values that code came to; of none an empty text.
+pub fn first_of(alloc: Global, values: Vec<Value>) -> Value
+    ensures first { result ≡ first_of values.items }
 {
     match values.into_iter().next() {
         Some(value) => value,
@@ -83,9 +84,11 @@ fn first_of(alloc: Global, values: Vec<Value>) -> Value
     }
 }
 
-// What an expression with this value comes to.
-fn ending_for(alloc: Global, purpose: Purpose, value: Value) -> Result<Ending, NoMemory>
-    ensures { IfOk result (λ ending. ending ≡ ending_for purpose value) }
+/// What an expression with this value comes to (expr(n)): a condition to 1 or 0, or to an error if it is no boolean.
+///
+/// `NoMemory` if memory is refused.
+pub fn ending_for(alloc: Global, purpose: Purpose, value: Value) -> Result<Ending, NoMemory>
+    ensures ending { IfOk result (λ ending. ending ≡ ending_for purpose value) }
 {
     match purpose {
         Purpose::Value => Ok(Ending::Fine(value)),

@@ -28,7 +28,7 @@ pub(crate) struct Kept {
 
 /// An expression that was read.
 #[derive(Debug, Drop)]
-pub(crate) enum Made {
+pub enum Made {
     /// Its code.
     Code(Arc<Code>),
     /// The message of its error.

@@ -24,12 +24,16 @@ mod storing;
 mod waiting;
 mod workers;
 
+pub use expression::Expression;
+pub use expressions::{ending_for, first_of};
 pub use job::{
     Asking, Awaits, BegunJob, CommandFrame, Frame, Hold, Job, JobsWait, Loop, Purpose, Until, Work,
     Worker, WorkerAsking, WorkerFrame,
 };
+pub use kept::Made;
 pub use language::Tcl;
+pub use program::{Program, Step};
 pub use rest::Rest;
 pub use stack::{Stack, begin, turn};
-pub use state::{Counts, State};
+pub use state::{Counts, State, Unit};
 pub use tt_outcomes::{Body, Got, Want};

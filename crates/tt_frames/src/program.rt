@@ -1,13 +1,17 @@
-ghost use Rattle.std.specs.Prelude.{◌≡◌, ◌+◌, IfOk, OnOk, drop};
+ghost use Rattle.std.specs.Prelude.{◌≡◌, ◌+◌, IfOk, OnOk, drop, length};
 ghost use Rattle.std.specs.Option.{option_map};
 ghost use Rattle.tt_frames.specs.Programs.{does, end_of, from_front, plain_step, plain_steps, read_from, start_of};
 ghost use Rattle.tt_frames.specs.Programs.{steps_of};
+ghost use Rattle.tt_script.specs.Messages.{parse_message};
 ghost use Rattle.tt_script.specs.Plain.{plain_command};
+ghost use Rattle.tt_outcomes.specs.Endings.{failed};
+ghost use Rattle.tt_outcomes.specs.Places.{in_command};
 
 use std::alloc::Global;
 use std::marker::Model;
 use std::sync::Arc;
 use tt_code::{Code, words_code};
+use tt_outcomes::Ending;
 use tt_script::{Command, First, ParseFault, first_command};
 use tt_text::{NoMemory, Text};
 
@@ -83,6 +87,29 @@ impl Program {
             Some(Step::Wrong(_, end) | Step::Does(_, _, end)) => *end,
             None => 0,
         }
+    }
+
+    /// How the script ends at a command that can't be read, which begins there.
+    ///
+    /// `NoMemory` if memory is refused.
+    pub fn unread(&self, alloc: Global, fault: ParseFault, start: usize) -> Result<Ending, NoMemory>
+        ensures unread { IfOk result (λ ending. ending
+            ≡ in_command self.now start (length self.now) (failed (parse_message fault))) }
+    {
+        let ending = Ending::failed_with(alloc, fault.message())?;
+        let ending = ending.in_command(self.text(), start, self.text.len())?;
+        Ok(ending)
+    }
+
+    /// How the script ends if its command of this number ended so, but for a result.
+    ///
+    /// `NoMemory` if memory is refused.
+    pub fn left(&self, at: usize, ending: Ending) -> Result<Ending, NoMemory>
+        ensures left { IfOk result (λ left. left ≡ in_command self.now
+            (start_of (drop at (steps_of self.now))) (end_of (drop at (steps_of self.now))) ending) }
+    {
+        let ending = ending.in_command(self.text(), self.start(at), self.end(at))?;
+        Ok(ending)
     }
 }
 

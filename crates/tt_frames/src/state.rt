@@ -1,10 +1,14 @@
 ghost use Rattle.std.specs.Prelude.{◌≡◌, IfOk};
+ghost use Rattle.std.specs.Arc.{arc_value};
+ghost use Rattle.tt_frames.specs.Expressions.{made_needs, text_needs};
 ghost use Rattle.tt_frames.specs.Units.{fresh, spent, unit_of};
 
-use crate::kept::Kept;
+use crate::kept::{Kept, Made};
+use crate::program::Program;
 use std::alloc::Global;
 use std::marker::Model;
-use tt_text::NoMemory;
+use std::sync::Arc;
+use tt_text::{NoMemory, Text};
 
 /// How many nested evaluations there are, at most: calls of procedures, eval(n), uplevel(n), served events, held
 /// scripts and sends to oneself.
@@ -32,7 +36,7 @@ pub struct Counts {
 #[derive(Debug, Drop)]
 pub struct State {
     pub(crate) counts: Counts,
-    pub(crate) kept: Kept,
+    kept: Kept,
 }
 
 impl Model for State {
@@ -79,6 +83,28 @@ impl State {
         ensures me { result ≡ self.now.me }
     {
         self.counts.me
+    }
+
+    /// A script, made into code.
+    ///
+    /// `NoMemory` if memory is refused.
+    pub fn script(&mut self, text: Text) -> Result<Arc<Program>, NoMemory>
+        ensures script { IfOk result (λ program. arc_value program ≡ text) }
+        ensures same { self.new ≡ self.old }
+    {
+        let program = self.kept.script(text)?;
+        Ok(program)
+    }
+
+    /// A text as an expression, made into code.
+    ///
+    /// `NoMemory` if memory is refused.
+    pub fn expression(&mut self, text: Text) -> Result<Made, NoMemory>
+        ensures expression { IfOk result (λ made. made_needs made ≡ text_needs text) }
+        ensures same { self.new ≡ self.old }
+    {
+        let made = self.kept.expression(text)?;
+        Ok(made)
     }
 
     /// Spends a unit, if one is left.

@@ -20,32 +20,18 @@ use Rattle.tt_evaluation.specs.declared.stack.TheConstants.{STEPS}
 use Rattle.tt_outcomes.specs.declared.got.Got.{Got}
 use Rattle.tt_outcomes.specs.declared.got.Got.TheVariants as gots
 use Rattle.tt_outcomes.specs.declared.want.Want.{Want}
-use Rattle.tt_interp.specs.Answering.{Answers}
-use Rattle.tt_interp.specs.Asking.{AsksNext, Coming, goes_on, having, asks, after_reply, answered, ends}
-use Rattle.tt_interp.specs.Beginning.{BeginsThread}
-use Rattle.tt_interp.specs.Interps.{GoesOnFrom, IsLast, LeadsTo, StandsFor, after_got, coming, halt_of, halted, request_of, serving_of, standing_of}
+use Rattle.tt_kept.specs.Answering.{Answers}
+use Rattle.tt_kept.proofs.Following.{AreSame, same_asked}
+use Rattle.tt_kept.specs.Leading.{LeadsTo}
+use Rattle.tt_kept.specs.Asking.{AsksNext, Coming, goes_on, having, asks, after_reply, answered, ends}
+use Rattle.tt_kept.specs.Beginning.{BeginsThread}
+use Rattle.tt_interp.specs.Interps.{GoesOnFrom, IsLast, StandsFor, after_got, coming, halt_of, halted, request_of, serving_of, standing_of}
 use Rattle.tt_interp.specs.declared.interp.Standing.{Standing}
 use Rattle.tt_interp.specs.declared.interp.Standing.TheVariants as standing
-use Rattle.tt_interp.specs.declared.kept.Kept.{Kept}
+use Rattle.tt_kept.specs.declared.kept.Kept.{Kept}
 use Rattle.tt_interp.specs.declared.settling.Reached.{Reached}
 use Rattle.tt_interp.specs.declared.settling.Reached.TheVariants as reached
-use Rattle.tt_interp.specs.declared.setup.Setup.{Setup}
-
-abbrev pub AreSame : Coming → Coming → Type 0
-AreSame one other = (gots : List Got) → one gots ≡ other gots
-
-same_after : {one other : Coming} (got : Got) → AreSame one other → AreSame (having got one) (having got other)
-same_after got same gots = same (got ∷ gots)
-
--- the same is asked where the same comes
-pub same_asked : {one other : Coming} {kept : Kept} {replies : List Reply} {request : Request} {serving : List ℕ}
-    → AreSame one other → AsksNext one kept replies request serving → AsksNext other kept replies request serving
-same_asked same (asks is) = asks (sym (same []) ∙ is)
-same_asked same (after_reply {reply = reply} is goes rest) =
-    after_reply (sym (same []) ∙ is) goes (same_asked (same_after (gots.Reply reply) same) rest)
-same_asked same (answered got is gives rest) =
-    answered got (sym (same []) ∙ is) gives (same_asked (same_after got same) rest)
-same_asked same (ends is) = ends (sym (same []) ∙ is)
+use Rattle.tt_kept.specs.declared.setup.Setup.{Setup}
 
 -- what a stack comes to after an answer
 abbrev pub IsAfter : Halt Want Ending → (stack before : Stack Counts Frame Asking) → Got → Type 0

@@ -22,14 +22,14 @@ use Rattle.tt_evaluation.specs.declared.stack.TheConstants.{STEPS}
 use Rattle.tt_outcomes.specs.declared.got.Got.{Got}
 use Rattle.tt_outcomes.specs.declared.want.Want.{Want}
 use Rattle.tt_outcomes.specs.declared.want.Want.TheVariants.{Ask}
-use Rattle.tt_interp.specs.Asking.{AsksNext, Coming, end_of, goes_on}
-use Rattle.tt_interp.specs.Beginning.{IsNext}
+use Rattle.tt_kept.specs.Asking.{AsksNext, Coming, end_of, goes_on}
+use Rattle.tt_kept.specs.Beginning.{IsNext}
 use Rattle.tt_interp.specs.declared.interp.Standing.{Standing}
 use Rattle.tt_interp.specs.declared.interp.Standing.TheVariants as standing
-use Rattle.tt_interp.specs.declared.kept.Kept.{Kept}
+use Rattle.tt_kept.specs.declared.kept.Kept.{Kept}
 use Rattle.tt_interp.specs.declared.settling.Reached.{Reached}
 use Rattle.tt_interp.specs.declared.settling.Reached.TheVariants as reached
-use Rattle.tt_interp.specs.declared.setup.Setup.{Setup}
+use Rattle.tt_kept.specs.declared.setup.Setup.{Setup}
 
 -- an interpreter: what it keeps, and where its evaluation stands
 pub record Interpreter : Type 0 where
@@ -45,13 +45,6 @@ abbrev pub coming : Standing → Coming
 coming (standing.Fresh start me limit) gots = eval plan (job.Start start) (fresh me limit) STEPS gots
 coming (standing.Asks stack request) gots = halted (Wants (Ask request)) stack gots
 coming (standing.Over stack ending) gots = halted (Ended ending) stack gots
-
--- what is asked from one place on, is asked from the other one on
-abbrev pub LeadsTo : Coming → Kept → Coming → Kept → Type 0
-LeadsTo later kept before held =
-    (replies : List Reply) (request : Request) (serving : List ℕ) →
-    AsksNext later kept replies request serving →
-    AsksNext before held replies request serving
 
 -- an interpreter asks this after further replies, while it serves these posts
 abbrev pub InterpAsks : Interpreter → List Reply → Request → (serving : List ℕ) → Type 0

@@ -1,5 +1,1 @@
-pub mod Answering
-pub mod Asking
-pub mod Beginning
-pub mod Commands
 pub mod Interps

@@ -1,5 +1,5 @@
 ghost use Rattle.std.specs.Prelude.{◌≡◌, IfOk, OnOk, IsTrue, []};
-ghost use Rattle.tt_interp.specs.Asking.{end_by, goes_on};
+ghost use Rattle.tt_kept.specs.Asking.{end_by, goes_on};
 ghost use Rattle.tt_interp.specs.Interps as interps;
 
 use crate::settling::resumed;

@@ -2,15 +2,10 @@
 //! reply.
 #![tactic(auto)]
 
-mod answering;
-mod commands;
 mod interp;
-mod kept;
 mod paused;
 mod settling;
-mod setup;
 
 pub use interp::{Interp, Standing};
-pub use kept::Kept;
 pub use paused::Paused;
-pub use setup::Setup;
+pub use tt_kept::{Kept, Setup};

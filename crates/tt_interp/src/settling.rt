@@ -1,7 +1,8 @@
 //! An evaluation goes on with what it gets here, up to a request or its end.
 ghost use Rattle.std.specs.Prelude.{◌≡◌, IfOk, IsTrue, Some};
-ghost use Rattle.tt_interp.specs.Asking.{goes_on};
+ghost use Rattle.tt_kept.specs.Asking.{goes_on};
 ghost use Rattle.tt_interp.specs.Interps as interps;
+ghost use Rattle.tt_kept.specs.Leading.{LeadsTo};
 ghost use Rattle.tt_interp.specs.declared.interp.Standing.TheVariants as standing;
 ghost use Rattle.tt_evaluation.specs.Frames.{is_waiting, wants};
 ghost use Rattle.tt_evaluation.specs.declared.stack.Halt.TheVariants.{Wants};
@@ -56,7 +57,7 @@ fn begun(
     limit: u64,
 ) -> Result<Standing, NoMemory>
     ensures leads { IfOk result (λ next.
-        interps.LeadsTo (interps.coming next) kept.new (interps.coming (standing.Fresh start me limit)) kept.old) }
+        LeadsTo (interps.coming next) kept.new (interps.coming (standing.Fresh start me limit)) kept.old) }
     ensures halts { IfOk result (λ next. IsTrue (interps.is_halted next)) }
 {
     let (stack, halt) = Paused::begin(alloc, start, me, limit)?;
@@ -99,7 +100,7 @@ fn go_on_with(
     reply: Reply,
 ) -> Result<Reached, NoMemory>
     requires { IsTrue (is_waiting stack.old) }
-    ensures leads { IfOk result (λ reached. interps.LeadsTo
+    ensures leads { IfOk result (λ reached. LeadsTo
         (interps.halted (interps.halt_of reached) stack.new) kept.new
         (interps.after_got stack.old (gots.Reply reply)) kept.old) }
     ensures waiting { IfOk result (λ reached. wants (interps.halt_of reached) ≡ is_waiting stack.new) }
@@ -117,7 +118,7 @@ fn settle(
     halt: Halt<Want, Ending>,
 ) -> Result<Reached, NoMemory>
     requires { wants halt ≡ is_waiting stack.old }
-    ensures leads { IfOk result (λ reached. interps.LeadsTo
+    ensures leads { IfOk result (λ reached. LeadsTo
         (interps.halted (interps.halt_of reached) stack.new) kept.new (interps.halted halt stack.old) kept.old) }
     ensures waiting { IfOk result (λ reached. wants (interps.halt_of reached) ≡ is_waiting stack.new) }
 {
@@ -140,7 +141,7 @@ fn go_on(
 ) -> Result<Halt<Want, Ending>, NoMemory>
     requires { IsTrue (is_waiting stack.old) }
     ensures leads { IfOk result (λ halt.
-        interps.LeadsTo (interps.halted halt stack.new) kept.new (interps.halted (Wants want) stack.old) kept.old) }
+        LeadsTo (interps.halted halt stack.new) kept.new (interps.halted (Wants want) stack.old) kept.old) }
     ensures waiting { IfOk result (λ halt. wants halt ≡ is_waiting stack.new) }
 {
     let got = kept.answer(alloc, want)?;

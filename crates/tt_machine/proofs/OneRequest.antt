@@ -8,11 +8,11 @@ use Rattle.tt_frames.specs.Tcl.{plan}
 use Rattle.tt_frames.specs.Units.{fresh}
 use Rattle.tt_frames.specs.declared.job.Job.TheVariants as job
 use Rattle.tt_frames.specs.declared.state.Counts.{Counts}
-use Rattle.tt_interp.specs.Answering.{Answers}
-use Rattle.tt_interp.specs.Asking.{AsksNext, Coming, asks, after_reply, answered, ends, goes_on, having}
-use Rattle.tt_interp.specs.Beginning.{IsNext}
-use Rattle.tt_interp.specs.declared.kept.Kept.{Kept}
-use Rattle.tt_interp.specs.declared.setup.Setup.{Setup}
+use Rattle.tt_kept.specs.Answering.{Answers}
+use Rattle.tt_kept.specs.Asking.{AsksNext, Coming, asks, after_reply, answered, ends, goes_on, having}
+use Rattle.tt_kept.specs.Beginning.{IsNext}
+use Rattle.tt_kept.specs.declared.kept.Kept.{Kept}
+use Rattle.tt_kept.specs.declared.setup.Setup.{Setup}
 use Rattle.laws_language.proofs.Commands.{answers_law, begins_law}
 use Rattle.laws_language.proofs.Steps.{asked_again, extends-later}
 use Rattle.tt_evaluation.specs.Evaluation.{eval}

@@ -5,7 +5,7 @@ use Rattle.tt_calls.specs.declared.start.Start.TheVariants as start
 use Rattle.laws_shared.proofs.Drawn.{up_along}
 use Rattle.laws_shared.proofs.Orderly.{orderly}
 use Rattle.laws_shared.specs.Actions.{Action, Acts, NumbersFit, Reached, after, none as nothing, more as then}
-use Rattle.tt_interp.specs.declared.setup.Setup.{Setup}
+use Rattle.tt_kept.specs.declared.setup.Setup.{Setup}
 use Rattle.tt_machine.specs.Machine.{Machine, Runs, Steps, none, more, start_machine}
 use Rattle.tt_machine.specs.RunActions.{FewChannelsLaw, HasActions, OrderlyStepLaw}
 use Rattle.tt_shared.specs.State.{State}

@@ -6,7 +6,7 @@ use Rattle.tt_lines.proofs.LineLemmas.{one-line}
 use Rattle.tt_machine.proofs.OneRequest.{one_request}
 use Rattle.tt_machine.specs.Machine.{ThreadAsks, CanStep, IsBarred, Machine, ReadsInput, Runs, Steps, Thread, over, silent, waits, none, more}
 use Rattle.tt_lines.specs.Lines.{reads_line}
-use Rattle.tt_interp.specs.Beginning.{IsNext}
+use Rattle.tt_kept.specs.Beginning.{IsNext}
 use Rattle.tt_shared.specs.Enabled.{enabled}
 use Rattle.tt_shared.specs.declared.applied.Line.{Line}
 

@@ -6,8 +6,8 @@ use Rattle.tt_calls.specs.declared.reply.Reply.{Reply}
 use Rattle.tt_calls.specs.declared.request.Request.{Request}
 use Rattle.tt_calls.specs.declared.start.Start.{Start}
 use Rattle.tt_calls.specs.declared.start.Start.TheVariants as start
-use Rattle.tt_interp.specs.Beginning.{IsNext}
-use Rattle.tt_interp.specs.declared.setup.Setup.{Setup}
+use Rattle.tt_kept.specs.Beginning.{IsNext}
+use Rattle.tt_kept.specs.declared.setup.Setup.{Setup}
 use Rattle.tt_lines.specs.Lines.{TakesLine, reads_line}
 use Rattle.tt_shared.specs.Acts.{act}
 use Rattle.tt_shared.specs.Enabled.{enabled}

@@ -2,7 +2,7 @@
 use Rattle.std.specs.Prelude.{◌≡◌, ◌≤◌, ◌+◌, ◌*◌, ℕ, List, length, map}
 use Rattle.laws_shared.specs.Actions.{Action, Acts, NumbersFit, after}
 use Rattle.laws_shared.specs.Orderly.{IsOrderly}
-use Rattle.tt_interp.specs.declared.setup.Setup.{Setup}
+use Rattle.tt_kept.specs.declared.setup.Setup.{Setup}
 use Rattle.tt_machine.specs.Machine.{Machine, Runs, Steps, start_machine}
 
 -- an action for each step, by its thread; what the threads share is what these make of it

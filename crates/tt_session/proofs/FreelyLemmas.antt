@@ -6,7 +6,7 @@ use Rattle.tt_run.specs.declared.fault.StepFault.{StepFault}
 use Rattle.tt_devices.specs.Faults.{Rises}
 use Rattle.tt_devices.specs.declared.sink.Sink.{Ghosts as OfSink}
 use Rattle.tt_devices.specs.declared.source.Source.{Ghosts as OfSource}
-use Rattle.tt_interp.specs.declared.setup.Setup.{Setup}
+use Rattle.tt_kept.specs.declared.setup.Setup.{Setup}
 use Rattle.tt_machine.specs.Machine.{Machine, start_machine}
 use Rattle.tt_schedule.specs.ScheduleText.{most_steps}
 use Rattle.tt_words.specs.Asked.{HasSteps, HasWorkers, Plain, WordsAskFor, plain}

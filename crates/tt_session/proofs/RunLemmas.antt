@@ -8,7 +8,7 @@ use Rattle.tt_devices.proofs.StreamLemmas.{Grows-same}
 use Rattle.tt_devices.specs.Faults.{Rises}
 use Rattle.tt_devices.specs.declared.sink.Sink.{Ghosts as OfSink}
 use Rattle.tt_devices.specs.declared.source.Source.{Ghosts as OfSource}
-use Rattle.tt_interp.specs.declared.setup.Setup.{Setup}
+use Rattle.tt_kept.specs.declared.setup.Setup.{Setup}
 use Rattle.tt_machine.specs.Machine.{Machine, Runs, start_machine}
 use Rattle.tt_machine.specs.Machine as run
 use Rattle.tt_run.specs.Desk.{Devices}

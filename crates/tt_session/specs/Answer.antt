@@ -5,7 +5,7 @@ use Rattle.tt_devices.specs.Faults.{Rises}
 use Rattle.tt_devices.specs.declared.files.Files.{Ghosts as OfFiles}
 use Rattle.tt_devices.specs.declared.sink.Sink.{Ghosts as OfSink}
 use Rattle.tt_devices.specs.declared.source.Source.{Ghosts as OfSource}
-use Rattle.tt_interp.specs.declared.setup.Setup.{Setup}
+use Rattle.tt_kept.specs.declared.setup.Setup.{Setup}
 use Rattle.tt_words.specs.Asked.{Asked, WordsAskFor}
 use Rattle.tt_session.specs.Asking.{BeginsAs, HasWrongText, IsMissing, MayFail, record_of}
 use Rattle.tt_session.specs.Choosing.{Mode}

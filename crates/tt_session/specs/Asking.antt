@@ -2,7 +2,7 @@
 use Rattle.std.specs.Prelude.{◌≡◌, ◌⊎◌, ℕ, List, [], Option, Some, None}
 use Rattle.tt_devices.specs.Names.{HasName, Names, Tells}
 use Rattle.tt_generate.specs.Workload.{workload_text}
-use Rattle.tt_interp.specs.declared.setup.Setup.{Setup}
+use Rattle.tt_kept.specs.declared.setup.Setup.{Setup}
 use Rattle.tt_schedule.specs.ScheduleText.{IsFirstWrong, IsScheduleText}
 use Rattle.tt_words.specs.Asked.{Asked, Generate, Plain, Replay, generate, plain, replay}
 use Rattle.tt_session.specs.Choosing.{Freely, InTurn, Mode, Replaying}

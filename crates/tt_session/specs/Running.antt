@@ -6,7 +6,7 @@ use Rattle.tt_core.specs.Stage.{Began}
 use Rattle.tt_devices.specs.Faults.{Rises}
 use Rattle.tt_devices.specs.declared.sink.Sink.{Ghosts as OfSink}
 use Rattle.tt_devices.specs.declared.source.Source.{Ghosts as OfSource}
-use Rattle.tt_interp.specs.declared.setup.Setup.{Setup}
+use Rattle.tt_kept.specs.declared.setup.Setup.{Setup}
 use Rattle.tt_machine.specs.Machine.{Machine, Runs, start_machine}
 use Rattle.tt_session.specs.Choosing.{Allows, Chooses, Mode}
 use Rattle.tt_session.specs.Ending.{EndsAs, cause_of}

@@ -21,7 +21,7 @@ use Rattle.std.proofs.option.Option.TheSendSync as option
 use Rattle.std.specs.contracts.option.Option as Option
 use Rattle.tt_core.specs.contracts.began.Began as Began
 use Rattle.tt_run.specs.contracts.desk.Desk as Desk
-use Rattle.tt_interp.proofs.setup.Setup.TheSendSync as setup
+use Rattle.tt_kept.proofs.setup.Setup.TheSendSync as setup
 use Rattle.tt_workers.proofs.next.RunEnd.TheSendSync as run_end
 use Rattle.tt_workers.proofs.roster.Roster.TheSendSync as roster
 use Rattle.tt_run.proofs.desk.Desk.TheSendSync as desk

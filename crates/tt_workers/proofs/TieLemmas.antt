@@ -20,7 +20,7 @@ use Rattle.tt_devices.specs.Faults.{Rises}
 use Rattle.tt_devices.specs.Streams.{Grows}
 use Rattle.tt_devices.specs.declared.sink.Sink.{Ghosts as OfSink}
 use Rattle.tt_devices.specs.declared.source.Source.{Ghosts as OfSource}
-use Rattle.tt_interp.specs.Beginning.{IsNext}
+use Rattle.tt_kept.specs.Beginning.{IsNext}
 use Rattle.tt_interp.specs.Interps.{Interpreter, request_of, serving_of}
 use Rattle.tt_lines.proofs.SourceLemmas.{loses-none}
 use Rattle.tt_lines.specs.Lines.{reads_line}

@@ -8,10 +8,10 @@ use Rattle.tt_core.proofs.ActionLemmas.{AsksIn, Becomes}
 use Rattle.tt_core.proofs.CrewLemmas.{goes-placed, stands-asking}
 use Rattle.tt_core.proofs.PlaceLemmas.{each-at, each-map, each-map-at, each-set, joined-each, made-map, told-is}
 use Rattle.tt_core.specs.inside.Crew.{AllMade, AreEach, StandsIn}
-use Rattle.tt_interp.specs.Beginning.{IsNext}
+use Rattle.tt_kept.specs.Beginning.{IsNext}
 use Rattle.tt_interp.specs.Interps as interps
 use Rattle.tt_interp.specs.Interps.{Interpreter, request_of, serving_of}
-use Rattle.tt_interp.specs.declared.setup.Setup.{Setup}
+use Rattle.tt_kept.specs.declared.setup.Setup.{Setup}
 use Rattle.tt_machine.specs.Machine.{Machine, Thread, with_reply, thread_with_reply}
 use Rattle.tt_threads.specs.declared.row.Row.{Row}
 use Rattle.tt_workers.proofs.Lists.{place-before, from-one, get-append, get-set-other, get-set-same, less-and-one, one-and-less, same-or-not, set-get}

@@ -5,7 +5,7 @@ use Rattle.tt_core.specs.Parts.{HoldsLastPart}
 use Rattle.tt_core.specs.Stage.{Began}
 use Rattle.tt_devices.specs.declared.sink.Sink.{Ghosts as OfSink}
 use Rattle.tt_devices.specs.declared.source.Source.{Ghosts as OfSource}
-use Rattle.tt_interp.specs.declared.setup.Setup.{Setup}
+use Rattle.tt_kept.specs.declared.setup.Setup.{Setup}
 use Rattle.tt_machine.specs.Machine.{Machine, Runs, start_machine}
 use Rattle.tt_workers.specs.Ends.{IsEnd, ReadsCount, WritesCount, end_fault}
 use Rattle.tt_workers.specs.declared.next.RunEnd.{RunEnd}

@@ -7,10 +7,10 @@ use Rattle.tt_calls.specs.Numbers.{at_number, with_at}
 use Rattle.tt_calls.specs.declared.reply.Reply.{Reply}
 use Rattle.tt_calls.specs.declared.request.Request.{Request}
 use Rattle.tt_run.specs.Desk.{Ground, can_act}
-use Rattle.tt_interp.specs.Beginning.{IsNext}
+use Rattle.tt_kept.specs.Beginning.{IsNext}
 use Rattle.tt_interp.specs.Interps as interps
 use Rattle.tt_interp.specs.Interps.{Interpreter}
-use Rattle.tt_interp.specs.declared.setup.Setup.{Setup}
+use Rattle.tt_kept.specs.declared.setup.Setup.{Setup}
 use Rattle.tt_machine.specs.Machine.{Thread, new_thread}
 use Rattle.tt_threads.specs.declared.row.Row.{Row}
 

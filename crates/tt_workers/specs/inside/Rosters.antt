@@ -6,7 +6,7 @@ use Rattle.tt_calls.specs.declared.reply.Reply.{Reply}
 use Rattle.tt_calls.specs.declared.start.Start.{Start}
 use Rattle.tt_interp.specs.Interps as interps
 use Rattle.tt_interp.specs.Interps.{Interpreter}
-use Rattle.tt_interp.specs.declared.setup.Setup.{Setup}
+use Rattle.tt_kept.specs.declared.setup.Setup.{Setup}
 use Rattle.tt_workers.specs.inside.Places.{IsFreshPlace}
 use Rattle.tt_workers.specs.declared.next.Task.{Task}
 use Rattle.tt_workers.specs.declared.place.Place.{Place}

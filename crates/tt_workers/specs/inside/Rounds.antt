@@ -4,7 +4,7 @@ use Rattle.tt_calls.specs.declared.reply.Reply.{Reply}
 use Rattle.tt_core.specs.inside.Crew.{AllMade}
 use Rattle.tt_devices.specs.declared.sink.Sink.{Ghosts as OfSink}
 use Rattle.tt_devices.specs.declared.source.Source.{Ghosts as OfSource}
-use Rattle.tt_interp.specs.declared.setup.Setup.{Setup}
+use Rattle.tt_kept.specs.declared.setup.Setup.{Setup}
 use Rattle.tt_threads.specs.declared.row.Row.{Row}
 use Rattle.tt_workers.specs.Ends.{fault_so_far}
 use Rattle.tt_workers.specs.inside.Places.{IsFreshPlace, Note}

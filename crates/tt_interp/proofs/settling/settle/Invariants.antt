@@ -1,5 +1,6 @@
 use Rattle.std.proofs.Common.{◌≡◌}
-use Rattle.tt_interp.specs.Interps.{LeadsTo, halted}
+use Rattle.tt_interp.specs.Interps.{halted}
+use Rattle.tt_kept.specs.Leading.{LeadsTo}
 use Rattle.tt_evaluation.specs.Frames.{is_waiting, wants}
 use Rattle.tt_interp.proofs.settling.settle.Given as goal
 

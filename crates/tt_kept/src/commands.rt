@@ -1,7 +1,7 @@
 //! The commands that an interpreter does itself (proc(n), info(n)).
 ghost use Rattle.std.specs.Prelude.{◌≡◌, IfOk, codes, drop};
 ghost use Rattle.tt_dictionaries.specs.Commands as dictionaries;
-ghost use Rattle.tt_interp.specs.Commands as commands;
+ghost use Rattle.tt_kept.specs.Commands as commands;
 ghost use Rattle.tt_variable_commands.specs.ArrayCommands as arrays;
 ghost use Rattle.tt_variable_commands.specs.LevelCommands as levels;
 

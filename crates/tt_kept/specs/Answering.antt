@@ -9,8 +9,8 @@ use Rattle.tt_outcomes.specs.declared.got.Got.{Got}
 use Rattle.tt_outcomes.specs.declared.got.Got.TheVariants as gots
 use Rattle.tt_outcomes.specs.declared.want.Want.{Want}
 use Rattle.tt_outcomes.specs.declared.want.Want.TheVariants as want
-use Rattle.tt_interp.specs.Commands.{Runs, with_store}
-use Rattle.tt_interp.specs.declared.kept.Kept.{Kept}
+use Rattle.tt_kept.specs.Commands.{Runs, with_store}
+use Rattle.tt_kept.specs.declared.kept.Kept.{Kept}
 
 -- the empty value
 abbrev pub nothing : Got

@@ -1,8 +1,8 @@
 //! What an evaluation gets for what it wants (Tcl(n), vwait(n)).
 ghost use Rattle.std.specs.Prelude.{◌≡◌, IfOk};
 ghost use Rattle.std.specs.Option.{option_copied};
-ghost use Rattle.tt_interp.specs.Answering as answering;
-ghost use Rattle.tt_interp.specs.Commands as commands;
+ghost use Rattle.tt_kept.specs.Answering as answering;
+ghost use Rattle.tt_kept.specs.Commands as commands;
 ghost use Rattle.tt_store.specs.Held.{after_end};
 ghost use Rattle.tt_outcomes.specs.declared.want.Want.TheVariants as wants;
 
@@ -15,9 +15,11 @@ use tt_text::{NoMemory, Text};
 use tt_value::{Value, Values};
 
 impl Kept {
-    /// What is got for this; to a request there is no answer here.
-    pub(crate) fn answer(&mut self, alloc: Global, want: Want) -> Result<Got, NoMemory>
-        ensures { IfOk result (λ got. answering.Answers want self.old got self.new) }
+    /// What is got for this.
+    ///
+    /// `NoMemory` if memory is refused, and for a request, to which there is no answer here.
+    pub fn answer(&mut self, alloc: Global, want: Want) -> Result<Got, NoMemory>
+        ensures answers { IfOk result (λ got. answering.Answers want self.old got self.new) }
     {
         match want {
             Want::ReadVar { name, index } => self.read(&name, index.as_ref()),

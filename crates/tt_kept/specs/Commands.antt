@@ -15,9 +15,9 @@ use Rattle.tt_store.specs.Held.{Calls, Held}
 use Rattle.tt_store.specs.declared.answers.Answer.{Answer}
 use Rattle.tt_store.specs.declared.answers.Answer.TheVariants as answers
 use Rattle.tt_outcomes.specs.declared.want.Body.TheVariants.{Procedure}
-use Rattle.tt_interp.specs.declared.commands.Own.{Own}
-use Rattle.tt_interp.specs.declared.commands.Own.TheVariants as own
-use Rattle.tt_interp.specs.declared.kept.Kept.{Kept}
+use Rattle.tt_kept.specs.declared.commands.Own.{Own}
+use Rattle.tt_kept.specs.declared.commands.Own.TheVariants as own
+use Rattle.tt_kept.specs.declared.kept.Kept.{Kept}
 
 abbrev pub with_store : Kept → Held → Kept
 with_store kept store = record kept { store = store }

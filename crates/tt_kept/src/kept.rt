@@ -1,5 +1,5 @@
 ghost use Rattle.std.specs.Prelude.{◌≡◌, IfOk};
-ghost use Rattle.tt_interp.specs.Beginning as beginning;
+ghost use Rattle.tt_kept.specs.Beginning as beginning;
 
 use crate::Setup;
 use std::alloc::Global;
@@ -23,8 +23,10 @@ const MAIN: u32 = 1;
 
 impl Kept {
     /// What the thread of this number keeps at its start.
-    pub(crate) fn new(alloc: Global, me: u32, setup: &Setup) -> Result<Self, NoMemory>
-        ensures { IfOk result (beginning.BeginsThread setup.now me) }
+    ///
+    /// `NoMemory` if memory is refused.
+    pub fn new(alloc: Global, me: u32, setup: &Setup) -> Result<Self, NoMemory>
+        ensures begins { IfOk result (beginning.BeginsThread setup.now me) }
     {
         let mut store = Store::new(alloc)?;
         let arguments = globals(alloc, me, setup)?;

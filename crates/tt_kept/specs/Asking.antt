@@ -14,8 +14,8 @@ use Rattle.tt_outcomes.specs.declared.got.Got.{Got}
 use Rattle.tt_outcomes.specs.declared.got.Got.TheVariants as gots
 use Rattle.tt_outcomes.specs.declared.want.Want.{Want}
 use Rattle.tt_outcomes.specs.declared.want.Want.TheVariants.{Ask}
-use Rattle.tt_interp.specs.Answering.{Answers}
-use Rattle.tt_interp.specs.declared.kept.Kept.{Kept}
+use Rattle.tt_kept.specs.Answering.{Answers}
+use Rattle.tt_kept.specs.declared.kept.Kept.{Kept}
 
 -- what an evaluation comes to after further answers to what it wants
 abbrev pub Coming : Type 0

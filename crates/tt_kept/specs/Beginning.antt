@@ -10,9 +10,9 @@ use Rattle.tt_lists.specs.Spelling.{list_of}
 use Rattle.tt_evaluation.specs.Evaluation.{eval}
 use Rattle.tt_procedures.specs.declared.calling.Argument.{Argument}
 use Rattle.tt_store.specs.Held.{AreSet, nothing_held}
-use Rattle.tt_interp.specs.declared.kept.Kept.{Kept}
-use Rattle.tt_interp.specs.declared.setup.Setup.{Setup}
-use Rattle.tt_interp.specs.Asking.{AsksNext}
+use Rattle.tt_kept.specs.declared.kept.Kept.{Kept}
+use Rattle.tt_kept.specs.declared.setup.Setup.{Setup}
+use Rattle.tt_kept.specs.Asking.{AsksNext}
 
 abbrev pub argument : (name value : List ℕ) → Argument
 argument name value = record { name = name; value = value }

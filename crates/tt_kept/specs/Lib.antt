@@ -1,0 +1,5 @@
+pub mod Answering
+pub mod Asking
+pub mod Beginning
+pub mod Commands
+pub mod Leading
