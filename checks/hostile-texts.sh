@@ -73,6 +73,8 @@ check 'open braces of 16 MiB' 1 'missing close-brace' script
 check 'open brackets of 16 MiB' 1 'nested too deeply' script
 { printf 'puts "' && times 8388608 '[a'; } >script
 check 'open brackets in quotes of 16 MiB' 1 'nested too deeply' script
+{ printf 'puts ' && times 8388608 '["'; } >script
+check 'open quotes in brackets of 16 MiB' 1 'nested too deeply' script
 # shellcheck disable=SC2016
 { printf 'puts ' && times 5592404 '$a('; } >script
 check 'open indices of 16 MiB' 1 'nested too deeply' script
@@ -104,15 +106,24 @@ TCL
 check 'a text past its greatest length' 0 '1 result too long' script
 cat >script <<'TCL'
 set t [thread::create]
-puts [thread::send $t [list string length [string repeat a 50000000]]]
+puts "[catch {thread::send $t {string repeat a 268435457}} e] $e"
+puts [thread::send $t [list string length [string repeat a 268435456]]]
 TCL
-check 'a text of 50 MB in a send' 0 50000000 script
+check 'such texts in a send' 0 $'1 result too long\n268435456' script
 cat >script <<'TCL'
-tsv::set a b [string repeat a 50000000]
+tsv::set a b [string repeat a 268435456]
+puts "[catch {tsv::set a b [string repeat a 268435457]} e] $e"
 tsv::append a b c
 puts [string length [tsv::get a b]]
 TCL
-check 'a text of 50 MB that is shared' 0 50000001 script
+check 'such texts that are shared' 0 $'1 result too long\n268435457' script
+cat >script <<'TCL'
+lassign [chan pipe] r w
+puts -nonewline $w [string repeat a 268435456]
+close $w
+puts [string length [gets $r]]
+TCL
+check 'a text at its greatest length through a pipe' 0 268435456 script
 cat >script <<'TCL'
 lassign [chan pipe] r w
 puts -nonewline $w [string repeat a 100000000]
@@ -128,11 +139,11 @@ TCL
 check '10,000 lists, each in the next' 0 39999 script
 cat >script <<'TCL'
 proc p0 {} {error oops}
-for {set i 1} {$i <= 300} {incr i} {proc p$i {} [list p[expr {$i - 1}]]}
-catch p300
+for {set i 1} {$i <= 332} {incr i} {proc p$i {} [list p[expr {$i - 1}]]}
+catch p332
 puts "[llength [split $errorInfo \n]] [string range $errorInfo 0 3]"
 TCL
-check 'a trace of 906 lines' 0 '906 oops' script
+check 'a trace of 1,002 lines' 0 '1002 oops' script
 
 cat >script <<'TCL'
 for {set i 0} {$i < 10000} {incr i} {lappend names p$i; lappend values $i}

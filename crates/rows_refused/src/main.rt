@@ -21,26 +21,31 @@ const RUNS: [&str; 5] = ["head", "nested", "counter", "channel", "pool"];
 fn main(rt: HostRuntime) -> anyhow::Result<()> {
     let mut files = RealFiles::new(SystemDisk::new(&rt));
     let Ok(mut words) = env::args(&rt) else {
-        return tell_none(&rt);
+        return report_none(&rt);
     };
     let _name = words.next();
     match words.next() {
-        Some(word) => tell(&rt, rt.alloc(), &mut files, word.as_str()),
-        None => tell_all(&rt, rt.alloc(), &mut files),
+        Some(word) => report(&rt, rt.alloc(), &mut files, word.as_str()),
+        None => report_all(&rt, rt.alloc(), &mut files),
     }
 }
 
-fn tell_all<F: Files>(rt: &impl Print, alloc: Global, files: &mut F) -> anyhow::Result<()> {
+fn report_all<F: Files>(rt: &impl Print, alloc: Global, files: &mut F) -> anyhow::Result<()> {
     for name in RUNS {
-        tell(rt, alloc, files, name)?;
+        report(rt, alloc, files, name)?;
     }
     Ok(())
 }
 
-/// Tells how the run of this name ended, and then whether it agrees: what is refused stops at the first of these lines.
-fn tell<F: Files>(rt: &impl Print, alloc: Global, files: &mut F, name: &str) -> anyhow::Result<()> {
+/// Reports how the run of this name ended, and then whether it agrees: what is refused stops at the first of these lines.
+fn report<F: Files>(
+    rt: &impl Print,
+    alloc: Global,
+    files: &mut F,
+    name: &str,
+) -> anyhow::Result<()> {
     let Ok(left) = run(alloc, files, name) else {
-        return tell_none(rt);
+        return report_none(rt);
     };
     println!(rt; "{}", status_words(&left.status))?;
     let agrees = agrees(alloc, files, name, &left)?;
@@ -49,7 +54,7 @@ fn tell<F: Files>(rt: &impl Print, alloc: Global, files: &mut F, name: &str) -> 
 }
 
 /// Memory for the words was refused, and nothing was done.
-fn tell_none(rt: &impl Print) -> anyhow::Result<()> {
+fn report_none(rt: &impl Print) -> anyhow::Result<()> {
     println!(rt; "no memory")?;
     println!(rt; "agrees")?;
     Ok(())

@@ -2,7 +2,7 @@
 
 use crate::devices::Counted;
 use crate::row::{Came, Counts, File, Row};
-use crate::status::told;
+use crate::status::reported;
 use std::alloc::Global;
 use tt_devices::{MemoryFiles, MemorySink, MemorySource};
 use tt_schedule::{Schedule, print};
@@ -80,7 +80,7 @@ fn files_of(alloc: Global, row: &Row) -> anyhow::Result<Counted<MemoryFiles>> {
 fn came_of(alloc: Global, ended: &Left) -> anyhow::Result<Came> {
     let mut came = handed_back(alloc, &ended.output, &ended.errors)?;
     came.steps = steps_of(alloc, &ended.schedule)?;
-    came.end = told(alloc, &ended.status)?;
+    came.end = reported(alloc, &ended.status)?;
     Ok(came)
 }
 

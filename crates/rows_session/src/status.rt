@@ -5,11 +5,11 @@ use tt_session::{Place, Status};
 use tt_text::Text;
 
 /// The exit code and the status.
-pub(crate) fn told(alloc: Global, status: &Status) -> anyhow::Result<Text> {
-    let mut told = numbered(alloc, "", u64::from(status.exit()))?;
-    told.push_bytes(b" ")?;
-    told.push_bytes(words(alloc, status)?.as_bytes())?;
-    Ok(told)
+pub(crate) fn reported(alloc: Global, status: &Status) -> anyhow::Result<Text> {
+    let mut reported = numbered(alloc, "", u64::from(status.exit()))?;
+    reported.push_bytes(b" ")?;
+    reported.push_bytes(words(alloc, status)?.as_bytes())?;
+    Ok(reported)
 }
 
 fn words(alloc: Global, status: &Status) -> anyhow::Result<Text> {
