@@ -35,6 +35,9 @@ pub struct Value {
     kept: Kept,
 }
 
+// How many bytes a long text has at least.
+const LONG: usize = 64;
+
 // A value takes no more room than a text and a word.
 const _: () = prove!(size_of::<Value>() == 24);
 
@@ -126,6 +129,15 @@ impl Value {
         match kept {
             Kept::Text(text) => Ok(text),
             kept => kept::text_of(alloc, &kept),
+        }
+    }
+
+    /// Whether a text is kept that is long enough for it to pay that it is kept as a list, once it is read as one. No
+    /// contract knows it, since no answer hangs on it.
+    pub fn is_long_text(&self) -> bool {
+        match &self.kept {
+            Kept::Text(text) => LONG <= text.as_bytes().len(),
+            _ => false,
         }
     }
 
