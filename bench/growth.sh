@@ -5,8 +5,7 @@
 # the least of RUNS runs; the start of the process is taken off.
 #
 # It ends with 1 if a row grows more than twice as fast as tclsh's. A row that is known to do so is marked `later`, and
-# doesn't count: `linsert` copies all items, as tclsh does with less for each; `string length` and `string range` wait for
-# texts that know that each character is one byte; `tsv::lpop` moves up the items behind the one that goes.
+# doesn't count: `linsert` copies all items, as tclsh does with less for each.
 # Usage: bench/growth.sh [N] [RUNS]
 set -euo pipefail
 shopt -s inherit_errexit
@@ -19,6 +18,9 @@ runs=${2:-3}
 rows() {
     cat <<'ROWS'
 lindex|set l [lrepeat N abc]; for {set i 0} {$i < N} {incr i} {lindex $l $i}
+lindex, a list that is a text|set l [string repeat {abc } N]; for {set i 0} {$i < N} {incr i} {lindex $l $i}
+a text that is no list|set s [string repeat {ab\{} N]; for {set i 0} {$i < N} {incr i} {string index $s $i}
+a text that grows and is read|set s {}; for {set i 0} {$i < N} {incr i} {append s {abc }; string length $s}
 llength|set l [lrepeat N abc]; for {set i 0} {$i < N} {incr i} {llength $l}
 lrange|set l [lrepeat N abc]; for {set i 0} {$i < N} {incr i} {lrange $l $i $i}
 lreplace|set l [lrepeat N abc]; for {set i 0} {$i < 100} {incr i} {set l [lreplace $l $i $i x]}
@@ -29,14 +31,14 @@ lassign|set l [lrepeat N abc]; for {set i 0} {$i < N} {incr i} {lassign $l a b}
 lrange, one less|set q [lrepeat [expr {N / 10}] abc]; while {[llength $q]} {set q [lrange $q 1 end]}
 a procedure given a list|proc p {l} {lindex $l 0}; set l [lrepeat N abc]; for {set i 0} {$i < N} {incr i} {p $l}
 string index|set s [string repeat abc N]; for {set i 0} {$i < N} {incr i} {string index $s $i}
-later string length|set s [string repeat abc N]; for {set i 0} {$i < N} {incr i} {string length $s}
-later string range|set s [string repeat abc N]; for {set i 0} {$i < N} {incr i} {string range $s $i $i}
+string length|set s [string repeat abc N]; for {set i 0} {$i < N} {incr i} {string length $s}
+string range|set s [string repeat abc N]; for {set i 0} {$i < N} {incr i} {string range $s $i $i}
 elements set|for {set i 0} {$i < N} {incr i} {set a($i) $i}
 elements read|for {set i 0} {$i < N} {incr i} {set a($i) $i}; for {set i 0} {$i < N} {incr i} {set a($i)}
 elements unset|for {set i 0} {$i < N} {incr i} {set a($i) $i}; for {set i 0} {$i < N} {incr i} {unset a($i)}
 tsv::lappend|for {set i 0} {$i < N/4} {incr i} {tsv::lappend t l $i}
 tsv::lindex|tsv::set t l [lrepeat N abc]; for {set i 0} {$i < N} {incr i} {tsv::lindex t l $i}
-later tsv::lpop|tsv::set t l [lrepeat [expr {N / 10}] abc]; for {set i 0} {$i < N/10} {incr i} {tsv::lpop t l}
+tsv::lpop|tsv::set t l [lrepeat [expr {N / 10}] abc]; for {set i 0} {$i < N/10} {incr i} {tsv::lpop t l}
 lsearch over names|set l {}; for {set i 0} {$i < N} {incr i} {lappend l name$i}; for {set i 0} {$i < 100} {incr i} {lsearch -exact $l name[expr {N - 1}]}
 variables by name|for {set i 0} {$i < N} {incr i} {set v$i $i}; for {set i 0} {$i < N} {incr i} {set v$i}
 append of a text to itself|set s abc; while {[string length $s] < 1000 * N} {append s $s}

@@ -34,9 +34,9 @@ impl Kept {
         }
     }
 
-    fn read(&self, name: &Text, index: Option<&Text>) -> Result<Got, NoMemory>
+    fn read(&mut self, name: &Text, index: Option<&Text>) -> Result<Got, NoMemory>
         ensures { IfOk result (λ got.
-            answering.Answers (wants.ReadVar name.now (option_copied index.entry)) self.now got self.now) }
+            answering.Answers (wants.ReadVar name.now (option_copied index.entry)) self.old got self.new) }
     {
         match index {
             Some(index) => self.read_at(name, Some(index.as_bytes())),
@@ -44,9 +44,9 @@ impl Kept {
         }
     }
 
-    fn read_at(&self, name: &Text, index: Option<&[u8]>) -> Result<Got, NoMemory>
+    fn read_at(&mut self, name: &Text, index: Option<&[u8]>) -> Result<Got, NoMemory>
         ensures { IfOk result (λ got.
-            answering.Answers (wants.ReadVar name.now (option_copied index.entry)) self.now got self.now) }
+            answering.Answers (wants.ReadVar name.now (option_copied index.entry)) self.old got self.new) }
     {
         let outcome = self.store.read(name.as_bytes(), index)?;
         Ok(Got::Value(outcome))

@@ -11,6 +11,7 @@ mod increment;
 mod listed;
 mod messages;
 mod nesting;
+mod rereads;
 mod row;
 mod run;
 mod scalars;

@@ -207,6 +207,14 @@ impl Nesting {
             .read(self.frame_of(spot), &spot.name, spot.index.as_ref())
     }
 
+    /// The value of a name is kept as a list, if it is one and there is memory for its items. No text changes.
+    pub(crate) fn keep_items(&mut self, spot: &Spot)
+        ensures same { self.new ≡ self.old }
+    {
+        let frame = self.frame_of(spot);
+        drop(self.vars.items(frame, &spot.name, spot.index.as_ref()));
+    }
+
     /// Writes a value to a name.
     pub(crate) fn write(&mut self, spot: &Spot, value: Value) -> Result<Written, NoMemory>
         ensures written { IfOk result (λ answer.

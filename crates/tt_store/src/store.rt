@@ -4,6 +4,7 @@ ghost use Rattle.tt_store.specs.Held as held;
 
 use crate::messages::{cannot_read, cannot_set};
 use crate::nesting::Nesting;
+use crate::rereads::Rereads;
 use crate::spot::{Spot, full_name, spot_named, spot_of};
 use crate::watch::{Watch, mark};
 use std::alloc::Global;
@@ -19,6 +20,7 @@ pub struct Store {
     pub(crate) nesting: Nesting,
     pub(crate) watches: Vec<Watch>,
     pub(crate) alloc: Global,
+    rereads: Rereads,
 }
 
 impl Model for Store {
@@ -41,21 +43,36 @@ impl Store {
             nesting,
             watches: Vec::new(alloc),
             alloc,
+            rereads: Rereads::new(),
         })
     }
 
     /// What `$name` and `$name(index)` give (Tcl(n)): the value, or the error of reading. A name with a leading `::` is
-    /// that of the global variable of the rest.
+    /// that of the global variable of the rest. A long text that is read again and again is kept as a list, if it is
+    /// one.
     ///
     /// `NoMemory` if memory is refused.
-    pub fn read(&self, name: &[u8], index: Option<&[u8]>) -> Result<Outcome, NoMemory>
-        ensures read { IfOk result (held.IsRead self.now name.now (option_copied index.entry)) }
+    pub fn read(&mut self, name: &[u8], index: Option<&[u8]>) -> Result<Outcome, NoMemory>
+        ensures read { IfOk result (held.IsRead self.old name.now (option_copied index.entry)) }
+        ensures same { self.new ≡ self.old }
     {
         let spot = spot_named(self.alloc, name, index)?;
         let found = self.find(&spot)?;
         let word = full_name(self.alloc, name, index)?;
+        self.read_again(&spot, &found);
         let outcome = value_of(self.alloc, &word, found)?;
         Ok(outcome)
+    }
+
+    // What was read at a spot is kept as a list, if that is due.
+    fn read_again(&mut self, spot: &Spot, found: &Result<Value, VarFault>)
+        ensures same { self.new ≡ self.old }
+    {
+        if let Some(length) = long_length(self.alloc, found) {
+            if self.rereads.is_due(spot, length) {
+                self.nesting.keep_items(spot);
+            }
+        }
     }
 
     /// Gives a value to the same (set(n)): the value, or the error of setting; then nothing has changed.
@@ -145,6 +162,9 @@ impl Store {
     pub(crate) fn set_spot(&mut self, spot: &Spot, value: Value) -> Result<Written, NoMemory>
         ensures { IfOk result (held.Sets self.old spot.now value self.new) }
     {
+        if value.is_long_text() {
+            self.rereads.forget(spot);
+        }
         let written = self.nesting.write(spot, value)?;
         if let Written::Yes = written {
             self.mark_written(spot);
@@ -188,6 +208,14 @@ impl Store {
     {
         let outcome = Outcome::wrong_number(self.alloc, usage)?;
         Ok(outcome)
+    }
+}
+
+// How many bytes a long text has that was found, if it is one and can be shared.
+fn long_length(alloc: Global, found: &Result<Value, VarFault>) -> Option<usize> {
+    match found {
+        Ok(value) if value.is_long_text() => Some(value.to_text(alloc).ok()?.len()),
+        _ => None,
     }
 }
 
