@@ -1,12 +1,13 @@
 #!/usr/bin/env bash
 # Prints how the time grows from N turns or items to 4 N of them: of reading, cutting and growing a variable's list and
-# text, of elements of arrays, of shared lists, and of variables by name. If tclsh is installed with its Thread package,
-# its growth with the same script stands beside each, with both times at 4 N and their ratio. Times are the processor's,
-# the least of RUNS runs; the start of the process is taken off.
+# text, of elements of arrays, of shared lists, and of variables by name. If tclsh is installed, its growth with the same
+# script stands beside each, with both times at 4 N and their ratio; for shared lists its Thread package is needed too.
+# The start of the process is taken off. Times are the processor's, in microseconds, the least of RUNS runs; with
+# `instructions` in place of RUNS they are thousands of instructions as valgrind counts them, which other work on the
+# machine doesn't change, and take a quarter of an hour.
 #
-# It ends with 1 if a row grows more than twice as fast as tclsh's. A row that is known to do so is marked `later`, and
-# doesn't count: `linsert` copies all items, as tclsh does with less for each.
-# Usage: bench/growth.sh [N] [RUNS]
+# It ends with 1 if a row grows more than twice as fast as tclsh's.
+# Usage: bench/growth.sh [N] [RUNS|instructions]
 set -euo pipefail
 shopt -s inherit_errexit
 cd "$(dirname "$0")/.."
@@ -14,7 +15,7 @@ few=${1:-5000}
 runs=${2:-3}
 . bench/lib/scripts.bash
 
-# Each row: a name, with `later` before it if it doesn't count yet, and a script in which N stands for the number.
+# Each row: a name, and a script in which N stands for the number.
 rows() {
     cat <<'ROWS'
 lindex|set l [lrepeat N abc]; for {set i 0} {$i < N} {incr i} {lindex $l $i}
@@ -24,7 +25,7 @@ a text that grows and is read|set s {}; for {set i 0} {$i < N} {incr i} {append 
 llength|set l [lrepeat N abc]; for {set i 0} {$i < N} {incr i} {llength $l}
 lrange|set l [lrepeat N abc]; for {set i 0} {$i < N} {incr i} {lrange $l $i $i}
 lreplace|set l [lrepeat N abc]; for {set i 0} {$i < 100} {incr i} {set l [lreplace $l $i $i x]}
-later linsert at the end|set l {}; for {set i 0} {$i < N/10} {incr i} {set l [linsert $l end $i]}
+linsert at the end|set l {}; for {set i 0} {$i < N/10} {incr i} {set l [linsert $l end $i]}
 lappend|set l {}; for {set i 0} {$i < N} {incr i} {lappend l $i}
 foreach|set l [lrepeat N abc]; for {set i 0} {$i < 20} {incr i} {foreach x $l {}}
 lassign|set l [lrepeat N abc]; for {set i 0} {$i < N} {incr i} {lassign $l a b}
@@ -58,12 +59,23 @@ least() {
     echo "$best"
 }
 
-# The time that a command takes for a row's script with so many, without its start: a millisecond at least.
-time_of() {
+# The thousands of instructions of a run of a command.
+counted() {
+    valgrind --tool=callgrind --callgrind-out-file=/dev/null "$@" 2>&1 >/dev/null |
+        awk '/Collected/ {printf "%d\n", $NF / 1000}'
+}
+
+# What a run of a command takes.
+cost() {
+    if [ "$runs" = instructions ]; then counted "$@"; else least "$@"; fi
+}
+
+# What a command takes for a row's script with so many, without its start: a thousand at least.
+cost_of() {
     local script=$1 count=$2 start=$3 took
     shift 3
     echo "${script//N/$count}" >"$folder/row.tcl"
-    took=$(($(least "$@" "$folder/row.tcl") - start))
+    took=$(($(cost "$@" "$folder/row.tcl") - start))
     echo $((took > 1000 ? took : 1000))
 }
 
@@ -72,25 +84,36 @@ ratio() {
     echo "$(($2 / $1)).$((10 * $2 / $1 % 10))"
 }
 
+# Whether tclsh can run a row of that name.
+runs_beside() {
+    case $1 in
+        tsv::*) [ $beside = yes ] ;;
+        *) command -v tclsh >/dev/null ;;
+    esac
+}
+
+unit=us
+if [ "$runs" = instructions ]; then unit=thousands; fi
 program=./crates/tclthread/out/tclthread
-echo 'package require Thread' >"$folder/empty.tcl"
-start=$(least "$program" "$folder/empty.tcl")
-if [ $beside = yes ]; then beside_start=$(least tclsh "$folder/empty.tcl"); fi
+: >"$folder/empty.tcl"
+start=$(cost "$program" "$folder/empty.tcl")
+beside_start=0
+if runs_beside any; then beside_start=$(cost tclsh "$folder/empty.tcl"); fi
 
 fast=0
 while IFS='|' read -r name script; do
-    script="package require Thread; $script"
-    one=$(time_of "$script" "$few" "$start" "$program")
-    four=$(time_of "$script" $((4 * few)) "$start" "$program")
-    printf '%s: grows by %s, %d us' "$name" "$(ratio "$one" "$four")" "$four"
-    if [ $beside = yes ]; then
-        its_one=$(time_of "$script" "$few" "$beside_start" tclsh)
-        its_four=$(time_of "$script" $((4 * few)) "$beside_start" tclsh)
-        printf '; tclsh by %s, %d us; %s of its time' \
-            "$(ratio "$its_one" "$its_four")" "$its_four" "$(ratio "$its_four" "$four")"
+    if [[ $name == tsv::* ]]; then script="package require Thread; $script"; fi
+    one=$(cost_of "$script" "$few" "$start" "$program")
+    four=$(cost_of "$script" $((4 * few)) "$start" "$program")
+    printf '%s: grows by %s, %d %s' "$name" "$(ratio "$one" "$four")" "$four" $unit
+    if runs_beside "$name"; then
+        its_one=$(cost_of "$script" "$few" "$beside_start" tclsh)
+        its_four=$(cost_of "$script" $((4 * few)) "$beside_start" tclsh)
+        printf '; tclsh by %s, %d %s; %s of its' \
+            "$(ratio "$its_one" "$its_four")" "$its_four" $unit "$(ratio "$its_four" "$four")"
         if [ $((four * its_one)) -gt $((2 * one * its_four)) ]; then
             printf '; grows too fast'
-            if [[ $name != later\ * ]]; then fast=$((fast + 1)); fi
+            fast=$((fast + 1))
         fi
     fi
     printf '\n'
