@@ -15,9 +15,10 @@ trap 'rm -rf "$folder"' EXIT
 # The dollar is Tcl's.
 # shellcheck disable=SC2016
 sed 's/{$i <= 5}/{$i <= 200}/' crates/rows_prefix/data/jobs.tcl >"$folder/jobs.tcl"
-cd examples
+cp examples/*.tcl examples/*.schedule "$folder"
+cd "$folder"
 # The name is a pattern.
 # shellcheck disable=SC2231
-for script in $name.tcl "$folder"/$name.tcl; do
-    [ ! -e "$script" ] || "$program" "$script" "${script%.tcl}"*.schedule
+for script in $name.tcl; do
+    "$program" "$script" "${script%.tcl}"*.schedule
 done
