@@ -4,7 +4,8 @@
 # script stands beside each, with both times at 4 N and their ratio; for shared lists its Thread package is needed too.
 # The start of the process is taken off. Times are the processor's, in microseconds, the least of RUNS runs; with
 # `instructions` in place of RUNS they are thousands of instructions as valgrind counts them, which other work on the
-# machine doesn't change, and take a quarter of an hour.
+# machine doesn't change, and take a quarter of an hour. A row of copied bytes is timed all the same: one instruction may
+# copy many.
 #
 # It ends with 1 if a row grows more than twice as fast as tclsh's.
 # Usage: bench/growth.sh [N] [RUNS|instructions]
@@ -15,7 +16,8 @@ few=${1:-5000}
 runs=${2:-3}
 . bench/lib/scripts.bash
 
-# Each row: a name, and a script in which N stands for the number.
+# Each row: a name, with `timed` before it if instructions don't say what it costs, and a script in which N stands for
+# the number.
 rows() {
     cat <<'ROWS'
 lindex|set l [lrepeat N abc]; for {set i 0} {$i < N} {incr i} {lindex $l $i}
@@ -42,15 +44,15 @@ tsv::lindex|tsv::set t l [lrepeat N abc]; for {set i 0} {$i < N} {incr i} {tsv::
 tsv::lpop|tsv::set t l [lrepeat [expr {N / 10}] abc]; for {set i 0} {$i < N/10} {incr i} {tsv::lpop t l}
 lsearch over names|set l {}; for {set i 0} {$i < N} {incr i} {lappend l name$i}; for {set i 0} {$i < 100} {incr i} {lsearch -exact $l name[expr {N - 1}]}
 variables by name|for {set i 0} {$i < N} {incr i} {set v$i $i}; for {set i 0} {$i < N} {incr i} {set v$i}
-append of a text to itself|set s abc; while {[string length $s] < 1000 * N} {append s $s}
+timed append of a text to itself|set s abc; while {[string length $s] < 1000 * N} {append s $s}
 ROWS
 }
 
 # The least processor time of a run of a command, in microseconds; it is taken by the millisecond.
 least() {
-    local best='' took
+    local best='' took run
     local TIMEFORMAT='%3U+%3S'
-    for _ in $(seq "$runs"); do
+    for ((run = 0; run < runs; run++)); do
         took=$({ time "$@" >/dev/null; } 2>&1)
         took=${took//./}
         took=$((1000 * (10#${took%+*} + 10#${took#*+})))
@@ -65,9 +67,9 @@ counted() {
         awk '/Collected/ {printf "%d\n", $NF / 1000}'
 }
 
-# What a run of a command takes.
+# What a run of a command takes, in the unit.
 cost() {
-    if [ "$runs" = instructions ]; then counted "$@"; else least "$@"; fi
+    if [ "$unit" = us ]; then least "$@"; else counted "$@"; fi
 }
 
 # What a command takes for a row's script with so many, without its start: a thousand at least.
@@ -92,16 +94,18 @@ runs_beside() {
     esac
 }
 
-unit=us
-if [ "$runs" = instructions ]; then unit=thousands; fi
 program=./crates/tclthread/out/tclthread
 : >"$folder/empty.tcl"
-start=$(cost "$program" "$folder/empty.tcl")
-beside_start=0
-if runs_beside any; then beside_start=$(cost tclsh "$folder/empty.tcl"); fi
+units=us
+if [ "$runs" = instructions ]; then units=thousands runs=3; fi
 
 fast=0
 while IFS='|' read -r name script; do
+    unit=$units
+    if [[ $name == timed\ * ]]; then unit=us name=${name#timed }; fi
+    start=$(cost "$program" "$folder/empty.tcl")
+    beside_start=0
+    if runs_beside "$name"; then beside_start=$(cost tclsh "$folder/empty.tcl"); fi
     if [[ $name == tsv::* ]]; then script="package require Thread; $script"; fi
     one=$(cost_of "$script" "$few" "$start" "$program")
     four=$(cost_of "$script" $((4 * few)) "$start" "$program")
