@@ -37,11 +37,14 @@ set_value-insert {X} (e ∷ es) n v w at = by (bytes_eq n e.0) at (set_value-ins
     by true at rest = refl
     by false at rest = ap (λ l. e ∷ l) (rest at)
 
+with_same : (frame : Frame) (n : Name) (v : Variable) → named frame n ≡ Some v → with frame n v ≡ frame
+with_same frame n v at = sym (set_value-insert frame n v v at) ∙ set_value_same (bytes_eq n) frame v at
+
 -- what is written to a variable is written to its frame
 pub puts-through : (frame : Frame) (n : Name) (v w : Variable) (made : Result Variable VarFault) (answer : Written) →
-    named frame n ≡ Some v → Puts made v w answer → Puts (result_of (with frame n) made) frame (set_value (bytes_eq n) frame w) answer
-puts-through frame n v w (Ok made) answer at h = (h.0, ap (set_value (bytes_eq n) frame) h.1 ∙ set_value-insert frame n v made at)
-puts-through frame n v w (Err fault) answer at h = (h.0, ap (set_value (bytes_eq n) frame) h.1 ∙ set_value_same (bytes_eq n) frame v at)
+    named frame n ≡ Some v → Puts made v w answer → Puts (result_of (with frame n) made) frame (with frame n w) answer
+puts-through frame n v w (Ok made) answer at h = (h.0, ap (with frame n) h.1)
+puts-through frame n v w (Err fault) answer at h = (h.0, ap (with frame n) h.1 ∙ with_same frame n v at)
 
-pub set_value_same_frame : (frame : Frame) (n : Name) (v w : Variable) → named frame n ≡ Some v → w ≡ v → set_value (bytes_eq n) frame w ≡ frame
-set_value_same_frame frame n v w at is = ap (set_value (bytes_eq n) frame) is ∙ set_value_same (bytes_eq n) frame v at
+pub with_same_frame : (frame : Frame) (n : Name) (v w : Variable) → named frame n ≡ Some v → w ≡ v → with frame n w ≡ frame
+with_same_frame frame n v w at is = ap (with frame n) is ∙ with_same frame n v at

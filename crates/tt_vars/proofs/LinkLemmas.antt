@@ -5,15 +5,16 @@ use Rattle.std.specs.Cmp.Lexicographic.{nat_list_eq_equiv}
 use Rattle.std.specs.List.{position_or_len}
 use Rattle.std.specs.Map.{keys_of, values_of, lookup, set_value}
 use Rattle.std.proofs.lemmas.Map.{keys-set_value}
-use Rattle.std.specs.Option.{IfSome, IfNone}
-use Rattle.indexmap.specs.IndexMap.{IndexMap, set_value_at, Updates, IsUnchanged}
+use Rattle.std.specs.Option.{IfSome}
+use Rattle.indexmap.specs.IndexMap.{set_value_at}
+use Rattle.tt_names.specs.Names.{Updates}
 use Rattle.tt_vars.specs.declared.variable.Place.{Place}
 use Rattle.tt_vars.specs.declared.variable.Variable.{Variable}
 use Rattle.tt_vars.specs.declared.variable.Variable.TheVariants.{Scalar, Array, Link}
 use Rattle.tt_vars.specs.Variables.{Name, Frame, named, leads, with}
 use Rattle.tt_vars.specs.inside.Ending.{rank, KeepsLinks}
 use Rattle.tt_vars.specs.inside.Found.{without_at, removed_in}
-use Rattle.tt_vars.proofs.FrameLemmas.{same_some, none_is_some, keys-set_at}
+use Rattle.tt_vars.proofs.FrameLemmas.{same_some, none_is_some, keys-set_at, set_value-insert}
 
 pub link_is_there : (v : Option Variable) (to : Option Place) → leads v ≡ Some to → is_some v ≡ true
 link_is_there None to h = absurd (none_is_some h)
@@ -41,9 +42,10 @@ leads-set_value (e ∷ es) n v w at same q = by (bytes_eq n e.0) at (λ h. leads
     by false at rest = leads-cond (bytes_eq q e.0) (Some e.1) (Some e.1) (named (set_value (bytes_eq n) es w) q) (named es q) refl (rest at)
 
 -- a name that is there takes what leads where it led
-pub keeps-through : (es : Frame) (n : Name) (v w : Variable) → named es n ≡ Some v → leads (Some w) ≡ leads (Some v) →
-    KeepsLinks es (set_value (bytes_eq n) es w)
-keeps-through es n v w at same = keeps-keys es (set_value (bytes_eq n) es w) (keys-set_value (bytes_eq n) es w) (leads-set_value es n v w at same)
+pub keeps-through : (es : Frame) (n : Name) (v w : Variable) → named es n ≡ Some v → leads (Some w) ≡ leads (Some v) → KeepsLinks es (with es n w)
+keeps-through es n v w at same =
+    subst (KeepsLinks es) (set_value-insert es n v w at)
+    (keeps-keys es (set_value (bytes_eq n) es w) (keys-set_value (bytes_eq n) es w) (leads-set_value es n v w at same))
 
 leads-set_at : (es : Frame) (i : ℕ) (v w : Variable) → slice_get (values_of es) i ≡ Some v → leads (Some w) ≡ leads (Some v) → (q : Name) →
     leads (named (set_value_at es i w) q) ≡ leads (named es q)
@@ -137,11 +139,18 @@ module _ (es fs : Frame) (i : ℕ) (n : Name) (v : Variable) (at : slice_get es 
 keeps-itself : (es : Frame) → KeepsLinks es es
 keeps-itself es k to h = (h, λ m next g lt. lt)
 
-pub keeps-taken : {S : Type 0} (m n : IndexMap Name Variable S) (i : ℕ) (taken : Option (Name × Variable)) →
-    taken ≡ slice_get m.entries i → IfSome taken (λ p. Updates bytes_eq m n p.0 None) → IfNone taken (IsUnchanged m n) → n.entries ≡ remove m.entries i →
-    KeepsLinks m.entries n.entries
-keeps-taken m n i None at updates same is = subst (KeepsLinks m.entries) (sym same) (keeps-itself m.entries)
-keeps-taken m n i (Some p) at updates same is = keeps-removed m.entries n.entries i p.0 p.1 (sym at) updates.0 is
+none_less : (es : Frame) (i : ℕ) → slice_get es i ≡ None → remove es i ≡ es
+none_less [] zero at = refl
+none_less [] (suc i) at = refl
+none_less (e ∷ es) zero at = absurd (none_is_some (sym at))
+none_less (e ∷ es) (suc i) at = ap (λ l. e ∷ l) (none_less es i at)
+
+pub keeps-taken : (es fs : Frame) (i : ℕ) → fs ≡ remove es i → IfSome (slice_get es i) (λ p. Updates es fs p.0 None) → KeepsLinks es fs
+keeps-taken es fs i is updates = by (slice_get es i) refl updates
+  where
+    by : (r : Option (Name × Variable)) → slice_get es i ≡ r → IfSome r (λ p. Updates es fs p.0 None) → KeepsLinks es fs
+    by None at updates = subst (KeepsLinks es) (sym (is ∙ none_less es i at)) (keeps-itself es)
+    by (Some p) at updates = keeps-removed es fs i p.0 p.1 at updates is
 
 keeps-element : (es : Frame) (place : ℕ) (element : Name) → KeepsLinks es (removed_in es place (slice_get (values_of es) place) (Some element))
 keeps-element es place element = by (slice_get (values_of es) place) refl

@@ -16,9 +16,9 @@ use crate::variable::{
     Found, Place, Variable, change_in, first_written, read_in, remove_from, write_to,
 };
 use crate::{VarFault, Written};
-use indexmap::IndexMap;
 use std::alloc::Global;
 use std::marker::Model;
+use tt_names::Names;
 use tt_text::{NoMemory, Text, Texts};
 use tt_value::{Changing, Made, Value};
 
@@ -26,7 +26,7 @@ use tt_value::{Changing, Made, Value};
 /// name and what it is.
 #[derive(Debug, Drop)]
 pub(crate) struct Frame {
-    map: IndexMap<Text, Variable>,
+    names: Names<Variable>,
 }
 
 impl Model for Frame {
@@ -35,7 +35,7 @@ impl Model for Frame {
 
     ghost Value = { List (List ℕ × AnyVariable) };
 
-    ghost view = { λ frame. frame.map.entries };
+    ghost view = { λ frame. frame.names };
 }
 
 impl Frame {
@@ -44,15 +44,23 @@ impl Frame {
         ensures empty { result ≡ [] }
     {
         Frame {
-            map: IndexMap::new(alloc),
+            names: Names::new(alloc),
         }
+    }
+
+    /// The frame with no variables. The room of few names stays.
+    pub(crate) fn emptied(mut self) -> Self
+        ensures empty { result ≡ [] }
+    {
+        self.names.clear();
+        self
     }
 
     /// Where a link leads; None where the name is no link.
     pub(crate) fn link(&self, name: &Text) -> Option<&Option<Place>>
         ensures link { option_copied result ≡ leads (named self.now name.now) }
     {
-        match self.map.get(name)? {
+        match self.names.get(name)? {
             Variable::Link(to) => Some(to),
             Variable::Scalar(_) | Variable::Array(_) => None,
         }
@@ -70,7 +78,7 @@ impl Frame {
         ensures fault { IfErr result (λ fault.
             read missing (named self.now name.now) (option_copied index.entry) ≡ Err fault) }
     {
-        match (self.map.get(name).ok_or(missing)?, index) {
+        match (self.names.get(name).ok_or(missing)?, index) {
             (Variable::Scalar(value), None) => Ok(value),
             (Variable::Array(elements), Some(index)) => {
                 elements.get(index).ok_or(VarFault::NoSuchElement)
@@ -95,11 +103,11 @@ impl Frame {
         ensures unchanged { OnErr result (self.new ≡ self.old) }
         ensures links { KeepsLinks self.old self.new }
     {
-        if let Some(variable) = self.map.get_mut(&name) {
+        if let Some(variable) = self.names.get_mut(&name) {
             return write_to(variable, index, value);
         }
-        let variable = first_written(*self.map.allocator(), index, value)?;
-        self.map.insert(name, variable)?;
+        let variable = first_written(self.names.alloc(), index, value)?;
+        self.names.insert(name, variable)?;
         Ok(Written::Yes)
     }
 
@@ -112,7 +120,7 @@ impl Frame {
             named self.new other ≡ cond (bytes_eq name other) (Some (Link to)) (named self.old other)) }
         ensures unchanged { OnErr result (self.new ≡ self.old) }
     {
-        self.map.insert(name, Variable::Link(to))?;
+        self.names.insert(name, Variable::Link(to))?;
         Ok(())
     }
 
@@ -168,7 +176,7 @@ impl Frame {
         ensures no_text { IfErr result (λ fault.
             read missing (named self.now name.now) (option_copied index.entry) ≡ Err fault) }
     {
-        let (place, _, named) = self.map.get_full(name).ok_or(missing)?;
+        let (place, named) = self.names.find(name).ok_or(missing)?;
         has_element(named, index)?;
         Ok(place)
     }
@@ -189,7 +197,7 @@ impl Frame {
         ensures removed { self.new ≡ remove self.old place }
         ensures links { KeepsLinks self.old self.new }
     {
-        drop(self.map.shift_remove_index(place));
+        self.names.remove_at(place);
     }
 
     // Removes an element of the array at a place.
@@ -198,7 +206,7 @@ impl Frame {
             ≡ removed_in self.old place (slice_get (values_of self.old) place) (Some element.now) }
         ensures links { KeepsLinks self.old self.new }
     {
-        if let Some(variable) = self.map.get_index_mut(place) {
+        if let Some(variable) = self.names.at_mut(place) {
             remove_from(variable, element);
         }
     }
@@ -215,8 +223,8 @@ impl Frame {
             answer ≡ option_map (R.meaning reading.now) (text_at self.old found.now)) }
         ensures same { self.new ≡ self.old }
     {
-        let alloc = *self.map.allocator();
-        let Some(variable) = self.map.get_index_mut(found.variable) else {
+        let alloc = self.names.alloc();
+        let Some(variable) = self.names.at_mut(found.variable) else {
             return Ok(None);
         };
         read_in(alloc, variable, found.element.as_ref(), reading)
@@ -235,8 +243,8 @@ impl Frame {
         ensures changed { IfOk result (λ answer. self.new ≡ after_change (put_at self.old found.now) self.old answer) }
         ensures links { KeepsLinks self.old self.new }
     {
-        let alloc = *self.map.allocator();
-        let Some(variable) = self.map.get_index_mut(found.variable) else {
+        let alloc = self.names.alloc();
+        let Some(variable) = self.names.at_mut(found.variable) else {
             return Ok(None);
         };
         change_in(alloc, variable, found.element.as_ref(), changing)
@@ -248,7 +256,7 @@ impl Frame {
     pub(crate) fn names(&self, name: &Text) -> Result<Option<Texts>, NoMemory>
         ensures names { IfOk result (λ names. names ≡ option_map keys_of (elements_of (named self.now name.now))) }
     {
-        match self.map.get(name) {
+        match self.names.get(name) {
             Some(Variable::Array(elements)) => {
                 let names = elements.names()?;
                 Ok(Some(names))
@@ -262,7 +270,7 @@ impl Frame {
         ensures set { result ≡ is_set (named self.now name.now) }
     {
         matches!(
-            self.map.get(name),
+            self.names.get(name),
             Some(Variable::Scalar(_) | Variable::Array(_))
         )
     }
@@ -271,7 +279,7 @@ impl Frame {
     pub(crate) fn size(&self, name: &Text) -> Option<usize>
         ensures size { result ≡ option_map length (elements_of (named self.now name.now)) }
     {
-        match self.map.get(name)? {
+        match self.names.get(name)? {
             Variable::Array(elements) => Some(elements.len()),
             Variable::Scalar(_) | Variable::Link(_) => None,
         }

@@ -27,10 +27,12 @@ use tt_value::{Changing, Made, Value};
 #[derive(Debug, Drop)]
 pub struct Vars {
     frames: Vec<Frame>,
+    /// A frame that was taken away, emptied: its room is for the next one.
+    spare: Option<Frame>,
 }
 
 impl Model for Vars {
-    ghost use Rattle.std.specs.Prelude.{ℕ, List, ◌<◌, length};
+    ghost use Rattle.std.specs.Prelude.{◌≡◌, ℕ, List, [], ◌<◌, length, IfSome};
     ghost use Rattle.tt_vars.specs.declared.variable.Variable.{Variable as AnyVariable};
     ghost use Rattle.tt_vars.specs.inside.Ending.{LinksEnd};
 
@@ -38,7 +40,8 @@ impl Model for Vars {
 
     ghost view = { λ vars. vars.frames.items };
 
-    ghost invariant = { λ vars. (0 < length vars.frames.items) × LinksEnd vars.frames.items };
+    ghost invariant = { λ vars.
+        (0 < length vars.frames.items) × LinksEnd vars.frames.items × IfSome vars.spare (λ frame. frame ≡ []) };
 }
 
 impl Vars {
@@ -50,7 +53,10 @@ impl Vars {
     {
         let mut frames = Vec::new(alloc);
         frames.push(Frame::new(alloc))?;
-        Ok(Vars { frames })
+        Ok(Vars {
+            frames,
+            spare: None,
+        })
     }
 
     /// Adds a frame above all others.
@@ -60,7 +66,7 @@ impl Vars {
         ensures pushed { OnOk result (self.new ≡ self.old ++ [] ∷ []) }
         ensures unchanged { OnErr result (self.new ≡ self.old) }
     {
-        let frame = Frame::new(*self.frames.allocator());
+        let frame = taken_or_new(*self.frames.allocator(), &mut self.spare);
         self.frames.push(frame)?;
         Ok(())
     }
@@ -70,7 +76,9 @@ impl Vars {
         requires { 1 < length self.old }
         ensures { self.new ≡ take (length self.old - 1) self.old }
     {
-        drop(self.frames.pop());
+        if let Some(frame) = self.frames.pop() {
+            self.spare = Some(frame.emptied());
+        }
     }
 
     /// The number of the highest frame.
@@ -314,6 +322,18 @@ impl Vars {
         let frames = self.frames.as_slice();
         let spot = follow(frames, Spot { frame, name, index });
         find_spot(frames, index, spot)
+    }
+}
+
+// A frame with no variables: the spare one, if there is one.
+fn taken_or_new(alloc: Global, spare: &mut Option<Frame>) -> Frame
+    requires spare { IfSome spare.old (λ frame. frame ≡ []) }
+    ensures empty { result ≡ [] }
+    ensures taken { spare.new ≡ None }
+{
+    match spare.take() {
+        Some(frame) => frame,
+        None => Frame::new(alloc),
     }
 }
 

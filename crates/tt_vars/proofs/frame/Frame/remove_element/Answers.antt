@@ -3,4 +3,4 @@ use Rattle.tt_vars.proofs.LinkLemmas.{keeps-without}
 use Rattle.tt_vars.proofs.frame.Frame.remove_element.Goals as goal
 
 pub returns-clause-links : goal.returns-clause-links
-returns-clause-links c = keeps-without c.args.self.now c.match-get_index_mut.self-inside.map.entries c.args.place c.args.element.now (search rules)
+returns-clause-links c = keeps-without c.args.self.now c.match-at_mut.self-inside.names c.args.place c.args.element.now (search rules)

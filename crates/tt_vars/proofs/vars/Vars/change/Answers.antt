@@ -24,4 +24,5 @@ invariant_of-self-2 g c =
       search rules,
       ends-kept c.self.inside.frames.items c.in-Ok.found.0 _ c.change_at.new.self c.self.invariant.1 within c.change_at.ensures.links
           (c.index_mut.ensures.value ∙ get_or_default _ _ _ _ within),
+      search rules,
     )

@@ -9,4 +9,5 @@ invariant_of-self c =
       search rules,
       ends-kept c.self.inside.frames.items c.in-Ok.found.0 _ c.remove_at.new.self c.self.invariant.1 within c.remove_at.ensures.links
           (c.index_mut.ensures.value ∙ get_or_default _ _ _ _ within),
+      search rules,
     )
