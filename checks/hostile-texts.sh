@@ -117,20 +117,15 @@ tsv::append a b c
 puts [string length [tsv::get a b]]
 TCL
 check 'such texts that are shared' 0 $'1 result too long\n268435457' script
-cat >script <<'TCL'
+for count in 268435456 100000000; do
+    cat >script <<TCL
 lassign [chan pipe] r w
-puts -nonewline $w [string repeat a 268435456]
-close $w
-puts [string length [gets $r]]
+puts -nonewline \$w [string repeat a $count]
+close \$w
+puts [string length [gets \$r]]
 TCL
-check 'a text at its greatest length through a pipe' 0 268435456 script
-cat >script <<'TCL'
-lassign [chan pipe] r w
-puts -nonewline $w [string repeat a 100000000]
-close $w
-puts [string length [gets $r]]
-TCL
-check 'a text of 100 MB through a pipe, with no newline' 0 100000000 script
+    check "$count bytes through a pipe, with no newline" 0 "$count" script
+done
 cat >script <<'TCL'
 set x a
 for {set i 0} {$i < 10000} {incr i} {set x [list $x b]}
