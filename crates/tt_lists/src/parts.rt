@@ -89,7 +89,12 @@ fn joined_parts(
 ) -> Result<Texts, NoMemory>
     ensures { IfOk result (λ all. all ≡ front.now ++ (middle.now ++ back.now)) }
 {
-    let mut all = Texts::from_copies(alloc, front)?;
+    let count = front
+        .len()
+        .saturating_add(middle.len())
+        .saturating_add(back.len());
+    let mut all = Texts::with_capacity(alloc, count)?;
+    all.push_copies(front)?;
     all.push_copies(middle)?;
     all.push_copies(back)?;
     Ok(all)

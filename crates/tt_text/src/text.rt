@@ -7,7 +7,7 @@ use crate::NoMemory;
 use crate::characters::{char_count, is_narrow};
 use crate::few::{Few, ROOM};
 use crate::many::Many;
-use std::alloc::Global;
+use std::alloc::{AllocError, Global};
 use std::marker::Model;
 use std::sync::Arc;
 
@@ -164,9 +164,17 @@ impl Text {
     pub fn copy(&self) -> Result<Self, NoMemory>
         ensures copied { IfOk result (λ text. text ≡ self.now) }
     {
+        Ok(self.clone()?)
+    }
+}
+
+impl Clone for Text {
+    ghost is_clone = { λ text copy. copy ≡ text };
+
+    fn clone(&self) -> Result<Self, AllocError> {
         let storage = match &self.storage {
             Storage::Short(few) => Storage::Short(few.copy()),
-            Storage::Long(shared) => Storage::Long(Arc::try_clone(shared)?),
+            Storage::Long(shared) => Storage::Long(Arc::clone(shared)?),
         };
         Ok(Text {
             alloc: self.alloc,

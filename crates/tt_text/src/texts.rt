@@ -28,16 +28,26 @@ impl Texts {
         }
     }
 
+    /// No texts, with room for so many.
+    ///
+    /// `NoMemory` if memory for them is refused.
+    pub fn with_capacity(alloc: Global, capacity: usize) -> Result<Self, NoMemory>
+        ensures empty { IfOk result (λ texts. texts ≡ []) }
+    {
+        Ok(Texts {
+            items: Vec::with_capacity(alloc, capacity)?,
+        })
+    }
+
     /// Copies of these texts.
     ///
     /// `NoMemory` if memory for the list is refused.
     pub fn from_copies(alloc: Global, texts: &[Text]) -> Result<Self, NoMemory>
         ensures copies { IfOk result (λ copies. copies ≡ texts.now) }
     {
-        let mut copies = Texts::new(alloc);
-        copies.items.reserve(texts.len())?;
-        copies.push_copies(texts)?;
-        Ok(copies)
+        Ok(Texts {
+            items: Vec::from_clones(alloc, texts)?,
+        })
     }
 
     /// The texts, from the first to the last.
@@ -64,9 +74,7 @@ impl Texts {
     pub fn push_copies(&mut self, texts: &[Text]) -> Result<(), NoMemory>
         ensures pushed { OnOk result (self.new ≡ self.old ++ texts.now) }
     {
-        for text in texts {
-            self.push(text.copy()?)?;
-        }
+        self.items.extend_with_clones(texts)?;
         Ok(())
     }
 
