@@ -211,12 +211,22 @@ impl Store {
     }
 }
 
-// How many bytes a long text has that was found, if it is one and can be shared.
+// How many bytes of a text are looked at for white space.
+const FRONT: usize = 256;
+
+// How many bytes a long text has that was found, if it may be a list of many items and can be shared.
 fn long_length(alloc: Global, found: &Result<Value, VarFault>) -> Option<usize> {
     match found {
-        Ok(value) if value.is_long_text() => Some(value.to_text(alloc).ok()?.len()),
+        Ok(value) if value.is_long_text() => {
+            let text = value.to_text(alloc).ok()?;
+            has_white_front(text.as_bytes()).then_some(text.len())
+        }
         _ => None,
     }
+}
+
+fn has_white_front(text: &[u8]) -> bool {
+    text.iter().take(FRONT).any(u8::is_ascii_whitespace)
 }
 
 fn value_of(alloc: Global, word: &Text, found: Result<Value, VarFault>) -> Result<Outcome, NoMemory>
