@@ -23,7 +23,7 @@ use Rattle.tt_variable_commands.specs.ArrayCommands.{IsSubcommand, Runs, RunsIf,
 use Rattle.tt_variable_commands.specs.ArrayReading as reading
 use Rattle.tt_variable_commands.specs.Vocabulary.{is_element}
 use Rattle.tt_variable_commands.specs.ArrayReading.{Counts, Gets, HasIndicesIf, HasSizeIf, Lists, Names, PairsOf}
-use Rattle.tt_variable_commands.specs.ArrayReading.{TellsSize, exists_told, names_like, pair_of, size_told}
+use Rattle.tt_variable_commands.specs.ArrayReading.{TellsSize, exists_report, names_like, pair_of, size_report}
 use Rattle.laws_language.proofs.Once.{Once, Only, fails-once, find-each, goes-fails, goes-once, once-by, once-made, once-told, only-made, only-told}
 use Rattle.laws_language.proofs.Held.{drops-once, finds-once, indices-once, is_written-once, size_of-once}
 use Rattle.laws_language.proofs.VariableCommands.{fails_with-once, refuses-once}
@@ -50,12 +50,12 @@ tells_size-once tell name old = once-made (Counts old name) (λ size. fine (tell
 
 exists-once : (usage : List ℕ) (words : List (List ℕ)) (old : Held) → Once (reading.exists usage words old)
 exists-once usage [] old = refuses-once usage old
-exists-once usage (name ∷ []) old = tells_size-once exists_told name old
+exists-once usage (name ∷ []) old = tells_size-once exists_report name old
 exists-once usage (name ∷ more ∷ words) old = refuses-once usage old
 
 size-once : (usage : List ℕ) (words : List (List ℕ)) (old : Held) → Once (reading.size usage words old)
 size-once usage [] old = refuses-once usage old
-size-once usage (name ∷ []) old = tells_size-once size_told name old
+size-once usage (name ∷ []) old = tells_size-once size_report name old
 size-once usage (name ∷ more ∷ words) old = refuses-once usage old
 
 names_told-once : (pattern : Option (List ℕ)) (name : Name) (old : Held) → Once (Names pattern name old)

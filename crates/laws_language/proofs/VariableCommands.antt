@@ -24,11 +24,11 @@ use Rattle.tt_store.specs.Commands.{flush, package_require, required, row_of, ve
 use Rattle.tt_store.specs.Held.{Drops, Fails, Finds, Held, Meaning, ReadsWord, Refuses, Sets, with_levels}
 use Rattle.tt_store.specs.Levels.{begun_in}
 use Rattle.tt_store.specs.Listed as listed
-use Rattle.tt_store.specs.Listed.{Assigns, AssignsItems, AssignsOne, lappend, lassign, message_of, paired, told_rest}
+use Rattle.tt_store.specs.Listed.{Assigns, AssignsItems, AssignsOne, lappend, lassign, message_of, paired, rest_outcome}
 use Rattle.tt_store.specs.Messages.{cannot_unset}
 use Rattle.tt_store.specs.Scalars as scalars
 use Rattle.tt_store.specs.Scalars.{Changes, Counts, DropsOne, GivesMade, Unsets, UnsetsAll, UnsetsIf, append, counting}
-use Rattle.tt_store.specs.Scalars.{outcome_by, first_unknown, front, incr, incremented, made_of, set, told_of, unset}
+use Rattle.tt_store.specs.Scalars.{outcome_by, first_unknown, front, incr, incremented, made_of, set, report_of, unset}
 use Rattle.tt_store.specs.Spots.{spot_of}
 use Rattle.laws_language.proofs.Once.{Once, Only, fails-once, goes-fails, goes-once, find-each, once-by, once-kept, once-made, once-then, once-told, only-made}
 use Rattle.laws_language.proofs.PureCommands.{pure-once}
@@ -83,7 +83,7 @@ lappend-once usage (name ∷ values) old = changes-once name [] (growing.listed 
 drops_one-once : (nocomplain : Bool) (word : List ℕ) (old : Held) → Once (DropsOne nocomplain word old)
 drops_one-once nocomplain word old =
     once-by (λ (removed : Result Unit VarFault) (new : Held). Drops old (spot_of word) new removed)
-    (λ removed. option_map (cannot_unset word) (told_of nocomplain removed)) (drops-once old (spot_of word))
+    (λ removed. option_map (cannot_unset word) (report_of nocomplain removed)) (drops-once old (spot_of word))
 
 unsets-same : (nocomplain : Bool) {words : List (List ℕ)} {old new next : Held} {one other : Option (List ℕ)}
     → Unsets nocomplain words old one new → Unsets nocomplain words old other next → (one ≡ other) × (new ≡ next)
@@ -141,7 +141,7 @@ assigns_items-once : (read : Split) (names : List (List ℕ)) (old : Held) → O
 assigns_items-once (split.Bad fault) names old = fails_with-once (list_message fault) old
 assigns_items-once (split.Items items) names old =
     once-by (λ (message : Option (List ℕ)) (new : Held). Assigns (paired names items) old message new)
-    (told_rest (drop (length names) items)) (λ one other new next is its. assigns-same is its)
+    (rest_outcome (drop (length names) items)) (λ one other new next is its. assigns-same is its)
 
 lassign-once : (usage : List ℕ) (words : List (List ℕ)) (old : Held) → Once (lassign usage words old)
 lassign-once usage [] old = refuses-once usage old

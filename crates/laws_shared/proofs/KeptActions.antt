@@ -37,7 +37,7 @@ use Rattle.laws_shared.specs.Actions.{Action, Acts, NumbersFit, Reached, after, 
 use Rattle.tt_pools.specs.Calls as pools
 use Rattle.tt_pools.specs.declared.step.PoolStep.{PoolStep}
 use Rattle.tt_shared.specs.Acts.{act, gives_of, moves, on_channels, pools_after, target_of}
-use Rattle.tt_shared.specs.Ends.{died, ended, hears, tells_died, told_died}
+use Rattle.tt_shared.specs.Ends.{died, ended, hears, tells_died, with_died_event}
 use Rattle.tt_shared.specs.Mail.{Queues, first_in, queue_of, queued, with_queue, without_first_in}
 use Rattle.tt_shared.specs.Sends.{come, takes, takes_first}
 use Rattle.tt_shared.specs.State.{State, is_marked, room, start_state}
@@ -179,8 +179,8 @@ module _ (state : State) (t : ℕ) (lives : is_living state.rows t ≡ true) (ke
 
 -- ---- the end of a thread ----
 
-tell_one : (rows : List Row) (t : ℕ) (queues : Queues) (post : VariablePost) → SameArrivals queues (told_died rows t queues post)
-    × (length (told_died rows t queues post) ≡ length queues)
+tell_one : (rows : List Row) (t : ℕ) (queues : Queues) (post : VariablePost) → SameArrivals queues (with_died_event rows t queues post)
+    × (length (with_died_event rows t queues post) ≡ length queues)
 tell_one rows t queues post = go (hears rows t post)
   where
     go : (b : Bool) → SameArrivals queues (if b then queued queues post.sender false (died post.name) else queues)
@@ -193,7 +193,7 @@ tell : (rows : List Row) (t : ℕ) (posts : List VariablePost) (queues : Queues)
 tell rows t [] queues = (λ u text. refl, refl)
 tell rows t (post ∷ posts) queues =
     let first = tell_one rows t queues post in
-    let later = tell rows t posts (told_died rows t queues post) in
+    let later = tell rows t posts (with_died_event rows t queues post) in
     (λ u text. later.0 u text ∙ first.0 u text, later.1 ∙ first.1)
 
 by_end : (state : State) (t : ℕ) (code : ℤ) → Kept state → IsDrawn state.channels → Kept (ended state t code)

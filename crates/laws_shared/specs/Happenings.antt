@@ -61,7 +61,7 @@ recipient_of mode.Later (Some name) = Variable
 
 abbrev pub sent : ℕ → (target : Option ℕ) → Recipient → (head : Bool) → Reply → List Happening
 sent t (Some target) recipient head (reply.Posted n) = Posted n t target recipient head ∷ []
-sent t target recipient head told = []
+sent t target recipient head answered = []
 
 abbrev pub reported : State → ℕ → Option ErrorProcedure → List Happening
 reported state t None = []
@@ -82,12 +82,12 @@ posted_from n t (target ∷ targets) = Posted n t target Nobody false ∷ posted
 
 abbrev pub began : Reply → List Happening
 began (reply.Event (event.Script n script answer plain)) = Began n ∷ []
-began told = []
+began answered = []
 
 abbrev pub got : (n : ℕ) → Reply → List Happening
 got n reply.Died = Got n reply.Died ∷ []
 got n (reply.Answer outcome) = Got n (reply.Answer outcome) ∷ []
-got n told = []
+got n answered = []
 
 -- the variable of the sender, if that has not ended
 abbrev pub set_of : List Row → (n : ℕ) → (value : List ℕ) → Option VariablePost → List Happening
@@ -101,7 +101,7 @@ set_where state n value (Some slot) = []
 abbrev pub delivered : State → (n : ℕ) → Outcome → Reply → List Happening
 delivered state n outcome (reply.Served stops) =
     Finished n outcome ∷ set_where state n outcome.value (slot_of state.posts.slots n)
-delivered state n outcome told = []
+delivered state n outcome answered = []
 
 -- ---- the end of a thread ----
 
@@ -172,18 +172,18 @@ owners_changed old new = flat_map (owner_changed old) new.channels
 
 -- the table, but for owners: a line for each request by which something happens
 abbrev pub happens : (old new : State) → (t : ℕ) → Request → Reply → List Happening
-happens old new t (ask.Send text script mode variable head) told =
-    sent t (linked old.rows text) (recipient_of mode variable) head told
-happens old new t (ask.Report trace plain) told = reported old t (procedure_in_use old plain old.error_procedure)
-happens old new t (ask.Broadcast script) told = posted_from old.posts.next t (others old t)
-happens old new t ask.Take told = began told
-happens old new t ask.TakeReady told = began told
-happens old new t (ask.Pool call) told = began told
-happens old new t (ask.Deliver n outcome) told = delivered old n outcome told
-happens old new t (ask.Await n) told = got n told
-happens old new t (ask.Lock call) told = holds_changed old.locks new.locks t (lock_named call)
-happens old new t (ask.End code) told = deaths old t
-happens old new t request told = []
+happens old new t (ask.Send text script mode variable head) answered =
+    sent t (linked old.rows text) (recipient_of mode variable) head answered
+happens old new t (ask.Report trace plain) answered = reported old t (procedure_in_use old plain old.error_procedure)
+happens old new t (ask.Broadcast script) answered = posted_from old.posts.next t (others old t)
+happens old new t ask.Take answered = began answered
+happens old new t ask.TakeReady answered = began answered
+happens old new t (ask.Pool call) answered = began answered
+happens old new t (ask.Deliver n outcome) answered = delivered old n outcome answered
+happens old new t (ask.Await n) answered = got n answered
+happens old new t (ask.Lock call) answered = holds_changed old.locks new.locks t (lock_named call)
+happens old new t (ask.End code) answered = deaths old t
+happens old new t request answered = []
 
 -- what happened by an action
 abbrev pub happened : Moment → List Happening

@@ -32,11 +32,11 @@ bytes_at table id = bytes_in (channel_of table id)
 -- what a call that is answered puts into the read end of an id: the one that its channel names as the other end
 abbrev pub put_into : (id bytes : List ℕ) → Option Channel → Reply → List ℕ
 put_into id bytes (Some channel) reply.Go = if bytes_eq channel.other id then bytes else []
-put_into id bytes found told = []
+put_into id bytes found answered = []
 
 abbrev pub put_by : (id : List ℕ) → State → Request → Reply → List ℕ
-put_by id state (ask.Chan (chan.Put text bytes)) told = put_into id bytes (channel_of state.channels text) told
-put_by id state request told = []
+put_by id state (ask.Chan (chan.Put text bytes)) answered = put_into id bytes (channel_of state.channels text) answered
+put_by id state request answered = []
 
 -- ---- gets ----
 
@@ -47,12 +47,12 @@ has_newline (Some bytes) = has_line bytes
 
 abbrev pub taken_with : (newline : Bool) → Reply → List ℕ
 taken_with newline (reply.Line line) = if newline then line ++ 10 ∷ [] else line
-taken_with newline told = []
+taken_with newline answered = []
 
 abbrev pub taken_by : (id : List ℕ) → State → Request → Reply → List ℕ
-taken_by id state (ask.Chan (chan.GetLine text)) told =
-    if bytes_eq text id then taken_with (has_newline (bytes_at state.channels id)) told else []
-taken_by id state request told = []
+taken_by id state (ask.Chan (chan.GetLine text)) answered =
+    if bytes_eq text id then taken_with (has_newline (bytes_at state.channels id)) answered else []
+taken_by id state request answered = []
 
 -- ---- lists of actions ----
 

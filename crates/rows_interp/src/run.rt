@@ -12,7 +12,7 @@ pub(crate) fn run(alloc: Global, row: &Row) -> anyhow::Result<Option<Text>> {
     let mut reply = None;
     for exchange in row.exchanges.as_slice() {
         if !interp.can_resume(&reply) {
-            return told(alloc, b"nothing");
+            return failure_text(alloc, b"nothing");
         }
         interp.resume(reply)?;
         let request = interp.request();
@@ -23,7 +23,7 @@ pub(crate) fn run(alloc: Global, row: &Row) -> anyhow::Result<Option<Text>> {
         reply = reply_to(alloc, request, exchange)?;
     }
     if !row.open && interp.can_resume(&Some(Reply::Go)) {
-        return told(alloc, b"more");
+        return failure_text(alloc, b"more");
     }
     Ok(None)
 }
@@ -43,7 +43,7 @@ fn begin(alloc: Global, row: &Row) -> Result<Interp, NoMemory> {
     Interp::new(alloc, &start, row.me, &setup)
 }
 
-fn told(alloc: Global, text: &[u8]) -> anyhow::Result<Option<Text>> {
+fn failure_text(alloc: Global, text: &[u8]) -> anyhow::Result<Option<Text>> {
     let text = Text::from_bytes(alloc, text)?;
     Ok(Some(text))
 }

@@ -69,8 +69,8 @@ impl fmt::Display for Counts {
     fn fmt<W: fmt::Write>(&self, f: &mut fmt::Formatter<W>) -> fmt::Result {
         write!(
             f,
-            "{} exit with 0, {} with 1, {} with another code; {} stall, {} reach the limit; {} are no schedule, {} have a \
-             bad entry, {} end",
+            "{} exit with 0, {} with 1, {} with another code; {} stall, {} reach the limit; {} are no schedule, {} \
+             have a bad entry, {} end",
             self.done,
             self.failed,
             self.exited,

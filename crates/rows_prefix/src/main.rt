@@ -1,12 +1,12 @@
-//! Texts that are cut off or changed, as scripts and as schedules: how many there are, and, on standard error, how many of
-//! them end with which status. Any other end than a status of such a run is an error.
+//! Texts that are cut off or changed, as scripts and as schedules: how many there are, and, on standard error, how many
+//! of them end with which status. Any other end than a status of such a run is an error.
 //!
 //! The words are names of files. One that ends with `.schedule` is a schedule of the script before it; any other is a
 //! script, whose threads take their steps in turn. Of each text these are tried:
 //!
 //! - its beginnings, from the empty one to the whole text;
-//! - at every seventh place: the text without that byte, with that byte twice, and with each of eleven bytes in its place
-//!   that mean something to Tcl or are rare.
+//! - at every seventh place: the text without that byte, with that byte twice, and with each of eleven bytes in its
+//!   place that mean something to Tcl or are rare.
 #![tactic(auto)]
 
 mod changes;

@@ -53,7 +53,8 @@ fn is_whole(fresh: &Fresh, left: &Left, line: &[u8]) -> bool {
     output == fresh.output.bytes() && errors.strip_prefix(fresh.errors.bytes()) == Some(line)
 }
 
-/// Whether an output lacks at most a part of what the last step wrote; the status line comes if that is standard output.
+/// Whether an output lacks at most a part of what the last step wrote. The status line comes if that is standard
+/// output.
 fn is_cut(before: &Fresh, fresh: &Fresh, left: &Left) -> bool {
     let output = left.output.bytes();
     let errors = match left

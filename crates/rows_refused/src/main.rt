@@ -1,9 +1,9 @@
 //! Runs of scripts in which memory may be refused, each after a schedule of its own, and whether what it wrote agrees
 //! with a fresh run of the steps that it took. `checks/refused-memory.sh` refuses one allocation after another.
 //!
-//! The word is the name of a run, whose script and schedule stand in `data/`; without a word each of them is run. One line
-//! says how it ended, and another whether it agrees: both outputs got what the fresh run wrote, and standard error its
-//! status line after that; a run that couldn't write lacks at most a part of what its last step writes.
+//! The word is the name of a run, whose script and schedule stand in `data/`; without a word each of them is run. One
+//! line says how it ended, and another whether it agrees: both outputs got what the fresh run wrote, and standard error
+//! its status line after that; a run that couldn't write lacks at most a part of what its last step writes.
 #![tactic(auto)]
 
 mod compare;
@@ -37,7 +37,8 @@ fn report_all<F: Files>(rt: &impl Print, alloc: Global, files: &mut F) -> anyhow
     Ok(())
 }
 
-/// Reports how the run of this name ended, and then whether it agrees: what is refused stops at the first of these lines.
+/// Reports how the run of this name ended, and then whether it agrees. What is refused stops at the first of these
+/// lines.
 fn report<F: Files>(
     rt: &impl Print,
     alloc: Global,

@@ -4,24 +4,24 @@ use std::alloc::{AllocError, Global};
 use tt_words::Asked;
 
 /// The words in parentheses, parted by spaces.
-fn told_words(alloc: Global, words: &[&str]) -> Result<String, AllocError> {
-    let mut told = String::from_str(alloc, "(")?;
+fn words_text(alloc: Global, words: &[&str]) -> Result<String, AllocError> {
+    let mut text = String::from_str(alloc, "(")?;
     for (i, word) in words.iter().enumerate() {
         if i > 0 {
-            told.push_str(" ")?;
+            text.push_str(" ")?;
         }
-        told.push_str(if word.is_empty() { "''" } else { word })?;
+        text.push_str(if word.is_empty() { "''" } else { word })?;
     }
-    told.push_str(")")?;
-    Ok(told)
+    text.push_str(")")?;
+    Ok(text)
 }
 
 /// What is asked for, in a line.
-pub(crate) fn told(alloc: Global, asked: Option<Asked<'_>>) -> Result<String, AllocError> {
+pub(crate) fn asked_text(alloc: Global, asked: Option<Asked<'_>>) -> Result<String, AllocError> {
     match asked {
         None => String::from_str(alloc, "usage"),
         Some(Asked::Plain(plain)) => {
-            let arguments = told_words(alloc, plain.arguments.as_slice())?;
+            let arguments = words_text(alloc, plain.arguments.as_slice())?;
             let (script, workers, steps, limit) = (
                 plain.script,
                 plain.workers,
@@ -32,7 +32,7 @@ pub(crate) fn told(alloc: Global, asked: Option<Asked<'_>>) -> Result<String, Al
             format!(in alloc; "plain {script} {arguments} {workers} {steps} {limit} {kept}")
         }
         Some(Asked::Replay(replay)) => {
-            let arguments = told_words(alloc, replay.arguments.as_slice())?;
+            let arguments = words_text(alloc, replay.arguments.as_slice())?;
             let (schedule, script, limit) = (replay.schedule, replay.script, replay.limit);
             format!(in alloc; "replay {schedule} {script} {arguments} {limit}")
         }

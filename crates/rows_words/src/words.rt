@@ -4,15 +4,15 @@
 //! for `plain SCRIPT (ARGUMENTS) WORKERS STEPS LIMIT FILE`, for `replay FILE SCRIPT (ARGUMENTS) LIMIT`, or for
 //! `generate NUMBER SIZE STEPS LIMIT FILE`; `unkept` stands for no file.
 
-use crate::telling::told;
+use crate::telling::asked_text;
 use std::alloc::{AllocError, Global};
 use tt_words::read_words;
 
 /// What the words of a line ask for.
 pub(crate) fn answer(alloc: Global, line: &str) -> anyhow::Result<String> {
     let words = words(alloc, line)?;
-    let told = told(alloc, read_words(alloc, words.as_slice())?)?;
-    Ok(told)
+    let text = asked_text(alloc, read_words(alloc, words.as_slice())?)?;
+    Ok(text)
 }
 
 /// The words of a line.

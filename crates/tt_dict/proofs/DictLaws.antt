@@ -4,7 +4,7 @@ use Rattle.std.specs.Result.{result_ok}
 use Rattle.tt_lists.specs.Reading.{split_of}
 use Rattle.tt_pairs.proofs.PairLaws.{keys_law}
 use Rattle.tt_pairs.specs.PairLaws.{KeysDiffer}
-use Rattle.tt_pairs.specs.Pairs.{Pairs, joined, text_of, value_of}
+use Rattle.tt_pairs.specs.Pairs.{Pairs, joined_pairs, text_of, value_of}
 use Rattle.tt_pairs.specs.Reading.{Reading}
 use Rattle.tt_dict.specs.Changing.{appended, changed, increased, listed, putting, value_or}
 use Rattle.tt_dict.specs.DictLaws.{ChangedKeysLaw, MergeLaw, SamePairsLaw}
@@ -65,8 +65,8 @@ changed_keys (Lappend key items) pairs made differ is =
 -- ---- merging ----
 
 merge_from : (pairs between : Pairs) (reading : Reading) (front back : List Reading) →
-    ((more : Pairs) → merged (joined pairs more) front ≡ Ok between →
-    merged (joined pairs more) (front ++ back) ≡ merged between back) →
+    ((more : Pairs) → merged (joined_pairs pairs more) front ≡ Ok between →
+    merged (joined_pairs pairs more) (front ++ back) ≡ merged between back) →
     merged pairs (reading ∷ front) ≡ Ok between →
     merged pairs (reading ∷ front ++ back) ≡ merged between back
 merge_from pairs between (Ok more) front back goes is = goes more is
@@ -75,4 +75,4 @@ merge_from pairs between (Err message) front back goes is = absurd (search (rule
 pub merges_on : MergeLaw
 merges_on pairs between [] back is = ap (λ pairs. merged pairs back) (ok_same is)
 merges_on pairs between (reading ∷ front) back is =
-    merge_from pairs between reading front back (λ more. merges_on (joined pairs more) between front back) is
+    merge_from pairs between reading front back (λ more. merges_on (joined_pairs pairs more) between front back) is

@@ -1,6 +1,6 @@
 -- Dictionaries are merged one after the other.
 use Rattle.std.proofs.Common.{◌≡◌, ◌∙◌, ℕ, List, [], ◌∷◌, Ok, Err, length, map, refl, sym, ap, rules}
-use Rattle.tt_pairs.specs.Pairs.{Pairs, joined}
+use Rattle.tt_pairs.specs.Pairs.{Pairs, joined_pairs}
 use Rattle.tt_pairs.specs.Reading.{Reading, reading_of}
 use Rattle.tt_dict.specs.Paths.{for_pairs}
 use Rattle.tt_dict.specs.Telling.{merged}
@@ -8,15 +8,15 @@ use Rattle.tt_dict.specs.Telling.{merged}
 merge_next : (all : Pairs) (words later : List (List ℕ)) (word : List ℕ) (reading : Reading) →
     words ≡ word ∷ later →
     reading_of word ≡ reading →
-    merged all (map reading_of words) ≡ for_pairs (λ more. merged (joined all more) (map reading_of later)) reading
+    merged all (map reading_of words) ≡ for_pairs (λ more. merged (joined_pairs all more) (map reading_of later)) reading
 merge_next all words later word reading is read =
     ap (λ words. merged all (map reading_of words)) is
-    ∙ ap (for_pairs (λ more. merged (joined all more) (map reading_of later))) read
+    ∙ ap (for_pairs (λ more. merged (joined_pairs all more) (map reading_of later))) read
 
 pub merge_more : (all more next : Pairs) (words later : List (List ℕ)) (word : List ℕ) →
     words ≡ word ∷ later →
     reading_of word ≡ Ok more →
-    next ≡ joined all more →
+    next ≡ joined_pairs all more →
     merged all (map reading_of words) ≡ merged next (map reading_of later)
 merge_more all more next words later word is read put =
     merge_next all words later word (Ok more) is read ∙ ap (λ all. merged all (map reading_of later)) (sym put)

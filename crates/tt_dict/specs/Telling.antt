@@ -6,7 +6,7 @@ use Rattle.std.specs.Map.{keys_of, values_of}
 use Rattle.tt_calls.specs.Outcomes.{failed, fine}
 use Rattle.tt_calls.specs.declared.outcome.Outcome.{Outcome}
 use Rattle.tt_lists.specs.Spelling.{list_of}
-use Rattle.tt_pairs.specs.Pairs.{Pairs, joined, text_of, without_key}
+use Rattle.tt_pairs.specs.Pairs.{Pairs, joined_pairs, text_of, without_key}
 use Rattle.tt_pairs.specs.Reading.{Reading, pairs_of, reading_of}
 use Rattle.tt_text.specs.Characters.{characters}
 use Rattle.tt_text.specs.GlobFunction.{is_match}
@@ -67,7 +67,7 @@ remove wrong reading keys = text_answer (λ pairs. text_of (without_keys pairs k
 
 -- dict replace: the words are keys and values in turn
 abbrev pub replace_by : (wrong : Outcome) → Reading → Option Pairs → Outcome
-replace_by wrong reading (Some more) = text_answer (λ pairs. text_of (joined pairs more)) reading
+replace_by wrong reading (Some more) = text_answer (λ pairs. text_of (joined_pairs pairs more)) reading
 replace_by wrong reading None = wrong
 
 abbrev pub replace : (wrong : Outcome) → Reading → (words : List (List ℕ)) → Outcome
@@ -84,7 +84,7 @@ create wrong words = create_by wrong (pairs_of words)
 -- dict merge: from the left, up to the first that is no dictionary
 abbrev pub merged : Pairs → List Reading → Reading
 merged pairs [] = Ok pairs
-merged pairs (reading ∷ readings) = for_pairs (λ more. merged (joined pairs more) readings) reading
+merged pairs (reading ∷ readings) = for_pairs (λ more. merged (joined_pairs pairs more) readings) reading
 
 abbrev pub merge : (wrong : Outcome) → (words : List (List ℕ)) → Outcome
 merge wrong words = text_answer text_of (merged [] (map reading_of words))

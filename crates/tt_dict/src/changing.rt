@@ -66,7 +66,8 @@ fn step_of(
     change: &Change,
     pairs: &Dictionary,
 ) -> Result<Result<Step, Text>, NoMemory>
-    ensures step { IfOk result (λ step. IfOk step (λ step. changing.after change.now pairs.now ≡ Ok (stepped step pairs.now))) }
+    ensures step { IfOk result (λ step. IfOk step (λ step.
+        changing.after change.now pairs.now ≡ Ok (stepped step pairs.now))) }
     ensures bad { IfOk result (λ step. IfErr step (λ message. changing.after change.now pairs.now ≡ Err message)) }
 {
     match change {

@@ -7,7 +7,7 @@ ghost use Rattle.tt_calls.specs.Usages.{wrong_number};
 ghost use Rattle.tt_dict.specs.Paths as paths;
 ghost use Rattle.tt_dict.specs.Rows.{reads};
 ghost use Rattle.tt_dict.specs.Telling as telling;
-ghost use Rattle.tt_pairs.specs.Pairs.{joined, text_of};
+ghost use Rattle.tt_pairs.specs.Pairs.{joined_pairs, text_of};
 ghost use Rattle.tt_pairs.specs.Reading.{reading_of};
 
 use crate::answers::{answered, like, truth, whole, whole_of};
@@ -239,7 +239,7 @@ fn replace_in(
 
 fn join_to(alloc: Global, dictionary: &Value, more: &Dictionary) -> Result<Outcome, NoMemory>
     ensures { IfOk result (λ outcome.
-        outcome ≡ telling.text_answer (λ pairs. text_of (joined pairs more.now)) (reading_of dictionary.now)) }
+        outcome ≡ telling.text_answer (λ pairs. text_of (joined_pairs pairs more.now)) (reading_of dictionary.now)) }
 {
     match dictionary.to_pairs(alloc)? {
         Ok(pairs) => {

@@ -53,13 +53,13 @@ pub(crate) fn after_script(
     match ending.of_script(alloc)? {
         Ending::Failed(failure) => {
             let want = telling(alloc, failure.trace.text().copy()?)?;
-            let told = Asking::Told {
+            let asking = Asking::Told {
                 n,
                 answer,
                 plain,
                 failure,
             };
-            Ok(Next::Ask(want, told))
+            Ok(Next::Ask(want, asking))
         }
         ending => {
             let next = hand_result(alloc, n, answer, ending)?;

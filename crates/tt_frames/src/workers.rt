@@ -115,8 +115,8 @@ fn after_script(alloc: Global, begun: BegunJob, ending: Ending) -> Result<Next, 
     match ending.of_script(alloc)? {
         Ending::Failed(failure) => {
             let want = telling(alloc, failure.trace.text().copy()?)?;
-            let told = WorkerAsking::JobTold(begun, failure);
-            Ok(Next::Ask(want, Asking::Works(told)))
+            let asking = WorkerAsking::JobTold(begun, failure);
+            Ok(Next::Ask(want, Asking::Works(asking)))
         }
         ending => {
             let next = hand_in(alloc, begun, ending)?;

@@ -40,7 +40,7 @@ followed_from : (after : List ℕ) → is_separated after ≡ false → IsFollow
 followed_from [] h = absurd (both_ways true h refl)
 followed_from (b ∷ after) h = by h
 
-followed_to : {after told : List ℕ} → IsFollowed after told → (is_separated after ≡ false) × (told ≡ take 20 (take_while is_no_white_space after))
+followed_to : {after follower : List ℕ} → IsFollowed after follower → (is_separated after ≡ false) × (follower ≡ take 20 (take_while is_no_white_space after))
 followed_to (by h) = (h, refl)
 
 ended_item : (fault : List ℕ → ListFault) (value item : List ℕ) (n takes : ℕ) (after : List ℕ) → closed_item fault value n after ≡ Item item takes →
@@ -51,12 +51,12 @@ ended_item fault value item n takes after h =
       | inr p ↦ (let e : Wrong (fault (take 20 (take_while is_no_white_space after))) ≡ Item item takes = rw (p, closed_item) at h in absurd (cc))
     ]
 
-ended_wrong : (fault : List ℕ → ListFault) (value : List ℕ) (n : ℕ) (after : List ℕ) (told : ListFault) → closed_item fault value n after ≡ Wrong told →
-    (is_separated after ≡ false) × (fault (take 20 (take_while is_no_white_space after)) ≡ told)
-ended_wrong fault value n after told h =
+ended_wrong : (fault : List ℕ → ListFault) (value : List ℕ) (n : ℕ) (after : List ℕ) (follower : ListFault) → closed_item fault value n after ≡ Wrong follower →
+    (is_separated after ≡ false) × (fault (take 20 (take_while is_no_white_space after)) ≡ follower)
+ended_wrong fault value n after follower h =
     elim (cases_Bool (is_separated after)) [
-      | inl p ↦ (let e : Item value n ≡ Wrong told = rw (p, closed_item) at h in absurd (cc))
-      | inr p ↦ (let e : Wrong (fault (take 20 (take_while is_no_white_space after))) ≡ Wrong told = rw (p, closed_item) at h in (p, cc))
+      | inl p ↦ (let e : Item value n ≡ Wrong follower = rw (p, closed_item) at h in absurd (cc))
+      | inr p ↦ (let e : Wrong (fault (take 20 (take_while is_no_white_space after))) ≡ Wrong follower = rw (p, closed_item) at h in (p, cc))
     ]
 
 ended_yes : (fault : List ℕ → ListFault) (value : List ℕ) (n : ℕ) (after : List ℕ) → is_separated after ≡ true → closed_item fault value n after ≡ Item value n
@@ -306,22 +306,22 @@ complete_fault (space_before {b} {text} w h) = split-white b text w ∙ complete
 complete_fault (later {text} {item} {rest} {fault} i h) = item_then text item rest (Bad fault) i (complete_fault h)
 complete_fault (open_brace {text} h) =
     split-wrong 123 text OpenBrace refl (item-brace 123 text refl ∙ ap (in_braces text) (no_match text h (matching_brace text) refl))
-complete_fault (after_brace {text} {item} {rest} {told} e b f) =
+complete_fault (after_brace {text} {item} {rest} {follower} e b f) =
     let front : take (length item) (item ++ (125 ∷ rest)) ≡ item = take-append_seam item (125 ∷ rest) in
     let back : drop (length item + 1) (item ++ (125 ∷ rest)) ≡ rest = drop-append-add item (125 ∷ rest) 1 in
     let said = followed_to f in
-    let is : item_at (123 ∷ (item ++ (125 ∷ rest))) ≡ Wrong (AfterBrace told) =
+    let is : item_at (123 ∷ (item ++ (125 ∷ rest))) ≡ Wrong (AfterBrace follower) =
     item-brace 123 (item ++ (125 ∷ rest)) refl ∙ ap (in_braces (item ++ (125 ∷ rest))) (matches item rest b)
     ∙ rw (front, back) (ended_no AfterBrace item (length item + 2) rest said.0 ∙ ap (λ t. Wrong (AfterBrace t)) (sym said.1)) in
-    ap split_of e ∙ split-wrong 123 (item ++ (125 ∷ rest)) (AfterBrace told) refl is
+    ap split_of e ∙ split-wrong 123 (item ++ (125 ∷ rest)) (AfterBrace follower) refl is
 complete_fault (open_quote {text} {item} r) =
     let q = run_complete r in
     split-wrong 34 text OpenQuote refl
     (item-quote 34 text refl ∙ ap (in_quotes text) q.is ∙ rw (le-ltb q.takes (length text) (omega (arith, q.size)), in_quotes) refl)
-complete_fault (after_quote {text} {item} {rest} {told} {quote} h r f) =
+complete_fault (after_quote {text} {item} {rest} {follower} {quote} h r f) =
     let q = in_quotes_yes text item rest quote r in
     let said = followed_to f in
-    split-wrong 34 text (AfterQuote told) refl
+    split-wrong 34 text (AfterQuote follower) refl
     (item-quote 34 text refl ∙ q.1 ∙ ended_no AfterQuote item (q.0 + 2) rest said.0 ∙ ap (λ t. Wrong (AfterQuote t)) (sym said.1))
 
 complete : (text : List ℕ) (split : Split) → IsSplit text split → split_of text ≡ split

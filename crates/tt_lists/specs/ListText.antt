@@ -70,7 +70,7 @@ pub data IsListText : (text : List ℕ) (items : List (List ℕ)) → Type 0 whe
       IsListText text (item ∷ items)
 
 -- what follows an item in place of a separator: the bytes up to the next white space, at most 20 of them
-pub data IsFollowed : (text told : List ℕ) → Type 0 where
+pub data IsFollowed : (text follower : List ℕ) → Type 0 where
   by : {b : ℕ} {text : List ℕ} →
       is_white_space b ≡ false →
       IsFollowed (b ∷ text) (take 20 (take_while is_no_white_space (b ∷ text)))
@@ -86,14 +86,14 @@ pub data IsFaulty : (text : List ℕ) (fault : ListFault) → Type 0 where
       IsFaulty rest fault →
       IsFaulty text fault
   open_brace : {text : List ℕ} → ((n : ℕ) → ¬ IsClosedAt text n) → IsFaulty (123 ∷ text) OpenBrace
-  after_brace : {text item rest told : List ℕ} →
+  after_brace : {text item rest follower : List ℕ} →
       text ≡ 123 ∷ (item ++ (125 ∷ rest)) →
       IsBalanced item →
-      IsFollowed rest told →
-      IsFaulty text (AfterBrace told)
+      IsFollowed rest follower →
+      IsFaulty text (AfterBrace follower)
   open_quote : {text item : List ℕ} → IsRun is_quote text item [] → IsFaulty (34 ∷ text) OpenQuote
-  after_quote : {text item rest told : List ℕ} {quote : ℕ} →
+  after_quote : {text item rest follower : List ℕ} {quote : ℕ} →
       IsTrue (is_quote quote) →
       IsRun is_quote text item (quote ∷ rest) →
-      IsFollowed rest told →
-      IsFaulty (34 ∷ text) (AfterQuote told)
+      IsFollowed rest follower →
+      IsFaulty (34 ∷ text) (AfterQuote follower)

@@ -7,8 +7,8 @@ use Rattle.tt_lists.specs.declared.items.ListFault.TheVariants.{OpenBrace, OpenQ
 abbrev pub list_message : ListFault → List ℕ
 list_message OpenBrace = codes "unmatched open brace in list"
 list_message OpenQuote = codes "unmatched open quote in list"
-list_message (AfterBrace told) = codes "list element in braces followed by \"" ++ (told ++ codes "\" instead of space")
-list_message (AfterQuote told) = codes "list element in quotes followed by \"" ++ (told ++ codes "\" instead of space")
+list_message (AfterBrace next) = codes "list element in braces followed by \"" ++ (next ++ codes "\" instead of space")
+list_message (AfterQuote next) = codes "list element in quotes followed by \"" ++ (next ++ codes "\" instead of space")
 
 -- that a text is no index (lindex(n))
 abbrev pub bad_index_message : List ℕ → List ℕ

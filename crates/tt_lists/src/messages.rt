@@ -15,16 +15,16 @@ impl ListFault {
         match self {
             ListFault::OpenBrace => Text::from_bytes(alloc, b"unmatched open brace in list"),
             ListFault::OpenQuote => Text::from_bytes(alloc, b"unmatched open quote in list"),
-            ListFault::AfterBrace(told) => quoting(
+            ListFault::AfterBrace(follower) => quoting(
                 alloc,
                 b"list element in braces followed by \"",
-                told.as_bytes(),
+                follower.as_bytes(),
                 b"\" instead of space",
             ),
-            ListFault::AfterQuote(told) => quoting(
+            ListFault::AfterQuote(follower) => quoting(
                 alloc,
                 b"list element in quotes followed by \"",
-                told.as_bytes(),
+                follower.as_bytes(),
                 b"\" instead of space",
             ),
         }

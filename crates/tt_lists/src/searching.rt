@@ -1,5 +1,5 @@
 ghost use Rattle.std.specs.Prelude.{◌≡◌, IfOk};
-ghost use Rattle.tt_lists.specs.Searching.{is_alike, is_wanted, search_answer, search_result, told_from, told_of};
+ghost use Rattle.tt_lists.specs.Searching.{is_alike, is_wanted, search_answer, search_result, reports_from, report_of};
 ghost use Rattle.tt_lists.specs.declared.answer.ListAnswer.TheVariants.{Made};
 
 use crate::answer::ListAnswer;
@@ -54,31 +54,31 @@ pub fn find_among(
     items: &[Text],
     pattern: &[u8],
 ) -> Result<ListAnswer, NoMemory>
-    ensures answer { IfOk result (λ answer. answer ≡ Made (search_result how (told_from how pattern.now 0 items.now))) }
+    ensures answer { IfOk result (λ it. it ≡ Made (search_result how (reports_from how pattern.now 0 items.now))) }
 {
-    let told = told_of_items(alloc, how, items, pattern)?;
-    let text = search_result(alloc, how, told.as_slice())?;
+    let reports = reports_of_items(alloc, how, items, pattern)?;
+    let text = search_result(alloc, how, reports.as_slice())?;
     Ok(ListAnswer::Made(text))
 }
 
-fn told_of_items(
+fn reports_of_items(
     alloc: Global,
     how: Search,
     items: &[Text],
     pattern: &[u8],
 ) -> Result<Texts, NoMemory>
-    ensures { IfOk result (λ told. told ≡ told_from how pattern.now 0 items.now) }
+    ensures { IfOk result (λ reports. reports ≡ reports_from how pattern.now 0 items.now) }
 {
-    let mut told = Texts::new(alloc);
+    let mut reports = Texts::new(alloc);
     for (place, item) in items.iter().enumerate() {
         if is_wanted(how, pattern, item.as_bytes()) {
-            told.push(told_of(alloc, how, place, item)?)?;
+            reports.push(report_of(alloc, how, place, item)?)?;
             if !how.all {
-                return Ok(told);
+                return Ok(reports);
             }
         }
     }
-    Ok(told)
+    Ok(reports)
 }
 
 fn is_wanted(how: Search, pattern: &[u8], item: &[u8]) -> bool
@@ -96,8 +96,8 @@ fn is_alike(matching: Matching, pattern: &[u8], item: &[u8]) -> bool
     }
 }
 
-fn told_of(alloc: Global, how: Search, place: usize, item: &Text) -> Result<Text, NoMemory>
-    ensures { IfOk result (λ told. told ≡ told_of how place item.now) }
+fn report_of(alloc: Global, how: Search, place: usize, item: &Text) -> Result<Text, NoMemory>
+    ensures { IfOk result (λ reports. reports ≡ report_of how place item.now) }
 {
     if how.inline {
         item.copy()
@@ -106,13 +106,13 @@ fn told_of(alloc: Global, how: Search, place: usize, item: &Text) -> Result<Text
     }
 }
 
-fn search_result(alloc: Global, how: Search, told: &[Text]) -> Result<Text, NoMemory>
-    ensures { IfOk result (λ text. text ≡ search_result how told.now) }
+fn search_result(alloc: Global, how: Search, reports: &[Text]) -> Result<Text, NoMemory>
+    ensures { IfOk result (λ text. text ≡ search_result how reports.now) }
 {
     if how.all {
-        return join_list(alloc, told);
+        return join_list(alloc, reports);
     }
-    match told.first() {
+    match reports.first() {
         Some(first) => first.copy(),
         None if how.inline => Ok(Text::new(alloc)),
         None => Text::from_bytes(alloc, b"-1"),

@@ -14,7 +14,7 @@ use Rattle.tt_lists.specs.declared.items.Split.{Split}
 use Rattle.tt_lists.specs.declared.items.Split.TheVariants.{Items, Bad}
 use Rattle.tt_lists.specs.Reading.{split_of}
 use Rattle.tt_pairs.specs.PairLaws.{KeysDiffer, KeysLaw, OtherValuesLaw, ReadsBackLaw}
-use Rattle.tt_pairs.specs.Pairs.{Pairs, items_of, joined, value_of, with_pair, without_key}
+use Rattle.tt_pairs.specs.Pairs.{Pairs, items_of, joined_pairs, value_of, with_pair, without_key}
 use Rattle.tt_pairs.specs.Reading.{pairs_of, reading_by, whole, with_items}
 
 same_bytes : IsEquivalence bytes_eq
@@ -68,7 +68,7 @@ removed_differ (pair ∷ pairs) key differ = go (bytes_eq key pair.0) (removed_d
     go true later = differ.1
     go false later = (still_other pair.0 key pairs differ.0, later)
 
-merged_differ : (pairs more : Pairs) → KeysDiffer pairs → KeysDiffer (joined pairs more)
+merged_differ : (pairs more : Pairs) → KeysDiffer pairs → KeysDiffer (joined_pairs pairs more)
 merged_differ pairs [] differ = differ
 merged_differ pairs (pair ∷ more) differ =
     merged_differ (with_pair pairs pair.0 pair.1) more (put_differ pairs pair.0 pair.1 differ)
@@ -121,18 +121,18 @@ reads_back pairs differ = ap reading_by (splits_back (items_of pairs)) ∙ ap wh
 
 -- pairs whose keys differ, put in one after the other
 
-joined_back : (done pairs : Pairs) → KeysDiffer (done ++ pairs) → joined done pairs ≡ done ++ pairs
+joined_back : (done pairs : Pairs) → KeysDiffer (done ++ pairs) → joined_pairs done pairs ≡ done ++ pairs
 joined_back done [] differ = sym (append-nil done)
 joined_back done (pair ∷ pairs) differ =
     let new : with_pair done pair.0 pair.1 ≡ done ++ pair ∷ [] =
     insert_entry-absent bytes_eq pair.0 pair.1 done
     (absent_from_lookup (bytes_eq pair.0) done (absent_before same_bytes done pairs pair differ)) in
     let along : (done ++ pair ∷ []) ++ pairs ≡ done ++ pair ∷ pairs = append_assoc done (pair ∷ []) pairs in
-    ap (λ begun. joined begun pairs) new
+    ap (λ begun. joined_pairs begun pairs) new
     ∙ joined_back (done ++ pair ∷ []) pairs (subst KeysDiffer (sym along) differ)
     ∙ along
 
-pub joined_alone : (pairs : Pairs) → KeysDiffer pairs → joined [] pairs ≡ pairs
+pub joined_alone : (pairs : Pairs) → KeysDiffer pairs → joined_pairs [] pairs ≡ pairs
 joined_alone pairs differ = joined_back [] pairs differ
 
 -- ---- values ----

@@ -2,7 +2,7 @@
 use Rattle.std.proofs.Common.{◌≡◌, ℕ, ◌==◌, List, [], ◌∷◌, ◌++◌, Some, None, refl, length, if◌then◌else◌, rules, arith}
 use Rattle.indexmap.proofs.MapLemmas.{insert_all_push}
 use Rattle.std.specs.Prelude.{bytes_eq}
-use Rattle.tt_pairs.specs.Pairs.{Pairs, joined, with_pair}
+use Rattle.tt_pairs.specs.Pairs.{Pairs, joined_pairs, with_pair}
 use Rattle.tt_pairs.specs.Reading.{with_items}
 use Rattle.tt_pairs.specs.inside.Front.{first_pair}
 
@@ -19,5 +19,5 @@ pair_last pairs (k ∷ []) first = refl
 pair_last pairs (k ∷ v ∷ items) first = absurd (search rules)
 
 pub join_more : (pairs more : Pairs) (pair : List ℕ × List ℕ) →
-    joined pairs (more ++ pair ∷ []) ≡ with_pair (joined pairs more) pair.0 pair.1
+    joined_pairs pairs (more ++ pair ∷ []) ≡ with_pair (joined_pairs pairs more) pair.0 pair.1
 join_more pairs more pair = insert_all_push bytes_eq pairs more pair

@@ -2,7 +2,7 @@
 use Rattle.std.specs.Prelude.{◌≡◌, ℕ, bytes_eq, List, Some, None, Ok, if◌then◌else◌}
 use Rattle.std.specs.List.{IsDistinct}
 use Rattle.std.specs.Map.{keys_of}
-use Rattle.tt_pairs.specs.Pairs.{Pairs, joined, text_of, value_of, with_pair, without_key}
+use Rattle.tt_pairs.specs.Pairs.{Pairs, joined_pairs, text_of, value_of, with_pair, without_key}
 use Rattle.tt_pairs.specs.Reading.{reading_of}
 
 -- no key stands twice
@@ -14,7 +14,7 @@ pub record KeysLaw : Type 0 where
   pub read : (text : List ℕ) (pairs : Pairs) → reading_of text ≡ Ok pairs → KeysDiffer pairs
   pub put : (pairs : Pairs) (key value : List ℕ) → KeysDiffer pairs → KeysDiffer (with_pair pairs key value)
   pub removed : (pairs : Pairs) (key : List ℕ) → KeysDiffer pairs → KeysDiffer (without_key pairs key)
-  pub merged : (pairs more : Pairs) → KeysDiffer pairs → KeysDiffer (joined pairs more)
+  pub merged : (pairs more : Pairs) → KeysDiffer pairs → KeysDiffer (joined_pairs pairs more)
 
 -- a canonical text is read as the pairs that it was made of
 abbrev pub ReadsBackLaw : Type 0

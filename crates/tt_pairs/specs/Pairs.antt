@@ -22,8 +22,8 @@ abbrev pub value_of : Pairs → (key : List ℕ) → Option (List ℕ)
 value_of pairs key = lookup (bytes_eq key) pairs
 
 -- the pairs of another are put in, one after the other
-abbrev pub joined : (pairs more : Pairs) → Pairs
-joined pairs more = insert_all bytes_eq pairs more
+abbrev pub joined_pairs : (pairs more : Pairs) → Pairs
+joined_pairs pairs more = insert_all bytes_eq pairs more
 
 -- each key, followed by its value
 abbrev pub items_of : Pairs → List (List ℕ)

@@ -2,7 +2,7 @@ ghost use Rattle.std.specs.Prelude.{◌≡◌, [], length, IfOk, OnOk, OnErr};
 ghost use Rattle.std.specs.Map.{keys_of, values_of};
 ghost use Rattle.std.specs.Option.{option_copied};
 ghost use Rattle.tt_pairs.specs.PairLaws.{KeysDiffer};
-ghost use Rattle.tt_pairs.specs.Pairs.{items_of, joined, text_of, value_of, with_pair, without_key};
+ghost use Rattle.tt_pairs.specs.Pairs.{items_of, joined_pairs, text_of, value_of, with_pair, without_key};
 
 use indexmap::IndexMap;
 use std::alloc::Global;
@@ -69,7 +69,7 @@ impl Dictionary {
     ///
     /// `NoMemory` if memory is refused; then some of them may be there.
     pub fn join(&mut self, other: &Dictionary) -> Result<(), NoMemory>
-        ensures joined { OnOk result (self.new ≡ joined self.old other.now) }
+        ensures joined_pairs { OnOk result (self.new ≡ joined_pairs self.old other.now) }
     {
         for (key, value) in &other.map {
             self.put(key.copy()?, value.copy()?)?;

@@ -187,12 +187,12 @@ abbrev pub suspends : Bool → Pool → Done
 suspends on pool = does (record pool { suspended = on }) Go
 
 -- a worker's next job: none if its pool is closed, or it is to stop
-abbrev pub job_told : Option (ℕ × Queued) → Reply
-job_told None = JobStop
-job_told (Some job) = Job job.0 job.1.script job.1.detached
+abbrev pub job_answer : Option (ℕ × Queued) → Reply
+job_answer None = JobStop
+job_answer (Some job) = Job job.0 job.1.script job.1.detached
 
 abbrev pub begins_job : ℕ → Pool → Done
-begins_job t pool = does (with_jobs pool (begins pool.jobs t pool.jobs.queued)) (job_told (oldest pool.jobs.queued))
+begins_job t pool = does (with_jobs pool (begins pool.jobs t pool.jobs.queued)) (job_answer (oldest pool.jobs.queued))
 
 abbrev pub takes_job : PoolTable → ℕ → (marked : Bool) → List ℕ → Option Pool → Answered
 takes_job table t marked text None = answers table JobStop

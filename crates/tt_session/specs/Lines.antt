@@ -6,8 +6,8 @@ use Rattle.tt_devices.specs.Streams.{Grows, GrowsByPart}
 use Rattle.tt_devices.specs.declared.sink.Sink.{Ghosts as OfSink}
 use Rattle.tt_session.specs.declared.status.Place.TheVariants.{Byte, Entry}
 use Rattle.tt_session.specs.declared.status.Status.{Status}
-use Rattle.tt_session.specs.declared.status.Status.TheVariants.{Done, Usage, NoFile, BadSchedule, ScheduleEnded, Stalled}
-use Rattle.tt_session.specs.declared.status.Status.TheVariants.{StepLimit, ReadFault, WriteFault, NoMemory}
+use Rattle.tt_session.specs.declared.status.Status.TheVariants.{Done, Usage, NoFile, BadSchedule, ScheduleEnded}
+use Rattle.tt_session.specs.declared.status.Status.TheVariants.{Stalled, StepLimit, ReadFault, WriteFault, NoMemory}
 
 -- what is reported of each status
 abbrev pub status_message : Status → List ℕ

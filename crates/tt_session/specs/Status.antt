@@ -6,8 +6,8 @@ use Rattle.tt_session.specs.declared.status.Place.TheVariants.{Byte, Entry}
 use Rattle.tt_session.specs.declared.status.Refusal.{Refusal}
 use Rattle.tt_session.specs.declared.status.Refusal.TheVariants as refusal
 use Rattle.tt_session.specs.declared.status.Status.{Status}
-use Rattle.tt_session.specs.declared.status.Status.TheVariants.{Done, Usage, NoFile, BadSchedule, ScheduleEnded, Stalled}
-use Rattle.tt_session.specs.declared.status.Status.TheVariants.{StepLimit, ReadFault, WriteFault, NoMemory}
+use Rattle.tt_session.specs.declared.status.Status.TheVariants.{Done, Usage, NoFile, BadSchedule, ScheduleEnded}
+use Rattle.tt_session.specs.declared.status.Status.TheVariants.{Stalled, StepLimit, ReadFault, WriteFault, NoMemory}
 
 -- the exit code of each status
 abbrev pub exit_of : Status → ℕ

@@ -1,5 +1,5 @@
-//! A call of the program over any files and streams: what its words ask for, the run, the schedule that is recorded, and
-//! the line that reports how it ended.
+//! A call of the program over any files and streams: what its words ask for, the run, the schedule that is recorded,
+//! and the line that reports how it ended.
 #![tactic(auto)]
 
 mod ended;

@@ -2,7 +2,7 @@ ghost use Rattle.std.specs.Prelude.{◌≡◌, ◌≤◌, map, string_bytes};
 ghost use Rattle.tt_schedule.specs.ScheduleText.{most_steps};
 ghost use Rattle.tt_words.specs.Asked.{WordsAskFor};
 ghost use Rattle.tt_words.specs.Asked as words_asked;
-ghost use Rattle.tt_words.specs.CodeValues.{told_plain};
+ghost use Rattle.tt_words.specs.CodeValues.{plain_as_text};
 ghost use Rattle.tt_session.specs.Answer.{AnswersTo, IsAnswered, IsUsage};
 ghost use Rattle.tt_session.specs.Choosing.{Freely};
 ghost use Rattle.tt_session.specs.Running.{RunLeaves};
@@ -106,7 +106,7 @@ fn start<
 ) -> Ended<S, K, E>
     requires workers { (1 ≤ asked.now.workers) × (asked.now.workers ≤ 64) }
     requires steps { (1 ≤ asked.now.steps) × (asked.now.steps ≤ most_steps) }
-    ensures { AnswersTo F.Files S.Source K.Sink E.Sink (words_asked.plain (told_plain asked.now))
+    ensures { AnswersTo F.Files S.Source K.Sink E.Sink (words_asked.plain (plain_as_text asked.now))
         files.old files.new (record { input = input; output = output; errors = errors }) result }
 {
     let before = errors.faults();

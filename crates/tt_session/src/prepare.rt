@@ -4,7 +4,7 @@ ghost use Rattle.tt_devices.specs.Faults.{Rises};
 ghost use Rattle.tt_devices.specs.Names.{Tells};
 ghost use Rattle.tt_words.specs.Asked.{WordsAskFor};
 ghost use Rattle.tt_words.specs.Asked as words_asked;
-ghost use Rattle.tt_words.specs.CodeValues.{text_of, told_asked, told_generate, told_plain, told_replay};
+ghost use Rattle.tt_words.specs.CodeValues.{text_of, asked_as_text, generate_as_text, plain_as_text, replay_as_text};
 ghost use Rattle.tt_session.specs.Answer.{IsRefusal, IsWordRefusal};
 ghost use Rattle.tt_session.specs.Asking.{BeginsPlain, BeginsReplay, generate_setup};
 ghost use Rattle.tt_session.specs.Choosing.{Freely, Replaying};
@@ -23,7 +23,7 @@ use tt_words::{Asked, Generate, Plain, Replay, read_words};
 ///
 /// `Usage` exactly if they ask for nothing, and `NoMemory` if memory to read them is refused.
 pub(crate) fn ask(alloc: Global, words: &[String]) -> Result<Asked<'_>, Refusal>
-    ensures asked { IfOk result (λ asked. WordsAskFor (map string_bytes words.now) (told_asked asked)) }
+    ensures asked { IfOk result (λ asked. WordsAskFor (map string_bytes words.now) (asked_as_text asked)) }
     ensures refused { IfErr result (λ why. IsWordRefusal why (map string_bytes words.now)) }
 {
     match read_words(alloc, words) {
@@ -42,9 +42,9 @@ pub(crate) fn prepare_plain<F: Files>(
     files: &mut F,
 ) -> Result<Setup, Refusal>
     ensures ready { IfOk result (λ setup.
-        BeginsPlain (told_plain plain.now) (F.map files.old) setup (Freely plain.now.steps)) }
+        BeginsPlain (plain_as_text plain.now) (F.map files.old) setup (Freely plain.now.steps)) }
     ensures refused { IfErr result (λ why.
-        IsRefusal F.Files (words_asked.plain (told_plain plain.now)) why files.old files.new) }
+        IsRefusal F.Files (words_asked.plain (plain_as_text plain.now)) why files.old files.new) }
     ensures steady { (result ≢ Err Refusal.ReadFault) → F.read_fault_count files.new ≡ F.read_fault_count files.old }
     ensures same { F.map files.new ≡ F.map files.old }
     ensures no_write { F.write_fault_count files.new ≡ F.write_fault_count files.old }
@@ -74,10 +74,10 @@ pub(crate) fn prepare_replay<F: Files>(
     replay: &Replay<'_>,
     files: &mut F,
 ) -> Result<Prepared, Refusal>
-    ensures ready { IfOk result (λ prepared. BeginsReplay (told_replay replay.now) (F.map files.old) prepared.setup
+    ensures ready { IfOk result (λ prepared. BeginsReplay (replay_as_text replay.now) (F.map files.old) prepared.setup
         (Replaying prepared.given.threads)) }
     ensures refused { IfErr result (λ why.
-        IsRefusal F.Files (words_asked.replay (told_replay replay.now)) why files.old files.new) }
+        IsRefusal F.Files (words_asked.replay (replay_as_text replay.now)) why files.old files.new) }
     ensures steady { (result ≢ Err Refusal.ReadFault) → F.read_fault_count files.new ≡ F.read_fault_count files.old }
     ensures same { F.map files.new ≡ F.map files.old }
     ensures no_write { F.write_fault_count files.new ≡ F.write_fault_count files.old }
@@ -111,7 +111,7 @@ pub(crate) fn prepare_replay<F: Files>(
 
 /// What a run of a script begins with that is made of a number.
 pub(crate) fn prepare_generated(alloc: Global, generate: &Generate<'_>) -> Result<Setup, NoMemory>
-    ensures { IfOk result (λ setup. setup ≡ generate_setup (told_generate generate.now)) }
+    ensures { IfOk result (λ setup. setup ≡ generate_setup (generate_as_text generate.now)) }
 {
     Ok(Setup {
         script: workload(alloc, generate.number, generate.size)?,

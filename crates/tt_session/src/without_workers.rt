@@ -2,7 +2,7 @@ ghost use Rattle.std.specs.Prelude.{◌≡◌, ◌≢◌, ◌≤◌, [], map, st
 ghost use Rattle.tt_schedule.specs.ScheduleText.{most_steps};
 ghost use Rattle.tt_words.specs.Asked.{WordsAskFor};
 ghost use Rattle.tt_words.specs.Asked as words_asked;
-ghost use Rattle.tt_words.specs.CodeValues.{told_generate, told_replay};
+ghost use Rattle.tt_words.specs.CodeValues.{generate_as_text, replay_as_text};
 ghost use Rattle.tt_session.specs.Answer.{AnswersTo, IsAnswered, IsUsage};
 ghost use Rattle.tt_session.specs.Ended.{IfEnded, IfPlain};
 ghost use Rattle.tt_session.specs.Lines.{PutsLine};
@@ -95,7 +95,7 @@ fn replay<F: Files, S: Source, K: Sink, E: Sink>(
     output: K,
     errors: E,
 ) -> Ended<S, K, E>
-    ensures { AnswersTo F.Files S.Source K.Sink E.Sink (words_asked.replay (told_replay asked.now))
+    ensures { AnswersTo F.Files S.Source K.Sink E.Sink (words_asked.replay (replay_as_text asked.now))
         files.old files.new (record { input = input; output = output; errors = errors }) result }
 {
     let before = errors.faults();
@@ -119,7 +119,7 @@ fn generate<F: Files, S: Source, K: Sink, E: Sink>(
     errors: E,
 ) -> Ended<S, K, E>
     requires { asked.now.steps ≤ most_steps }
-    ensures { AnswersTo F.Files S.Source K.Sink E.Sink (words_asked.generate (told_generate asked.now))
+    ensures { AnswersTo F.Files S.Source K.Sink E.Sink (words_asked.generate (generate_as_text asked.now))
         files.old files.new (record { input = input; output = output; errors = errors }) result }
 {
     let before = errors.faults();

@@ -100,13 +100,13 @@ asks_release state t text request = releases state t text (threads.act state.row
 
 abbrev pub on_arrays : State → ℕ → TsvCall → Acted
 on_arrays state t call =
-    let told = reply_of (arrays.step_after state.arrays t call) in
-    answers (record state { arrays = arrays.table_after state.arrays t call }) told
+    let answered = reply_of (arrays.step_after state.arrays t call) in
+    answers (record state { arrays = arrays.table_after state.arrays t call }) answered
 
 abbrev pub on_locks : State → ℕ → LockCall → Acted
 on_locks state t call =
-    let told = reply_of (locks.step_after state.locks t call) in
-    answers (record state { locks = locks.table_after state.locks t call }) told
+    let answered = reply_of (locks.step_after state.locks t call) in
+    answers (record state { locks = locks.table_after state.locks t call }) answered
 
 -- ---- pools ----
 
@@ -123,9 +123,9 @@ starts state start (Some worker) = with_workers start worker state
 abbrev pub gives_of : State → ℕ → PoolStep → Acted
 gives_of state t gives = elim gives.step [
   | step.Wait ↦ takes state t
-  | step.Reply told ↦ record {
+  | step.Reply answered ↦ record {
     state = starts state gives.start gives.worker;
-    gives = record (answer state told) { made = gives.start };
+    gives = record (answer state answered) { made = gives.start };
   }
 ]
 
@@ -145,14 +145,14 @@ target_of state call = None
 -- a channel that is on its way comes by an event of its target
 abbrev pub moves : State → ChanCall → (target : Option ℕ) → Reply → State
 moves state (chan.Transfer text channel) (Some target) reply.Go = mailed state target false (event.Moved channel)
-moves state call target told = state
+moves state call target answered = state
 
 abbrev pub on_channels : State → ℕ → ChanCall → Acted
 on_channels state t call =
     let target = target_of state call in
-    let told = reply_of (channels.step_after state.channels t target call) in
+    let answered = reply_of (channels.step_after state.channels t target call) in
     let table = channels.table_after state.channels t target call in
-    answers (moves (record state { channels = table }) call target told) told
+    answers (moves (record state { channels = table }) call target answered) answered
 
 -- ---- all requests ----
 

@@ -26,14 +26,14 @@ hears rows t post = post.target == t && (not (post.sender == t) && is_living row
 abbrev pub died : (name : List ℕ) → Event
 died name = event.SetVar name (codes "target thread died")
 
-abbrev pub told_died : List Row → (t : ℕ) → Queues → VariablePost → Queues
-told_died rows t queues post =
+abbrev pub with_died_event : List Row → (t : ℕ) → Queues → VariablePost → Queues
+with_died_event rows t queues post =
     if hears rows t post
     then queued queues post.sender false (died post.name)
     else queues
 
 abbrev pub tells_died : List Row → (t : ℕ) → List VariablePost → Queues → Queues
-tells_died rows t posts queues = fold (told_died rows t) queues posts
+tells_died rows t posts queues = fold (with_died_event rows t) queues posts
 
 -- the pool whose worker a thread is
 abbrev pub pool_of_start : Start → Option (List ℕ)

@@ -213,8 +213,8 @@ call_of name t trace = list_of (name ∷ id Thread t ∷ trace ∷ [])
 
 abbrev pub reports_to : State → ℕ → (trace : List ℕ) → Option ErrorProcedure → Acted
 reports_to state t trace None =
-    let told = answer state (reply.Served (unwinds state t)) in
-    record { state = state; gives = record told { err = report_text t trace } }
+    let answered = answer state (reply.Served (unwinds state t)) in
+    record { state = state; gives = record answered { err = report_text t trace } }
 reports_to state t trace (Some procedure) =
     answers (tells state procedure.thread (call_of procedure.name t trace) true) (reply.Served (unwinds state t))
 

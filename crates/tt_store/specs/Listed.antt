@@ -38,9 +38,9 @@ pub data Assigns : (pairs : List (List ℕ × List ℕ)) → (old : Held) → Op
       AssignsOne word text old None next →
       Assigns pairs next message new →
       Assigns ((word, text) ∷ pairs) old message new
-  fails : {word text told : List ℕ} {pairs : List (List ℕ × List ℕ)} {old new : Held} →
-      AssignsOne word text old (Some told) new →
-      Assigns ((word, text) ∷ pairs) old (Some told) new
+  fails : {word text message : List ℕ} {pairs : List (List ℕ × List ℕ)} {old new : Held} →
+      AssignsOne word text old (Some message) new →
+      Assigns ((word, text) ∷ pairs) old (Some message) new
 
 -- the first item, and the empty text if there is none
 abbrev pub first_of : (items : List (List ℕ)) → List ℕ
@@ -52,16 +52,16 @@ abbrev pub paired : (names items : List (List ℕ)) → List (List ℕ × List �
 paired [] items = []
 paired (name ∷ names) items = (name, first_of items) ∷ paired names (drop 1 items)
 
-abbrev pub told_rest : (rest : List (List ℕ)) → (message : Option (List ℕ)) → Outcome
-told_rest rest None = fine (list_of rest)
-told_rest rest (Some message) = failed message
+abbrev pub rest_outcome : (rest : List (List ℕ)) → (message : Option (List ℕ)) → Outcome
+rest_outcome rest None = fine (list_of rest)
+rest_outcome rest (Some message) = failed message
 
 abbrev pub AssignsItems : Split → (names : List (List ℕ)) → (old : Held) → Outcome → (new : Held) → Type 0
 AssignsItems (split.Bad fault) names old outcome new = Fails (list_message fault) old outcome new
 AssignsItems (split.Items items) names old outcome new =
     (message : Option (List ℕ))
     × Assigns (paired names items) old message new
-    × (outcome ≡ told_rest (drop (length names) items) message)
+    × (outcome ≡ rest_outcome (drop (length names) items) message)
 
 -- lassign(n)
 abbrev pub lassign : Meaning

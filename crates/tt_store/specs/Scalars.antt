@@ -62,12 +62,12 @@ Changes word missing change old outcome new =
     × GivesMade word (made_of word change found) old outcome new
 
 -- incr(n): the value is read before the increment
-abbrev pub sum_told : Result ℤ ArithFault → ListAnswer
-sum_told (Ok sum) = Made (signed_decimal sum)
-sum_told (Err fault) = Bad (arith_message fault)
+abbrev pub sum_answer : Result ℤ ArithFault → ListAnswer
+sum_answer (Ok sum) = Made (signed_decimal sum)
+sum_answer (Err fault) = Bad (arith_message fault)
 
 abbrev pub stepped : ℤ → (step : List ℕ) → Result ℤ NumberFault → ListAnswer
-stepped number step (Ok more) = sum_told (binary_of Add number more)
+stepped number step (Ok more) = sum_answer (binary_of Add number more)
 stepped number step (Err fault) = Bad (number_message fault step)
 
 abbrev pub incremented_by : (step value : List ℕ) → Result ℤ NumberFault → ListAnswer
@@ -98,16 +98,16 @@ is_skipped nocomplain IsArray = false
 is_skipped nocomplain NotArray = false
 
 -- the fault that is reported, if there is one
-abbrev pub told_of : (nocomplain : Bool) → Result Unit VarFault → Option VarFault
-told_of nocomplain (Ok unit) = None
-told_of nocomplain (Err fault) = if is_skipped nocomplain fault then None else Some fault
+abbrev pub report_of : (nocomplain : Bool) → Result Unit VarFault → Option VarFault
+report_of nocomplain (Ok unit) = None
+report_of nocomplain (Err fault) = if is_skipped nocomplain fault then None else Some fault
 
 -- one variable is removed; the message, if it can't be
 abbrev pub DropsOne : (nocomplain : Bool) → (word : List ℕ) → (old : Held) → Option (List ℕ) → (new : Held) → Type 0
 DropsOne nocomplain word old message new =
     (removed : Result Unit VarFault)
     × Drops old (spot_of word) new removed
-    × (message ≡ option_map (cannot_unset word) (told_of nocomplain removed))
+    × (message ≡ option_map (cannot_unset word) (report_of nocomplain removed))
 
 -- variables are removed one after the other, up to the first that can't be; then its message is the answer
 pub data Unsets (nocomplain : Bool) :

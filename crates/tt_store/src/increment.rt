@@ -56,7 +56,7 @@ fn stepped(alloc: Global, number: i64, step: &[u8]) -> Result<Made, NoMemory>
 }
 
 fn sum(alloc: Global, number: i64, more: i64) -> Result<Made, NoMemory>
-    ensures { IfOk result (λ made. made ≡ scalars.sum_told (binary_of Add number more)) }
+    ensures { IfOk result (λ made. made ≡ scalars.sum_answer (binary_of Add number more)) }
 {
     match binary(NumOp::Add, number, more) {
         Ok(sum) => Ok(Made::value(Value::from_whole(sum))),

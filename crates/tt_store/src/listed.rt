@@ -39,7 +39,7 @@ impl Store {
         ensures { IfOk result (λ outcome. listed.AssignsItems (Items items.now) names.now self.old outcome self.new) }
     {
         let message = self.assign(items, names)?;
-        let outcome = told_rest(self.alloc, after(items, names.len()), message)?;
+        let outcome = rest_outcome(self.alloc, after(items, names.len()), message)?;
         Ok(outcome)
     }
 
@@ -97,8 +97,8 @@ fn after(items: &[Text], count: usize) -> &[Text]
     }
 }
 
-fn told_rest(alloc: Global, rest: &[Text], message: Option<Text>) -> Result<Outcome, NoMemory>
-    ensures { IfOk result (λ outcome. outcome ≡ listed.told_rest rest.now message) }
+fn rest_outcome(alloc: Global, rest: &[Text], message: Option<Text>) -> Result<Outcome, NoMemory>
+    ensures { IfOk result (λ outcome. outcome ≡ listed.rest_outcome rest.now message) }
 {
     match message {
         None => Ok(Outcome::with_result(alloc, Value::from_copies(alloc, rest)?)),

@@ -1,6 +1,7 @@
 ghost use Rattle.std.specs.Prelude.{◌≡◌, ◌<◌, ◌≤◌, length, IfOk, IfSome, OnOk, OnErr, None};
 ghost use Rattle.std.specs.Option.{option_copied};
-ghost use Rattle.tt_vars.specs.Links.{AreSame, Changes, HasNames, HasSize, Links, Reads, Removes, Writes, lent, place_of};
+ghost use Rattle.tt_vars.specs.Links.{AreSame, Changes, HasNames, HasSize, Links, Reads, Removes, Writes};
+ghost use Rattle.tt_vars.specs.Links.{lent, place_of};
 ghost use Rattle.tt_store.specs.Levels.{HasDepth, above, begun_in, called, caller_of, global_level, levels_after_end};
 ghost use Rattle.tt_store.specs.Levels.{with_frames};
 ghost use Rattle.tt_store.specs.Spots.{place_in};

@@ -34,8 +34,8 @@ impl Rereads {
         }
     }
 
-    /// Counts a read of a text of so many bytes, and says whether it is to be tried as a list now. A text is tried once.
-    /// One that grows is tried again when it is twice as long, so that all trials take time in its length.
+    /// Counts a read of a text of so many bytes, and says whether it is to be tried as a list now. A text is tried
+    /// once. One that grows is tried again when it is twice as long, so that all trials take time in its length.
     pub(crate) fn is_due(&mut self, spot: &Spot, length: usize) -> bool {
         let tag = tag_of(spot);
         match self.counts.get_mut(place_of(tag)) {

@@ -75,15 +75,15 @@ impl Store {
     {
         let spot = spot_of(self.alloc, name.as_bytes())?;
         let removed = self.nesting.unset(&spot)?;
-        match told_of(nocomplain, removed) {
+        match report_of(nocomplain, removed) {
             Some(fault) => Ok(Some(cannot_unset(self.alloc, name.as_bytes(), fault)?)),
             None => Ok(None),
         }
     }
 }
 
-fn told_of(nocomplain: bool, removed: Result<(), VarFault>) -> Option<VarFault>
-    ensures { result ≡ scalars.told_of nocomplain removed }
+fn report_of(nocomplain: bool, removed: Result<(), VarFault>) -> Option<VarFault>
+    ensures { result ≡ scalars.report_of nocomplain removed }
 {
     match removed {
         Err(fault) if !is_skipped(nocomplain, fault) => Some(fault),

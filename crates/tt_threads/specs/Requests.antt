@@ -161,14 +161,14 @@ sets rows number row None = is_not_asked rows
 sets rows number row (Some now) = record { rows = with_row rows number (put_settings row now); reply = Go }
 
 -- no word reports all settings, and one word the setting of that option
-abbrev pub told_reply : Settings → List (List ℕ) → Reply
-told_reply now [] = Value (list_of (settings now))
-told_reply now (name ∷ words) = elim (setting_of now name) [ Some value ↦ Value value | None ↦ Refused [] ]
+abbrev pub settings_report : Settings → List (List ℕ) → Reply
+settings_report now [] = Value (list_of (settings now))
+settings_report now (name ∷ words) = elim (setting_of now name) [ Some value ↦ Value value | None ↦ Refused [] ]
 
 -- more words set what they say
 abbrev pub configures_row : List Row → ℕ → Row → List (List ℕ) → Answered
 configures_row rows number row words =
-    if nat_lt (length words) 2 then record { rows = rows; reply = told_reply (settings_of row) words } else
+    if nat_lt (length words) 2 then record { rows = rows; reply = settings_report (settings_of row) words } else
     sets rows number row (with_settings words (settings_of row))
 
 abbrev pub configures_at : List Row → ℕ → List (List ℕ) → Option Row → Answered

@@ -3,7 +3,7 @@ ghost use Rattle.std.specs.Prelude.{is_some};
 ghost use Rattle.tt_calls.specs.declared.reply.Reply.TheVariants.{Value};
 ghost use Rattle.tt_lists.specs.Spelling.{list_of};
 ghost use Rattle.tt_threads.specs.Requests.{act, bit, configures_of, counts_of, exits, has_no_thread, joins_named};
-ghost use Rattle.tt_threads.specs.Requests.{joins_of, linked_ids, named, preserved, released, told_reply};
+ghost use Rattle.tt_threads.specs.Requests.{joins_of, linked_ids, named, preserved, released, settings_report};
 ghost use Rattle.tt_threads.specs.inside.Settings.{set};
 ghost use Rattle.tt_threads.specs.Rows.{linked, row_of};
 
@@ -237,7 +237,7 @@ fn linked_ids(alloc: Global, rows: &[Row]) -> Result<Texts, NoMemory>
 
 // All settings if no word asks for one.
 fn settings_reply(alloc: Global, settings: Settings, words: &[Text]) -> Result<Reply, NoMemory>
-    ensures { IfOk result (λ reply. reply ≡ told_reply settings words.now) }
+    ensures { IfOk result (λ reply. reply ≡ settings_report settings words.now) }
 {
     let Some(option) = words.first() else {
         let text = settings.all(alloc)?;

@@ -13,7 +13,7 @@ use Rattle.tt_tsv.specs.declared.usage.ElementUsage.{ElementUsage}
 use Rattle.tt_tsv.specs.declared.array.Array.{Array}
 use Rattle.tt_tsv.specs.declared.change.Change.{Change}
 use Rattle.tt_tsv.specs.declared.change.Change.TheVariants.{Kept, Put, Removed}
-use Rattle.tt_tsv.specs.inside.Changed.{elements_left, left_by, reply_of, table_ended, table_left}
+use Rattle.tt_tsv.specs.inside.Changed.{elements_left, value_left, reply_of, table_ended, table_left}
 
 none_is_some : {A : Type 0} {x : A} → None ≡ Some x → ⊥
 none_is_some e = true≢false (sym (ap is_some e))
@@ -33,7 +33,7 @@ set_value-insert {X} (e ∷ es) key v w at = by (bytes_eq key e.0) at (set_value
     by true at rest = refl
     by false at rest = ap (λ l. e ∷ l) (rest at)
 
-pub in_elements : (elements : Pairs) (key v w : List ℕ) (change : Change) → lookup (bytes_eq key) elements ≡ Some v → w ≡ left_by change v →
+pub in_elements : (elements : Pairs) (key v w : List ℕ) (change : Change) → lookup (bytes_eq key) elements ≡ Some v → w ≡ value_left change v →
     set_value (bytes_eq key) elements w ≡ elements_left key (Some change) elements
 in_elements elements key v w (Kept answer) at is = ap (set_value (bytes_eq key) elements) is ∙ set_value_same (bytes_eq key) elements v at
 in_elements elements key v w (Put value answer) at is = ap (set_value (bytes_eq key) elements) is ∙ set_value-insert elements key v value at

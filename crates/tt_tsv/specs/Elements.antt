@@ -45,13 +45,13 @@ sets (value ∷ []) = Put value value
 sets words = not_asked
 
 -- tsv::incr: by 1, or by n; the value is read before n
-abbrev pub sum_told : Result ℤ ArithFault → ListAnswer
-sum_told (Ok sum) = Made (signed_decimal sum)
-sum_told (Err fault) = Bad (arith_message fault)
+abbrev pub sum_answer : Result ℤ ArithFault → ListAnswer
+sum_answer (Ok sum) = Made (signed_decimal sum)
+sum_answer (Err fault) = Bad (arith_message fault)
 
 abbrev pub stepped : ℤ → (step : List ℕ) → Result ℤ NumberFault → ListAnswer
 stepped number step (Err fault) = Bad (number_message fault step)
-stepped number step (Ok more) = sum_told (binary_of Add number more)
+stepped number step (Ok more) = sum_answer (binary_of Add number more)
 
 abbrev pub incremented : (value step : List ℕ) → Result ℤ NumberFault → ListAnswer
 incremented value step (Err fault) = Bad (number_message fault value)

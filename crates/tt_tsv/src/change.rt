@@ -2,7 +2,7 @@
 ghost use Rattle.std.specs.Prelude.{◌≡◌, [], IfOk, Ok};
 ghost use Rattle.std.specs.Option.{option_map};
 ghost use Rattle.tt_tsv.specs.Elements as table;
-ghost use Rattle.tt_tsv.specs.inside.Changed.{left_by};
+ghost use Rattle.tt_tsv.specs.inside.Changed.{value_left};
 
 use crate::lists;
 use crate::numbers::increment;
@@ -34,7 +34,7 @@ pub(crate) fn not_asked(alloc: Global) -> Result<Change, NoMemory>
 /// What was made is the element's value, and is answered.
 pub(crate) fn puts(value: &mut Value, answer: ListAnswer) -> Result<Change, NoMemory>
     ensures change { IfOk result (λ change. change ≡ table.puts answer) }
-    ensures value { IfOk result (λ change. value.new ≡ left_by change value.old) }
+    ensures value { IfOk result (λ change. value.new ≡ value_left change value.old) }
 {
     match answer {
         ListAnswer::Made(text) => {
@@ -66,7 +66,7 @@ pub(crate) fn change_of(
     words: &[Text],
 ) -> Result<Change, NoMemory>
     ensures change { IfOk result (λ change. change ≡ table.change_of usage value.old words.now) }
-    ensures value { IfOk result (λ change. value.new ≡ left_by change value.old) }
+    ensures value { IfOk result (λ change. value.new ≡ value_left change value.old) }
 {
     match usage {
         ElementUsage::Set => set(alloc, value, words),
@@ -96,7 +96,7 @@ pub(crate) fn change_of(
 
 fn tell(alloc: Global, value: &mut Value) -> Result<Change, NoMemory>
     ensures change { IfOk result (λ change. change ≡ table.change_of ElementUsage.Get value.old []) }
-    ensures value { IfOk result (λ change. value.new ≡ left_by change value.old) }
+    ensures value { IfOk result (λ change. value.new ≡ value_left change value.old) }
 {
     let text = value.text(alloc)?;
     Ok(Change::Kept(ListAnswer::Made(text)))
@@ -104,7 +104,7 @@ fn tell(alloc: Global, value: &mut Value) -> Result<Change, NoMemory>
 
 fn set(alloc: Global, value: &mut Value, words: &[Text]) -> Result<Change, NoMemory>
     ensures change { IfOk result (λ change. change ≡ table.sets words.now) }
-    ensures value { IfOk result (λ change. value.new ≡ left_by change value.old) }
+    ensures value { IfOk result (λ change. value.new ≡ value_left change value.old) }
 {
     match words {
         [text] => puts(value, ListAnswer::Made(text.copy()?)),
@@ -115,7 +115,7 @@ fn set(alloc: Global, value: &mut Value, words: &[Text]) -> Result<Change, NoMem
 // The words at the end of the value, which grows where it stands.
 fn grow<C: Changing>(alloc: Global, value: &mut Value, changing: &C) -> Result<Change, NoMemory>
     ensures change { IfOk result (λ change. change ≡ table.puts (C.meaning changing.now value.old)) }
-    ensures value { IfOk result (λ change. value.new ≡ left_by change value.old) }
+    ensures value { IfOk result (λ change. value.new ≡ value_left change value.old) }
 {
     match changing.change(alloc, value)?.into_result() {
         Ok(copy) => {

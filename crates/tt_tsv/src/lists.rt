@@ -3,7 +3,7 @@ ghost use Rattle.std.specs.Prelude.{◌≡◌, IfOk, Some};
 ghost use Rattle.tt_lists.specs.Commands.{count_answer, insert_answer, item_answer, range_answer};
 ghost use Rattle.tt_tsv.specs.Elements as table;
 ghost use Rattle.tt_tsv.specs.declared.change.Change.TheVariants.{Kept};
-ghost use Rattle.tt_tsv.specs.inside.Changed.{left_by};
+ghost use Rattle.tt_tsv.specs.inside.Changed.{value_left};
 
 use crate::change::{Change, not_asked, puts};
 use crate::words::matching_of;
@@ -14,7 +14,7 @@ use tt_value::Value;
 
 pub(crate) fn count_of(alloc: Global, value: &mut Value) -> Result<Change, NoMemory>
     ensures change { IfOk result (λ change. change ≡ Kept (count_answer value.old)) }
-    ensures value { IfOk result (λ change. value.new ≡ left_by change value.old) }
+    ensures value { IfOk result (λ change. value.new ≡ value_left change value.old) }
 {
     let answer = counted(alloc, value)?;
     Ok(Change::Kept(answer))
@@ -33,7 +33,7 @@ fn counted(alloc: Global, value: &mut Value) -> Result<ListAnswer, NoMemory>
 
 pub(crate) fn item_of(alloc: Global, value: &mut Value, words: &[Text]) -> Result<Change, NoMemory>
     ensures change { IfOk result (λ change. change ≡ Kept (item_answer value.old words.now)) }
-    ensures value { IfOk result (λ change. value.new ≡ left_by change value.old) }
+    ensures value { IfOk result (λ change. value.new ≡ value_left change value.old) }
 {
     let answer = item_answer(alloc, value, words)?;
     Ok(Change::Kept(answer))
@@ -56,7 +56,7 @@ fn item_answer(alloc: Global, value: &mut Value, words: &[Text]) -> Result<ListA
 
 pub(crate) fn range_of(alloc: Global, value: &mut Value, words: &[Text]) -> Result<Change, NoMemory>
     ensures change { IfOk result (λ change. change ≡ table.ranges value.old words.now) }
-    ensures value { IfOk result (λ change. value.new ≡ left_by change value.old) }
+    ensures value { IfOk result (λ change. value.new ≡ value_left change value.old) }
 {
     match words {
         [first, last] => {
@@ -91,7 +91,7 @@ fn place_of(
     pattern: &Text,
 ) -> Result<Change, NoMemory>
     ensures change { IfOk result (λ change. change ≡ table.searches_with value.old pattern.now (Some matching)) }
-    ensures value { IfOk result (λ change. value.new ≡ left_by change value.old) }
+    ensures value { IfOk result (λ change. value.new ≡ value_left change value.old) }
 {
     let how = Search {
         matching,
@@ -106,7 +106,7 @@ fn place_of(
 
 pub(crate) fn search(alloc: Global, value: &mut Value, words: &[Text]) -> Result<Change, NoMemory>
     ensures change { IfOk result (λ change. change ≡ table.searches value.old words.now) }
-    ensures value { IfOk result (λ change. value.new ≡ left_by change value.old) }
+    ensures value { IfOk result (λ change. value.new ≡ value_left change value.old) }
 {
     match words {
         [pattern] => place_of(alloc, value, Matching::Glob, pattern),
@@ -120,7 +120,7 @@ pub(crate) fn search_by(
     words: &[Text],
 ) -> Result<Change, NoMemory>
     ensures change { IfOk result (λ change. change ≡ table.searches_by value.old words.now) }
-    ensures value { IfOk result (λ change. value.new ≡ left_by change value.old) }
+    ensures value { IfOk result (λ change. value.new ≡ value_left change value.old) }
 {
     let [mode, pattern] = words else {
         return not_asked(alloc);
@@ -139,7 +139,7 @@ fn insert_at(
     items: &[Text],
 ) -> Result<Change, NoMemory>
     ensures change { IfOk result (λ change. change ≡ table.puts (insert_answer value.old index.now items.now)) }
-    ensures value { IfOk result (λ change. value.new ≡ left_by change value.old) }
+    ensures value { IfOk result (λ change. value.new ≡ value_left change value.old) }
 {
     let text = value.text(alloc)?;
     let list = insert(alloc, text.as_bytes(), index, items)?;
@@ -152,7 +152,7 @@ pub(crate) fn insert_into(
     words: &[Text],
 ) -> Result<Change, NoMemory>
     ensures change { IfOk result (λ change. change ≡ table.inserts value.old words.now) }
-    ensures value { IfOk result (λ change. value.new ≡ left_by change value.old) }
+    ensures value { IfOk result (λ change. value.new ≡ value_left change value.old) }
 {
     match words {
         [index, items @ ..] => insert_at(alloc, value, index.as_bytes(), items),
@@ -166,7 +166,7 @@ pub(crate) fn replace_in(
     words: &[Text],
 ) -> Result<Change, NoMemory>
     ensures change { IfOk result (λ change. change ≡ table.replaces value.old words.now) }
-    ensures value { IfOk result (λ change. value.new ≡ left_by change value.old) }
+    ensures value { IfOk result (λ change. value.new ≡ value_left change value.old) }
 {
     match words {
         [first, last, items @ ..] => {
@@ -187,7 +187,7 @@ pub(crate) fn replace_in(
 /// An item more, at the front or before the item of an index.
 pub(crate) fn push(alloc: Global, value: &mut Value, words: &[Text]) -> Result<Change, NoMemory>
     ensures change { IfOk result (λ change. change ≡ table.pushes value.old words.now) }
-    ensures value { IfOk result (λ change. value.new ≡ left_by change value.old) }
+    ensures value { IfOk result (λ change. value.new ≡ value_left change value.old) }
 {
     match words {
         [_] => insert_at(alloc, value, b"0", words),

@@ -5,9 +5,9 @@ ghost use Rattle.tt_number.specs.Messages.{number_message};
 ghost use Rattle.tt_number.specs.Numerals.{whole_of};
 ghost use Rattle.tt_number.specs.Operators.{binary_of};
 ghost use Rattle.tt_number.specs.declared.operators.NumOp.TheVariants.{Add};
-ghost use Rattle.tt_tsv.specs.Elements.{increments, incremented, stepped, sum_told};
+ghost use Rattle.tt_tsv.specs.Elements.{increments, incremented, stepped, sum_answer};
 ghost use Rattle.tt_tsv.specs.Elements as table;
-ghost use Rattle.tt_tsv.specs.inside.Changed.{left_by};
+ghost use Rattle.tt_tsv.specs.inside.Changed.{value_left};
 
 use crate::change::{Change, not_asked, puts};
 use std::alloc::Global;
@@ -23,7 +23,7 @@ pub(crate) fn increment(
     words: &[Text],
 ) -> Result<Change, NoMemory>
     ensures change { IfOk result (λ change. change ≡ increments value.old words.now) }
-    ensures value { IfOk result (λ change. value.new ≡ left_by change value.old) }
+    ensures value { IfOk result (λ change. value.new ≡ value_left change value.old) }
 {
     match words {
         [] => increment_by(alloc, value, b"1"),
@@ -35,7 +35,7 @@ pub(crate) fn increment(
 fn increment_by(alloc: Global, value: &mut Value, step: &[u8]) -> Result<Change, NoMemory>
     ensures change { IfOk result (λ change.
         change ≡ table.puts (incremented value.old step.now (whole_of value.old))) }
-    ensures value { IfOk result (λ change. value.new ≡ left_by change value.old) }
+    ensures value { IfOk result (λ change. value.new ≡ value_left change value.old) }
 {
     let answer = incremented(alloc, value, step)?;
     puts(value, answer)
@@ -64,7 +64,7 @@ fn stepped(alloc: Global, number: i64, step: &[u8]) -> Result<ListAnswer, NoMemo
 }
 
 fn sum(alloc: Global, number: i64, more: i64) -> Result<ListAnswer, NoMemory>
-    ensures { IfOk result (λ answer. answer ≡ sum_told (binary_of Add number more)) }
+    ensures { IfOk result (λ answer. answer ≡ sum_answer (binary_of Add number more)) }
 {
     match binary(NumOp::Add, number, more) {
         Ok(sum) => Ok(ListAnswer::Made(whole_text(alloc, sum)?)),

@@ -3,7 +3,7 @@ ghost use Rattle.std.specs.Prelude.{◌≡◌, ◌<◌, length, IfOk, IfSome};
 ghost use Rattle.std.specs.Option.{ForSome};
 ghost use Rattle.tt_lists.specs.Reading.{split_of};
 ghost use Rattle.tt_tsv.specs.Elements.{place_within, pops, pops_among, pops_at, pops_of};
-ghost use Rattle.tt_tsv.specs.inside.Changed.{left_by};
+ghost use Rattle.tt_tsv.specs.inside.Changed.{value_left};
 
 use crate::change::{Change, not_asked};
 use std::alloc::Global;
@@ -14,7 +14,7 @@ use tt_value::{Items, Value};
 /// The first item, or that of an index; outside the list none.
 pub(crate) fn pop(alloc: Global, value: &mut Value, words: &[Text]) -> Result<Change, NoMemory>
     ensures change { IfOk result (λ change. change ≡ pops value.old words.now) }
-    ensures value { IfOk result (λ change. value.new ≡ left_by change value.old) }
+    ensures value { IfOk result (λ change. value.new ≡ value_left change value.old) }
 {
     match words {
         [] => pop_of(alloc, value, b"0"),
@@ -26,7 +26,7 @@ pub(crate) fn pop(alloc: Global, value: &mut Value, words: &[Text]) -> Result<Ch
 #[tactic(auto, using(crate::proofs::ListAnswers::is_split, crate::proofs::ListAnswers::is_no_list))]
 fn pop_of(alloc: Global, value: &mut Value, word: &[u8]) -> Result<Change, NoMemory>
     ensures change { IfOk result (λ change. change ≡ pops_of (split_of value.old) word.now) }
-    ensures value { IfOk result (λ change. value.new ≡ left_by change value.old) }
+    ensures value { IfOk result (λ change. value.new ≡ value_left change value.old) }
 {
     match value.items(alloc)? {
         Ok(items) => pop_among(alloc, value, items, word),
@@ -44,7 +44,7 @@ fn pop_among(
     word: &[u8],
 ) -> Result<Change, NoMemory>
     ensures change { IfOk result (λ change. change ≡ pops_among items word.now) }
-    ensures value { IfOk result (λ change. value.new ≡ left_by change value.old) }
+    ensures value { IfOk result (λ change. value.new ≡ value_left change value.old) }
 {
     let Some(index) = index(word) else {
         let message = bad_index(alloc, word)?;
@@ -77,7 +77,7 @@ fn pop_at(
 ) -> Result<Change, NoMemory>
     requires { ForSome place (λ place. place < length items) }
     ensures change { IfOk result (λ change. change ≡ pops_at items place) }
-    ensures value { IfOk result (λ change. value.new ≡ left_by change value.old) }
+    ensures value { IfOk result (λ change. value.new ≡ value_left change value.old) }
 {
     let Some(place) = place else {
         return Ok(Change::Kept(ListAnswer::Made(Text::new(alloc))));

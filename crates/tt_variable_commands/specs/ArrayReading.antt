@@ -48,21 +48,21 @@ TellsSize tell name old outcome new =
     × (new ≡ old)
 
 -- whether the array is there
-abbrev pub exists_told : Option ℕ → List ℕ
-exists_told size = truth (is_some size)
+abbrev pub exists_report : Option ℕ → List ℕ
+exists_report size = truth (is_some size)
 
 -- how many elements it has; a missing array has none
-abbrev pub size_told : Option ℕ → List ℕ
-size_told size = decimal (unwrap_or size 0)
+abbrev pub size_report : Option ℕ → List ℕ
+size_report size = decimal (unwrap_or size 0)
 
 -- array exists
 abbrev pub exists : Meaning
-exists usage (name ∷ []) old outcome new = TellsSize exists_told name old outcome new
+exists usage (name ∷ []) old outcome new = TellsSize exists_report name old outcome new
 exists usage words old outcome new = Refuses usage old outcome new
 
 -- array size
 abbrev pub size : Meaning
-size usage (name ∷ []) old outcome new = TellsSize size_told name old outcome new
+size usage (name ∷ []) old outcome new = TellsSize size_report name old outcome new
 size usage words old outcome new = Refuses usage old outcome new
 
 -- ---- indices ----

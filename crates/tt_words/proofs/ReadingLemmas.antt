@@ -6,7 +6,7 @@ use Rattle.clap.specs.declared.parser.matches.ArgMatches.{ArgMatches}
 use Rattle.tt_words.specs.inside.Program.{bare}
 use Rattle.tt_words.specs.declared.setting.Setting.TheVariants.{Workers, Steps, Limit, Record, Replay, Generate}
 use Rattle.tt_words.specs.Splitting.{Given, Splits}
-use Rattle.tt_words.specs.CodeValues.{told_asked}
+use Rattle.tt_words.specs.CodeValues.{asked_as_text}
 use Rattle.tt_words.specs.inside.Matches.{HasParts, IsOnceBy, given_in, values_by}
 use Rattle.tt_words.specs.declared.asked.Asked.{Asked as CodeAsked}
 use Rattle.tt_words.specs.declared.setting.Setting.{Setting}
@@ -29,9 +29,9 @@ once_of words options ordinary asked splits reads =
 -- what the code answers to words that split, if each option comes at most once
 pub reading_is : (words : List (List ℕ)) (options : List Given) (ordinary : List (List ℕ)) →
     Splits words options ordinary → ((setting : Setting) → length (values_of setting options) ≤ 1) → (asked : Option CodeAsked) →
-    IfSome asked (λ a. PartsAskFor (values_in options) ordinary (told_asked a)) →
+    IfSome asked (λ a. PartsAskFor (values_in options) ordinary (asked_as_text a)) →
     IfNone asked ((a : Asked) → ¬ (PartsAskFor (values_in options) ordinary a)) →
-    IsReading words (option_map told_asked asked)
+    IsReading words (option_map asked_as_text asked)
 reading_is words options ordinary splits once (Some asked) found none = record {
   options = options;
   ordinary = ordinary;

@@ -16,8 +16,8 @@ abbrev pub text_of : Bor (List ℕ) → List ℕ
 text_of text = text.now
 
 -- what each option has
-abbrev pub told_values : CodeValues → Values
-told_values values = record {
+abbrev pub values_as_text : CodeValues → Values
+values_as_text values = record {
   workers = option_map text_of values.workers;
   steps = option_map text_of values.steps;
   limit = option_map text_of values.limit;
@@ -26,8 +26,8 @@ told_values values = record {
   generate = option_map text_of values.generate;
 }
 
-abbrev pub told_plain : CodePlain → spec.Plain
-told_plain asked = record {
+abbrev pub plain_as_text : CodePlain → spec.Plain
+plain_as_text asked = record {
   script = asked.script.now;
   arguments = map text_of asked.arguments.items;
   workers = asked.workers;
@@ -36,16 +36,16 @@ told_plain asked = record {
   kept = option_map text_of asked.kept;
 }
 
-abbrev pub told_replay : CodeReplay → spec.Replay
-told_replay asked = record {
+abbrev pub replay_as_text : CodeReplay → spec.Replay
+replay_as_text asked = record {
   schedule = asked.schedule.now;
   script = asked.script.now;
   arguments = map text_of asked.arguments.items;
   limit = asked.limit;
 }
 
-abbrev pub told_generate : CodeGenerate → spec.Generate
-told_generate asked = record {
+abbrev pub generate_as_text : CodeGenerate → spec.Generate
+generate_as_text asked = record {
   script = asked.script.now;
   number = asked.number;
   size = asked.size;
@@ -55,7 +55,7 @@ told_generate asked = record {
 }
 
 -- what is asked for
-abbrev pub told_asked : CodeAsked → Asked
-told_asked (asked.Plain asked) = plain (told_plain asked)
-told_asked (asked.Replay asked) = replay (told_replay asked)
-told_asked (asked.Generate asked) = generate (told_generate asked)
+abbrev pub asked_as_text : CodeAsked → Asked
+asked_as_text (asked.Plain asked) = plain (plain_as_text asked)
+asked_as_text (asked.Replay asked) = replay (replay_as_text asked)
+asked_as_text (asked.Generate asked) = generate (generate_as_text asked)

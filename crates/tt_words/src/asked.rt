@@ -1,7 +1,8 @@
 ghost use Rattle.std.specs.Prelude.{◌≡◌, ◌≤◌, ℕ, List, map, IfSome, IfNone, Some};
 ghost use Rattle.std.specs.Option.{option_map};
 ghost use Rattle.tt_words.specs.Asked as spec;
-ghost use Rattle.tt_words.specs.CodeValues.{text_of, told_asked, told_generate, told_plain, told_replay, told_values};
+ghost use Rattle.tt_words.specs.CodeValues.{asked_as_text, generate_as_text, plain_as_text, replay_as_text};
+ghost use Rattle.tt_words.specs.CodeValues.{text_of, values_as_text};
 
 use crate::numbers::{number, number_within};
 use crate::values::Values;
@@ -71,9 +72,9 @@ pub enum Asked<'a> {
 /// What the options and the ordinary words ask for; `None` exactly if they ask for nothing.
 pub(crate) fn asked_by<'a>(values: &Values<'a>, ordinary: Vec<&'a str>) -> Option<Asked<'a>>
     ensures found { IfSome result (λ asked.
-        spec.PartsAskFor (told_values values.now) (map text_of ordinary.entry.items) (told_asked asked)) }
+        spec.PartsAskFor (values_as_text values.now) (map text_of ordinary.entry.items) (asked_as_text asked)) }
     ensures none { IfNone result ((asked : spec.Asked) →
-        ¬ spec.PartsAskFor (told_values values.now) (map text_of ordinary.entry.items) asked) }
+        ¬ spec.PartsAskFor (values_as_text values.now) (map text_of ordinary.entry.items) asked) }
 {
     match (values.replay, values.generate) {
         (None, None) => match read_plain(values, ordinary) {
@@ -95,9 +96,9 @@ pub(crate) fn asked_by<'a>(values: &Values<'a>, ordinary: Vec<&'a str>) -> Optio
 /// A run on workers, if that is asked for.
 fn read_plain<'a>(values: &Values<'a>, ordinary: Vec<&'a str>) -> Option<Plain<'a>>
     ensures found { IfSome result (λ plain.
-        spec.IsPlain (told_values values.now) (map text_of ordinary.entry.items) (told_plain plain)) }
+        spec.IsPlain (values_as_text values.now) (map text_of ordinary.entry.items) (plain_as_text plain)) }
     ensures none { IfNone result ((plain : spec.Plain) →
-        ¬ spec.IsPlain (told_values values.now) (map text_of ordinary.entry.items) plain) }
+        ¬ spec.IsPlain (values_as_text values.now) (map text_of ordinary.entry.items) plain) }
 {
     if values.replay.is_some() || values.generate.is_some() {
         return None;
@@ -120,9 +121,9 @@ fn read_plain<'a>(values: &Values<'a>, ordinary: Vec<&'a str>) -> Option<Plain<'
 /// A replay, if that is asked for.
 fn read_replay<'a>(values: &Values<'a>, ordinary: Vec<&'a str>) -> Option<Replay<'a>>
     ensures found { IfSome result (λ replay.
-        spec.IsReplay (told_values values.now) (map text_of ordinary.entry.items) (told_replay replay)) }
+        spec.IsReplay (values_as_text values.now) (map text_of ordinary.entry.items) (replay_as_text replay)) }
     ensures none { IfNone result ((replay : spec.Replay) →
-        ¬ spec.IsReplay (told_values values.now) (map text_of ordinary.entry.items) replay) }
+        ¬ spec.IsReplay (values_as_text values.now) (map text_of ordinary.entry.items) replay) }
 {
     if values.workers.is_some() || values.steps.is_some() {
         return None;
@@ -144,9 +145,9 @@ fn read_replay<'a>(values: &Values<'a>, ordinary: Vec<&'a str>) -> Option<Replay
 /// A run of a script that is made of a number, if that is asked for.
 fn read_generate<'a>(values: &Values<'a>, ordinary: &[&'a str]) -> Option<Generate<'a>>
     ensures found { IfSome result (λ generate.
-        spec.IsGenerate (told_values values.now) (map text_of ordinary.now) (told_generate generate)) }
+        spec.IsGenerate (values_as_text values.now) (map text_of ordinary.now) (generate_as_text generate)) }
     ensures none { IfNone result ((generate : spec.Generate) →
-        ¬ spec.IsGenerate (told_values values.now) (map text_of ordinary.now) generate) }
+        ¬ spec.IsGenerate (values_as_text values.now) (map text_of ordinary.now) generate) }
 {
     if values.workers.is_some() || values.replay.is_some() {
         return None;

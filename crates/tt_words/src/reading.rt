@@ -1,7 +1,7 @@
 ghost use Rattle.std.specs.Prelude.{map, string_bytes, IfOk};
 ghost use Rattle.std.specs.Option.{option_map};
 ghost use Rattle.tt_words.specs.Asked.{IsReading};
-ghost use Rattle.tt_words.specs.CodeValues.{told_asked};
+ghost use Rattle.tt_words.specs.CodeValues.{asked_as_text};
 
 use crate::asked::{Asked, asked_by};
 use crate::parsing::parse;
@@ -23,7 +23,7 @@ pub const USAGE: &[u8] =
 ///
 /// `None` exactly if the words are not so. `NoMemory` if memory for the words is refused.
 pub fn read_words(alloc: Global, words: &[String]) -> Result<Option<Asked<'_>>, NoMemory>
-    ensures { IfOk result (λ asked. IsReading (map string_bytes words.now) (option_map told_asked asked)) }
+    ensures { IfOk result (λ asked. IsReading (map string_bytes words.now) (option_map asked_as_text asked)) }
 {
     let Some(matches) = parse(alloc, words)? else {
         return Ok(None);

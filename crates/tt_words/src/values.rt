@@ -2,7 +2,7 @@ ghost use Rattle.std.specs.Prelude.{◌≡◌, ◌≤◌, ◌<◌, IfSome, IfNon
 ghost use Rattle.std.specs.Option.{option_map};
 ghost use Rattle.tt_words.specs.Asked.{first};
 ghost use Rattle.tt_words.specs.inside.Program.{bare, words_name};
-ghost use Rattle.tt_words.specs.CodeValues.{text_of, told_values};
+ghost use Rattle.tt_words.specs.CodeValues.{text_of, values_as_text};
 ghost use Rattle.tt_words.specs.inside.Matches.{IsOnceBy, given_in, values_by};
 
 use crate::command::WORDS;
@@ -25,7 +25,7 @@ pub(crate) struct Values<'a> {
 /// What each option has; `None` exactly if one comes twice.
 pub(crate) fn read_values<'a>(matches: &ArgMatches<'a>) -> Option<Values<'a>>
     ensures found { IfSome result (λ values.
-        told_values values ≡ values_by (λ setting. given_in matches.now (bare setting))) }
+        values_as_text values ≡ values_by (λ setting. given_in matches.now (bare setting))) }
     ensures once { IfSome result (λ values. IsOnceBy (λ setting. given_in matches.now (bare setting))) }
     ensures none { IfNone result (¬ IsOnceBy (λ setting. given_in matches.now (bare setting))) }
 {

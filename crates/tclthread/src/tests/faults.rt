@@ -3,8 +3,8 @@
 use super::{Fails, NEVER, call};
 use std::test::Fail;
 
-/// A script that reads the line `c`, which calls fail, and what that comes to: its status and exit code, what it writes,
-/// what standard error gets, and what is recorded.
+/// A script that reads the line `c`, which calls fail, and what that comes to: its status and exit code, what it
+/// writes, what standard error gets, and what is recorded.
 #[derive(Clone, Copy)]
 struct Row<'a> {
     script: &'a [u8],

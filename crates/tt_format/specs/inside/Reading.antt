@@ -40,8 +40,8 @@ pub record IsField (field : Field) (bytes : List ℕ) : Type 0 where
 abbrev pub IsPart : Part → Piece → Type 0
 IsPart (Prints field rest later) (Printed bytes template values) =
     IsField field bytes × (rest.now ≡ template) × (later.now ≡ values)
-IsPart (Refuses message) (Refused told) = message ≡ told
-IsPart (Prints field rest later) (Refused told) = ⊥
+IsPart (Refuses message) (Refused refusal) = message ≡ refusal
+IsPart (Prints field rest later) (Refused refusal) = ⊥
 IsPart (Refuses message) (Printed bytes template values) = ⊥
 
 -- the template `rest` is left

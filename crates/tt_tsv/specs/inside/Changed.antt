@@ -9,10 +9,10 @@ use Rattle.tt_tsv.specs.declared.change.Change.{Change}
 use Rattle.tt_tsv.specs.declared.change.Change.TheVariants.{Kept, Put, Removed}
 
 -- the value of an element; one that is to be removed is as it was until it is
-abbrev pub left_by : Change → (value : List ℕ) → List ℕ
-left_by (Kept answer) value = value
-left_by (Put new answer) value = new
-left_by (Removed answer) value = value
+abbrev pub value_left : Change → (value : List ℕ) → List ℕ
+value_left (Kept answer) value = value
+value_left (Put new answer) value = new
+value_left (Removed answer) value = value
 
 -- the elements
 abbrev pub elements_left : (key : List ℕ) → Option Change → Pairs → Pairs

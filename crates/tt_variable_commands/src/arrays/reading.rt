@@ -29,7 +29,7 @@ pub(crate) fn exists(
 }
 
 fn tell_exists(alloc: Global, store: &Store, name: &Text) -> Result<Outcome, NoMemory>
-    ensures { IfOk result (λ outcome. reading.TellsSize reading.exists_told name.now store.now outcome store.now) }
+    ensures { IfOk result (λ outcome. reading.TellsSize reading.exists_report name.now store.now outcome store.now) }
 {
     let size = size_of(store, name)?;
     let text = truth(alloc, size.is_some())?;
@@ -52,7 +52,7 @@ pub(crate) fn size(
 }
 
 fn tell_size(alloc: Global, store: &Store, name: &Text) -> Result<Outcome, NoMemory>
-    ensures { IfOk result (λ outcome. reading.TellsSize reading.size_told name.now store.now outcome store.now) }
+    ensures { IfOk result (λ outcome. reading.TellsSize reading.size_report name.now store.now outcome store.now) }
 {
     let size = size_of(store, name)?;
     let text = size_text(alloc, size)?;
@@ -60,7 +60,7 @@ fn tell_size(alloc: Global, store: &Store, name: &Text) -> Result<Outcome, NoMem
 }
 
 fn size_text(alloc: Global, size: Option<usize>) -> Result<Text, NoMemory>
-    ensures { IfOk result (λ text. text ≡ reading.size_told size) }
+    ensures { IfOk result (λ text. text ≡ reading.size_report size) }
 {
     match size {
         Some(size) => count_text(alloc, size),

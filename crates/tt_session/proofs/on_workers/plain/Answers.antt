@@ -1,4 +1,4 @@
-use Rattle.tt_words.specs.CodeValues.{told_plain}
+use Rattle.tt_words.specs.CodeValues.{plain_as_text}
 use Rattle.tt_session.specs.Answer.{read}
 use Rattle.tt_session.proofs.CloseLemmas.{not-generate, not-replay, unread-answer}
 use Rattle.tt_session.proofs.FreelyLemmas.{plain-steps, plain-workers}
@@ -14,10 +14,10 @@ pub returns-in-Ok-Plain : goal.returns-in-Ok-Plain
 returns-in-Ok-Plain g c = read _ (rw c.in-Ok-Plain.field-0-is at c.in-Ok-Plain.ensures.asked) c.start.ensures
 
 pub start-requires-clause-workers : goal.start-requires-clause-workers
-start-requires-clause-workers g c κs within = plain-workers _ (told_plain c.in-Ok-Plain.asked) (rw c.in-Ok-Plain.field-0-is at c.in-Ok-Plain.ensures.asked)
+start-requires-clause-workers g c κs within = plain-workers _ (plain_as_text c.in-Ok-Plain.asked) (rw c.in-Ok-Plain.field-0-is at c.in-Ok-Plain.ensures.asked)
 
 pub start-requires-clause-steps : goal.start-requires-clause-steps
-start-requires-clause-steps g c κs within = plain-steps _ (told_plain c.in-Ok-Plain.asked) (rw c.in-Ok-Plain.field-0-is at c.in-Ok-Plain.ensures.asked)
+start-requires-clause-steps g c κs within = plain-steps _ (plain_as_text c.in-Ok-Plain.asked) (rw c.in-Ok-Plain.field-0-is at c.in-Ok-Plain.ensures.asked)
 
 pub returns-in-Err : goal.returns-in-Err
 returns-in-Err g c =
