@@ -35,7 +35,7 @@ sample() {
         read -r -a fields <<<"${line##*) }"
         [ "${fields[3]}" = "$1" ] || continue
         # The process number may come again: the time at which it began is part of its name.
-        known[$number.${fields[19]}]=${known[$number.${fields[19]}]:-$(purpose "$number" 2>/dev/null)}
+        known[$number.${fields[19]}]=${known[$number.${fields[19]}]:-$(purpose "$number" 2>/dev/null || echo none proof)}
         echo "$number.${fields[19]} ${known[$number.${fields[19]}]} $((fields[11] + fields[12]))"
     done
 }

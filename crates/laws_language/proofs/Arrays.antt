@@ -127,7 +127,7 @@ sets_items-once : (read : Split) (name : Name) (old : Held) → Once (SetsItems 
 sets_items-once (split.Items items) name old = sets_if-once (is_paired items) name items old
 sets_items-once (split.Bad fault) name old = fails_with-once (list_message fault) old
 
-set-once : (usage : List ℕ) (words : List (List ℕ)) (old : Held) → Once (changing.set usage words old)
+set-once : (usage : List ℕ) (words : List (List ℕ)) (old : Held) → Once (changing.array_set usage words old)
 set-once usage [] old = refuses-once usage old
 set-once usage (name ∷ []) old = refuses-once usage old
 set-once usage (name ∷ list ∷ []) old = sets_items-once (split_of list) name old
@@ -164,7 +164,7 @@ drops_like-once pattern name old one other new next is its =
       drops-same name is.2 (subst (λ (names : List Name). DropsEach name (names_like (Some pattern) names) old next) (sym indices) its.2),
     )
 
-unset-once : (usage : List ℕ) (words : List (List ℕ)) (old : Held) → Once (changing.unset usage words old)
+unset-once : (usage : List ℕ) (words : List (List ℕ)) (old : Held) → Once (changing.array_unset usage words old)
 unset-once usage [] old = refuses-once usage old
 unset-once usage (name ∷ []) old = drops_whole-once name old
 unset-once usage (name ∷ pattern ∷ []) old = drops_like-once pattern name old

@@ -1,6 +1,6 @@
 -- What words come to is one thing, and so is what is kept then; and so is what an evaluation gets (Tcl(n)).
 use Rattle.std.proofs.Common.{◌≡◌, ◌∙◌, ℕ, codes, drop, List, [], ◌∷◌, Option, Some, None, Result, Ok, Err, ap, sym}
-use Rattle.tt_calls.specs.Outcomes.{failed, fine}
+use Rattle.tt_calls.specs.Outcomes.{error_outcome, fine}
 use Rattle.tt_calls.specs.Usages.{wrong_number}
 use Rattle.tt_dictionaries.specs.Commands as dictionaries
 use Rattle.tt_variable_commands.specs.ArrayCommands as arrays
@@ -13,7 +13,7 @@ use Rattle.tt_procedures.specs.declared.calling.Called.TheVariants as called
 use Rattle.tt_procedures.specs.declared.procedure.Parameter.{Parameter}
 use Rattle.tt_script.specs.Names.{plain_name}
 use Rattle.tt_store.specs.Commands as variables
-use Rattle.tt_store.specs.Held.{Held, after_end, entered, is_seen, nothing_held, unwatched, watched}
+use Rattle.tt_store.specs.Held.{Held, after_end, with_global_script, is_seen, nothing_held, without_watch, with_watch}
 use Rattle.tt_store.specs.declared.answers.Answer.{Answer}
 use Rattle.tt_store.specs.declared.answers.Answer.TheVariants as answers
 use Rattle.tt_outcomes.specs.declared.got.Got.TheVariants as gots
@@ -58,7 +58,7 @@ on_variables-once words old =
 -- ---- procedures ----
 
 fails-once : (message : List ℕ) (old : procedures.Table) → Once (procedures.Fails message old)
-fails-once message old = once-told (failed message) old
+fails-once message old = once-told (error_outcome message) old
 
 defines_by-once : (read : Result (List Parameter) (List ℕ)) (word body : List ℕ) (old : procedures.Table) → Once (DefinesBy read word body old)
 defines_by-once (Ok parameters) word body old =
@@ -111,11 +111,11 @@ answers-once (want.WriteVar name index value) old one other new next is its =
 answers-once (want.RunWords words) old one other new next is its =
     let same = runs-once words old is.0 its.0 new next is.1 its.1 in
     (is.2 ∙ ap (got_of words) same.0 ∙ sym its.2, same.1)
-answers-once want.Enter old one other new next is its = once-told answering.nothing (with_store old (entered old.store)) one other new next is its
+answers-once want.Enter old one other new next is its = once-told answering.nothing (with_store old (with_global_script old.store)) one other new next is its
 answers-once (want.Leave body) old one other new next is its = once-told answering.nothing (with_store old (after_end old.store)) one other new next is its
-answers-once (want.Watch name) old one other new next is its = once-told answering.nothing (with_store old (watched name old.store)) one other new next is its
+answers-once (want.Watch name) old one other new next is its = once-told answering.nothing (with_store old (with_watch name old.store)) one other new next is its
 answers-once want.Seen old one other new next is its = once-told (truth (is_seen old.store)) old one other new next is its
-answers-once want.Unwatch old one other new next is its = once-told answering.nothing (with_store old (unwatched old.store)) one other new next is its
+answers-once want.Unwatch old one other new next is its = once-told answering.nothing (with_store old (without_watch old.store)) one other new next is its
 answers-once (want.Ask request) old one other new next is its = absurd is
 
 pub answers_law : AnswersOnceLaw

@@ -11,8 +11,8 @@ use Rattle.tt_vars.specs.Links as variables
 use Rattle.tt_vars.specs.Variables.{Frame, Name}
 use Rattle.tt_store.specs.Held.{AreMarked, AreSet, Calls, Drops, Finds, Gives, HasIndices, HasSize, Held, IsMarked}
 use Rattle.tt_store.specs.Held.{IsRead, IsThere, IsWritten, LinksTo, Marks, ReadsWord, Sets, is_there, more, none}
-use Rattle.tt_store.specs.Held.{place, stored, value_of, with_levels}
-use Rattle.tt_store.specs.Levels.{called, with_frames}
+use Rattle.tt_store.specs.Held.{place, write_outcome, value_of, with_levels}
+use Rattle.tt_store.specs.Levels.{with_procedure_level, with_frames}
 use Rattle.tt_store.specs.Spots.{place_in, spot, spot_of, full_name}
 use Rattle.laws_language.proofs.Once.{Once, Only, once-by, only-made, only-told}
 use Rattle.laws_language.proofs.Variables.{links-once, names-once, reads-once, removes-once, same-once, size-once, writes-once}
@@ -72,12 +72,12 @@ sets-once old spot text one other new next is its =
 
 pub is_written-once : (old : Held) (name : Name) (index : Option Name) (text : List ℕ) → Once (IsWritten old name index text)
 is_written-once old name index text =
-    once-by (λ (written : Written) (new : Held). Sets old (spot name index) text new written) (stored (full_name name index) text)
+    once-by (λ (written : Written) (new : Held). Sets old (spot name index) text new written) (write_outcome (full_name name index) text)
     (sets-once old (spot name index) text)
 
 pub gives-once : (word : Name) (text : List ℕ) (old : Held) → Once (Gives word text old)
 gives-once word text old =
-    once-by (λ (written : Written) (new : Held). Sets old (spot_of word) text new written) (stored word text)
+    once-by (λ (written : Written) (new : Held). Sets old (spot_of word) text new written) (write_outcome word text)
     (sets-once old (spot_of word) text)
 
 -- ---- links, and what is removed ----
@@ -107,4 +107,4 @@ pub are_set-once : (arguments : List Argument) (old : Held) → Only (AreSet arg
 are_set-once arguments old new next is its = all_set-once is its
 
 pub calls-once : (arguments : List Argument) (old : Held) → Only (Calls arguments old)
-calls-once arguments old = are_set-once arguments (with_levels old (called old.levels))
+calls-once arguments old = are_set-once arguments (with_levels old (with_procedure_level old.levels))

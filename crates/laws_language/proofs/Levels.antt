@@ -2,7 +2,7 @@
 use Rattle.std.proofs.Common.{◌≡◌, ◌==◌, ◌||◌, ℕ, zero, suc, Bool, true, false, drop, is_some, bytes_eq, cond, nat_lt}
 use Rattle.std.proofs.Common.{List, [], ◌∷◌, Option, Some, None, length, decimal, codes, refl, ap, sym, subst}
 use Rattle.std.specs.List.{AllByRecursion}
-use Rattle.tt_calls.specs.Outcomes.{failed, fine}
+use Rattle.tt_calls.specs.Outcomes.{error_outcome, fine}
 use Rattle.tt_calls.specs.Usages.{bad_option, wrong_number}
 use Rattle.tt_list_commands.specs.Concatenating.{concatenation}
 use Rattle.tt_script.specs.Names.{element_of, global_of, plain_name}
@@ -10,7 +10,7 @@ use Rattle.tt_vars.specs.declared.answers.Linked.{Linked}
 use Rattle.tt_vars.specs.Variables.{Name}
 use Rattle.tt_outcomes.specs.declared.want.Body.TheVariants as body
 use Rattle.tt_store.specs.declared.answers.Answer.TheVariants as answers
-use Rattle.tt_store.specs.Held.{Held, IsThere, LinksTo, begun_at}
+use Rattle.tt_store.specs.Held.{Held, IsThere, LinksTo, with_script_at}
 use Rattle.tt_store.specs.Levels.{HasDepth, Levels, above, caller_of}
 use Rattle.tt_variable_commands.specs.Beginning.{BeginsScript, BeginsAt, uplevel}
 use Rattle.tt_variable_commands.specs.LevelCommands.{IsCommand, Runs, commands, first_named, row_of}
@@ -20,7 +20,7 @@ use Rattle.tt_variable_commands.specs.Linking.{UpvarBy, fails, global, message_o
 use Rattle.tt_store.specs.Scalars.{outcome_by}
 use Rattle.tt_variable_commands.specs.LevelMessages.{bad_level, bad_name}
 use Rattle.tt_variable_commands.specs.Telling.{Tells, bit, exists, info, level, topic_of}
-use Rattle.tt_variable_commands.specs.LevelWords.{is_levelled, is_odd, parted}
+use Rattle.tt_variable_commands.specs.LevelWords.{is_levelled, is_odd, level_and_words}
 use Rattle.laws_language.proofs.Once.{Once, Only, either-way, fails-once, find-each, goes-fails, goes-once, once-by}
 use Rattle.laws_language.proofs.Once.{once-made, once-then, once-told, only-made, only-told}
 use Rattle.laws_language.proofs.Held.{is_there-once, links_to-once}
@@ -107,7 +107,7 @@ links_from-once words old =
 
 upvar_by-once : (is_short : Bool) (usage : List ℕ) (words : List (List ℕ)) (old : Held) → Once (UpvarBy is_short usage words old)
 upvar_by-once true usage words old = refuses-once usage old
-upvar_by-once false usage words old = links_from-once (parted (is_odd words) words) old
+upvar_by-once false usage words old = links_from-once (level_and_words (is_odd words) words) old
 
 upvar-once : (usage : List ℕ) (words : List (List ℕ)) (old : Held) → Once (upvar usage words old)
 upvar-once usage words old = upvar_by-once (nat_lt (length words) 2) usage words old
@@ -115,8 +115,8 @@ upvar-once usage words old = upvar_by-once (nat_lt (length words) 2) usage words
 -- ---- uplevel(n) ----
 
 begins-once : (level : List ℕ) (frame : Option ℕ) (script : List (List ℕ)) (old : Held) → Once (BeginsScript level frame script old)
-begins-once level None script old = once-told (answers.Outcome (failed (bad_level level))) old
-begins-once level (Some frame) script old = once-told (answers.Body body.Level (concatenation script)) (begun_at frame old)
+begins-once level None script old = once-told (answers.Outcome (error_outcome (bad_level level))) old
+begins-once level (Some frame) script old = once-told (answers.Body body.Level (concatenation script)) (with_script_at frame old)
 
 begins_at-once : (words : List ℕ × List (List ℕ)) (old : Held) → Once (BeginsAt words old)
 begins_at-once words old =
@@ -124,8 +124,8 @@ begins_at-once words old =
     (frame-once words.0 old.levels) (λ frame. begins-once words.0 frame words.1 old)
 
 uplevel-once : (usage : List ℕ) (words : List (List ℕ)) (old : Held) → Once (uplevel usage words old)
-uplevel-once usage [] old = once-told (answers.Outcome (failed (wrong_number usage))) old
-uplevel-once usage (word ∷ words) old = begins_at-once (parted (is_levelled (word ∷ words)) (word ∷ words)) old
+uplevel-once usage [] old = once-told (answers.Outcome (error_outcome (wrong_number usage))) old
+uplevel-once usage (word ∷ words) old = begins_at-once (level_and_words (is_levelled (word ∷ words)) (word ∷ words)) old
 
 -- ---- info(n) ----
 
@@ -152,10 +152,10 @@ tells-once word words old =
     (once-by (level words old) answers.Outcome (level-once words old))
     (either-way (λ about. Once (Tells about word words old)) (bytes_eq word (codes "procs")) procs nothing
     (once-told answers.Other old)
-    (once-told (answers.Outcome (failed (bad_option word))) old)))
+    (once-told (answers.Outcome (error_outcome (bad_option word))) old)))
 
 info-once : (usage : List ℕ) (words : List (List ℕ)) (old : Held) → Once (info usage words old)
-info-once usage [] old = once-told (answers.Outcome (failed (wrong_number usage))) old
+info-once usage [] old = once-told (answers.Outcome (error_outcome (wrong_number usage))) old
 info-once usage (word ∷ words) old = tells-once word words old
 
 -- ---- the table ----

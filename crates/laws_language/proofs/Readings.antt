@@ -2,12 +2,12 @@
 use Rattle.std.proofs.Common.{◌≡◌, ℕ, zero, suc, ◌+◌, ◌<◌, ◌≤◌, List, [], ◌∷◌, ◌++◌, length, drop, Option, Some, None}
 use Rattle.std.proofs.Common.{refl, sym, subst, append-nil, append_assoc, length-drop, arith}
 use Rattle.tt_code.specs.Substitution.{words_needs}
-use Rattle.tt_script.specs.Reading.{first, moved}
+use Rattle.tt_script.specs.Reading.{first, first_after}
 use Rattle.tt_script.specs.Words.{PlainCommand, PlainFirst, nothing, bad, command}
 use Rattle.tt_script.proofs.Cuts.{gap_cut, skipped_cut}
 use Rattle.tt_script.proofs.FirstLaw.{first_is}
 use Rattle.tt_script.proofs.FromGrammar.{words_read}
-use Rattle.tt_frames.specs.Programs.{PlainStep, Wrong, Does, read, read_from, steps_of, with_first}
+use Rattle.tt_frames.specs.Programs.{PlainStep, Wrong, Does, program_of, program_from, steps_of, with_first}
 use Rattle.laws_language.specs.ScriptSteps.{AreCommands, no_command, unreadable, one_command}
 
 -- a command takes a byte at least, and no more than there are
@@ -31,7 +31,7 @@ IsRead text count steps (Some from) =
 after_first : (text : List ℕ) (count : ℕ) (steps : List PlainStep) (from : ℕ) (found : PlainFirst)
     → first (drop from text) ≡ found
     → IsRead text count steps (Some from)
-    → IsRead text (suc count) (with_first steps (moved from found)).steps (with_first steps (moved from found)).next
+    → IsRead text (suc count) (with_first steps (first_after from found)).steps (with_first steps (first_after from found)).next
 after_first text count steps from nothing e (_, _, joins) =
     subst (AreCommands text 0) (append-nil steps) (joins [] (no_command e))
 after_first text count steps from (bad fault start) e (_, _, joins) =
@@ -47,13 +47,13 @@ after_first text count steps from (command c) e (far, within, joins) =
 
 after_reading : (text : List ℕ) (count : ℕ) (steps : List PlainStep) (next : Option ℕ)
     → IsRead text count steps next
-    → IsRead text (suc count) (read_from text steps next).steps (read_from text steps next).next
+    → IsRead text (suc count) (program_from text steps next).steps (program_from text steps next).next
 after_reading text count steps None is = is
 after_reading text count steps (Some from) is = after_first text count steps from (first (drop from text)) refl is
 
-readings : (text : List ℕ) (count : ℕ) → IsRead text count (read text count).steps (read text count).next
+readings : (text : List ℕ) (count : ℕ) → IsRead text count (program_of text count).steps (program_of text count).next
 readings text zero = (omega arith, omega arith, λ later are. are)
-readings text (suc count) = after_reading text count (read text count).steps (read text count).next (readings text count)
+readings text (suc count) = after_reading text count (program_of text count).steps (program_of text count).next (readings text count)
 
 -- more readings than there are bytes
 all_read : (text : List ℕ) (steps : List PlainStep) (next : Option ℕ)
@@ -64,4 +64,4 @@ all_read text steps (Some from) (far, within, _) = absurd (omega (arith, far, wi
 pub steps-commands : (text : List ℕ) → AreCommands text 0 (steps_of text)
 unfolding steps_of
 steps-commands text =
-    all_read text (read text (length text + 1)).steps (read text (length text + 1)).next (readings text (length text + 1))
+    all_read text (program_of text (length text + 1)).steps (program_of text (length text + 1)).next (readings text (length text + 1))

@@ -3,7 +3,7 @@ use Rattle.std.proofs.Common.{◌≡◌, ℕ, Bool, true, false, bytes_eq, nat_l
 use Rattle.std.proofs.Common.{None, Result, option_map, refl, sym, subst, length}
 use Rattle.std.specs.List.{AllByRecursion}
 use Rattle.tt_calls.specs.declared.outcome.Outcome.{Outcome}
-use Rattle.tt_calls.specs.Outcomes.{failed, fine}
+use Rattle.tt_calls.specs.Outcomes.{error_outcome, fine}
 use Rattle.tt_calls.specs.Usages.{bad_option, wrong_number}
 use Rattle.tt_list_commands.specs.Concatenating.{concatenation}
 use Rattle.tt_lists.specs.Messages.{list_message}
@@ -20,22 +20,22 @@ use Rattle.tt_vars.specs.declared.answers.Written.{Written}
 use Rattle.tt_outcomes.specs.declared.want.Body.TheVariants as body
 use Rattle.tt_store.specs.declared.answers.Answer.TheVariants as answers
 use Rattle.tt_store.specs.Commands.{Coming, IsCommand, IsPure, PackageBy, Runs, commands, ends, eval, first_named}
-use Rattle.tt_store.specs.Commands.{flush, package_require, required, row_of, version_of}
+use Rattle.tt_store.specs.Commands.{flush, package_require, package_answer, row_of, version_of}
 use Rattle.tt_store.specs.Held.{Drops, Fails, Finds, Held, Meaning, ReadsWord, Refuses, Sets, with_levels}
-use Rattle.tt_store.specs.Levels.{begun_in}
+use Rattle.tt_store.specs.Levels.{with_script_in}
 use Rattle.tt_store.specs.Listed as listed
-use Rattle.tt_store.specs.Listed.{Assigns, AssignsItems, AssignsOne, lappend, lassign, message_of, paired, rest_outcome}
+use Rattle.tt_store.specs.Listed.{Assigns, AssignsItems, AssignsOne, lappend, lassign, message_of, names_with_items, rest_outcome}
 use Rattle.tt_store.specs.Messages.{cannot_unset}
 use Rattle.tt_store.specs.Scalars as scalars
 use Rattle.tt_store.specs.Scalars.{Changes, Counts, DropsOne, GivesMade, Unsets, UnsetsAll, UnsetsIf, append, counting}
-use Rattle.tt_store.specs.Scalars.{outcome_by, first_unknown, front, incr, incremented, made_of, set, report_of, unset}
+use Rattle.tt_store.specs.Scalars.{outcome_by, first_unknown, front, incr, increment_of, answer_of_value, set_meaning, report_of, unset_meaning}
 use Rattle.tt_store.specs.Spots.{spot_of}
 use Rattle.laws_language.proofs.Once.{Once, Only, fails-once, goes-fails, goes-once, find-each, once-by, once-kept, once-made, once-then, once-told, only-made}
 use Rattle.laws_language.proofs.PureCommands.{pure-once}
 use Rattle.laws_language.proofs.Held.{drops-once, finds-once, gives-once, reads_word-once, sets-once}
 
 pub fails_with-once : (message : List ℕ) (old : Held) → Once (Fails message old)
-fails_with-once message old = once-told (failed message) old
+fails_with-once message old = once-told (error_outcome message) old
 
 pub refuses-once : (usage : List ℕ) (old : Held) → Once (Refuses usage old)
 refuses-once usage old = fails_with-once (wrong_number usage) old
@@ -45,7 +45,7 @@ refuses-once usage old = fails_with-once (wrong_number usage) old
 reads_only-once : (name : List ℕ) (old : Held) → Once (λ (outcome : Outcome) (new : Held). ReadsWord name old outcome × (new ≡ old))
 reads_only-once name old = once-kept (ReadsWord name old) old (reads_word-once name old)
 
-set-once : (usage : List ℕ) (words : List (List ℕ)) (old : Held) → Once (set usage words old)
+set-once : (usage : List ℕ) (words : List (List ℕ)) (old : Held) → Once (set_meaning usage words old)
 set-once usage [] old = refuses-once usage old
 set-once usage (name ∷ []) old = reads_only-once name old
 set-once usage (name ∷ value ∷ []) old = gives-once name value old
@@ -60,23 +60,23 @@ made-once word (Bad message) old = fails_with-once message old
 
 pub changes-once : (word missing : List ℕ) (change : List ℕ → ListAnswer) (old : Held) → Once (Changes word missing change old)
 changes-once word missing change old =
-    once-then (Counts word missing old) (λ (found : Result (List ℕ) VarFault). GivesMade word (made_of word change found) old)
-    (counts-once word missing old) (λ found. made-once word (made_of word change found) old)
+    once-then (Counts word missing old) (λ (found : Result (List ℕ) VarFault). GivesMade word (answer_of_value word change found) old)
+    (counts-once word missing old) (λ found. made-once word (answer_of_value word change found) old)
 
 incr-once : (usage : List ℕ) (words : List (List ℕ)) (old : Held) → Once (incr usage words old)
 incr-once usage [] old = refuses-once usage old
-incr-once usage (name ∷ []) old = changes-once name (codes "0") (incremented (codes "1")) old
-incr-once usage (name ∷ step ∷ []) old = changes-once name (codes "0") (incremented step) old
+incr-once usage (name ∷ []) old = changes-once name (codes "0") (increment_of (codes "1")) old
+incr-once usage (name ∷ step ∷ []) old = changes-once name (codes "0") (increment_of step) old
 incr-once usage (name ∷ step ∷ more ∷ words) old = refuses-once usage old
 
 append-once : (usage : List ℕ) (words : List (List ℕ)) (old : Held) → Once (append usage words old)
 append-once usage [] old = refuses-once usage old
 append-once usage (name ∷ []) old = reads_only-once name old
-append-once usage (name ∷ value ∷ values) old = changes-once name [] (growing.appended (value ∷ values)) old
+append-once usage (name ∷ value ∷ values) old = changes-once name [] (growing.text_with_texts (value ∷ values)) old
 
 lappend-once : (usage : List ℕ) (words : List (List ℕ)) (old : Held) → Once (lappend usage words old)
 lappend-once usage [] old = refuses-once usage old
-lappend-once usage (name ∷ values) old = changes-once name [] (growing.listed values) old
+lappend-once usage (name ∷ values) old = changes-once name [] (growing.list_with_texts values) old
 
 -- ---- unset(n) ----
 
@@ -107,7 +107,7 @@ unsets_if-once : (unknown : Option (List ℕ)) (words : List (List ℕ)) (old : 
 unsets_if-once (Some word) words old = fails_with-once (bad_option word) old
 unsets_if-once None words old = unsets_all-once (nat_lt 0 (front words)) (drop (front words) words) old
 
-unset-once : (usage : List ℕ) (words : List (List ℕ)) (old : Held) → Once (unset usage words old)
+unset-once : (usage : List ℕ) (words : List (List ℕ)) (old : Held) → Once (unset_meaning usage words old)
 unset-once usage words old = unsets_if-once (first_unknown words) words old
 
 -- ---- lassign(n) ----
@@ -140,7 +140,7 @@ assigns-same (listed.fails {word = word} {text = text} gives) (listed.fails its)
 assigns_items-once : (read : Split) (names : List (List ℕ)) (old : Held) → Once (AssignsItems read names old)
 assigns_items-once (split.Bad fault) names old = fails_with-once (list_message fault) old
 assigns_items-once (split.Items items) names old =
-    once-by (λ (message : Option (List ℕ)) (new : Held). Assigns (paired names items) old message new)
+    once-by (λ (message : Option (List ℕ)) (new : Held). Assigns (names_with_items names items) old message new)
     (rest_outcome (drop (length names) items)) (λ one other new next is its. assigns-same is its)
 
 lassign-once : (usage : List ℕ) (words : List (List ℕ)) (old : Held) → Once (lassign usage words old)
@@ -150,9 +150,9 @@ lassign-once usage (list ∷ names) old = assigns_items-once (split_of list) nam
 -- ---- eval(n), package(n), flush(n) ----
 
 eval-once : (usage : List ℕ) (words : List (List ℕ)) (old : Held) → Once (eval usage words old)
-eval-once usage [] old = once-told (answers.Outcome (failed (wrong_number usage))) old
+eval-once usage [] old = once-told (answers.Outcome (error_outcome (wrong_number usage))) old
 eval-once usage (word ∷ words) old =
-    once-told (answers.Body body.Plain (concatenation (word ∷ words))) (with_levels old (begun_in old.levels.current old.levels))
+    once-told (answers.Body body.Plain (concatenation (word ∷ words))) (with_levels old (with_script_in old.levels.current old.levels))
 
 flush-once : (usage : List ℕ) (words : List (List ℕ)) (old : Held) → Once (flush usage words old)
 flush-once usage [] old = refuses-once usage old
@@ -162,8 +162,8 @@ flush-once usage (channel ∷ more ∷ words) old = refuses-once usage old
 package_by-once : (known : Bool) (usage word : List ℕ) (words : List (List ℕ)) (old : Held) → Once (PackageBy known usage word words old)
 package_by-once false usage word words old = fails_with-once (bad_option word) old
 package_by-once true usage word [] old = refuses-once usage old
-package_by-once true usage word (name ∷ []) old = once-told (required name (version_of name)) old
-package_by-once true usage word (name ∷ version ∷ []) old = once-told (required name (version_of name)) old
+package_by-once true usage word (name ∷ []) old = once-told (package_answer name (version_of name)) old
+package_by-once true usage word (name ∷ version ∷ []) old = once-told (package_answer name (version_of name)) old
 package_by-once true usage word (name ∷ version ∷ more ∷ words) old = refuses-once usage old
 
 package-once : (usage : List ℕ) (words : List (List ℕ)) (old : Held) → Once (package_require usage words old)
@@ -181,9 +181,9 @@ ends-once meaning once usage words old = once-by (meaning usage words old) answe
 
 commands-once : AllByRecursion (λ which. ComesToOne (row_of which).meaning) commands
 commands-once = (
-  ends-once set set-once,
+  ends-once set_meaning set-once,
   (
-    ends-once unset unset-once,
+    ends-once unset_meaning unset-once,
     (
       ends-once incr incr-once,
       (

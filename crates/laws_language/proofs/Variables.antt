@@ -5,8 +5,8 @@ use Rattle.tt_vars.specs.declared.answers.VarFault.{VarFault}
 use Rattle.tt_vars.specs.declared.variable.Place.{Place}
 use Rattle.tt_vars.specs.Variables.{Name, Frame, Puts}
 use Rattle.tt_vars.specs.Links.{AreSame, HasNames, HasSize, Links, Reads, Removed, Removes, StandsFor, Writes}
-use Rattle.tt_vars.specs.Links.{elements_at, is_same, itself, link_answer, linked, linked_by, nothing, onward, place_of}
-use Rattle.tt_vars.specs.Links.{read_at, removed_of, written_at}
+use Rattle.tt_vars.specs.Links.{elements_at, is_same, itself, link_answer, linked, frames_after_link, nothing, onward, place_of}
+use Rattle.tt_vars.specs.Links.{reading_at, frames_after_removal, frames_after_write}
 use Rattle.std.specs.Map.{keys_of}
 use Rattle.std.specs.Option.{option_map}
 use Rattle.laws_language.proofs.Once.{Once, Only, only-made, once-then}
@@ -41,7 +41,7 @@ module _ (frames : List Frame) where
   -- ---- reading ----
 
   pub reads-once : (place : Place) → Only (Reads frames place)
-  reads-once place = only-made (StandsFor frames place) (read_at frames place.index) (stands-once place)
+  reads-once place = only-made (StandsFor frames place) (reading_at frames place.index) (stands-once place)
 
   pub names-once : (place : Place) → Only (HasNames frames place)
   names-once place = only-made (StandsFor frames place) (λ stands. option_map keys_of (elements_at frames stands)) (stands-once place)
@@ -62,8 +62,8 @@ module _ (frames : List Frame) where
 
   pub writes-once : (place : Place) (text : List ℕ) → Once (Writes frames place text)
   writes-once place text =
-      once-then (StandsFor frames place) (λ stands. Puts (written_at frames stands text) frames) (stands-once place)
-      (λ stands. puts-once (written_at frames stands text))
+      once-then (StandsFor frames place) (λ stands. Puts (frames_after_write frames stands text) frames) (stands-once place)
+      (λ stands. puts-once (frames_after_write frames stands text))
 
   -- ---- removing ----
 
@@ -81,20 +81,20 @@ module _ (frames : List Frame) where
 
   pub removes-once : (place : Place) → Once (Removes {X = Unit} frames place)
   removes-once place =
-      once-then (StandsFor frames place) (λ stands. Removed {X = Unit} (removed_of frames place.index stands) frames) (stands-once place)
-      (λ stands. removed-once (removed_of frames place.index stands))
+      once-then (StandsFor frames place) (λ stands. Removed {X = Unit} (frames_after_removal frames place.index stands) frames) (stands-once place)
+      (λ stands. removed-once (frames_after_removal frames place.index stands))
 
   -- ---- linking ----
 
   link-same : (number : ℕ) (name : Name) {whole wholes stands others : Option Place} {new next : List Frame} {one other : Linked}
       → whole ≡ wholes → stands ≡ others
       → one ≡ link_answer frames number name whole stands → other ≡ link_answer frames number name wholes others
-      → new ≡ linked_by one frames number name stands → next ≡ linked_by other frames number name others
+      → new ≡ frames_after_link one frames number name stands → next ≡ frames_after_link other frames number name others
       → (new ≡ next) × (one ≡ other)
   link-same number name {whole} {wholes} {stands} {others} {new} {next} {one} {other} w s is its made makes =
       let same : one ≡ other =
       is ∙ ap (λ p. link_answer frames number name p stands) w ∙ ap (link_answer frames number name wholes) s ∙ sym its in
-      (made ∙ ap (λ a. linked_by a frames number name stands) same ∙ ap (linked_by other frames number name) s ∙ sym makes, same)
+      (made ∙ ap (λ a. frames_after_link a frames number name stands) same ∙ ap (frames_after_link other frames number name) s ∙ sym makes, same)
 
   pub links-once : (number : ℕ) (name : Name) (place : Place) → Once (Links frames number name place)
   links-once number name place new next one other is its =

@@ -8,7 +8,7 @@ use Rattle.tt_calls.specs.declared.reply.Step.{Step}
 use Rattle.tt_calls.specs.declared.reply.Step.TheVariants as step
 use Rattle.tt_calls.specs.declared.tsv_call.TsvCall.{TsvCall}
 use Rattle.laws_shared.proofs.Families.{arrays_kept}
-use Rattle.laws_shared.specs.Actions.{Action, CanHappen, acted, after, more, none}
+use Rattle.laws_shared.specs.Actions.{Action, CanHappen, action_result, after, more, none}
 use Rattle.laws_shared.specs.ArrayCalls.{ArrayCall, array_call, array_calls, array_replies, array_steps, arrays_after, reply_where}
 use Rattle.laws_shared.specs.SharedLaws.{ArraysAloneLaw, ArraysStandAlone}
 use Rattle.tt_shared.specs.Acts.{act}
@@ -67,6 +67,6 @@ arrays_alone old new (action ∷ actions) (more can rest) =
     let calls = array_calls actions in
     record {
       arrays = later.arrays ∙ ap (λ table. arrays_after table calls) first.arrays ∙ more_arrays old.arrays (array_call action) calls;
-      replies = more_replies old.arrays next.arrays (array_call action) calls (acted old action).gives.reply
+      replies = more_replies old.arrays next.arrays (array_call action) calls (action_result old action).gives.reply
           (array_replies next actions) first.arrays first.replies later.replies;
     }

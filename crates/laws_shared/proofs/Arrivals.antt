@@ -8,7 +8,7 @@ use Rattle.tt_calls.specs.declared.event.Event.TheVariants as event
 use Rattle.laws_shared.proofs.Deciding as deciding
 use Rattle.laws_shared.proofs.Numbered.{by_more, by_number, length-put, put_here}
 use Rattle.laws_shared.specs.KeptChannels.{arrivals, brings, events_in}
-use Rattle.tt_shared.specs.Mail.{Queues, emptied, emptied_in, with_event, queue_of, queued, queued_in, with_queue}
+use Rattle.tt_shared.specs.Mail.{Queues, queues_without_events, queues_without_events_in, with_event, queue_of, queues_with_event, queues_with_event_in, with_queue}
 
 abbrev pub weight : (text : List ℕ) → Event → ℕ
 weight text event = cond (brings text event) 1 0
@@ -45,10 +45,10 @@ by_queue queues t u text old new expected there here other = go (u == t) refl
 
 -- an event that brings none is put into a queue
 pub by_mail : (queues : Queues) (t : ℕ) (head : Bool) (event : Event) → ((text : List ℕ) → brings text event ≡ false) →
-    SameArrivals queues (queued queues t head event)
+    SameArrivals queues (queues_with_event queues t head event)
 by_mail queues t head event quiet = go (queue_of queues t) refl
   where
-    go : (found : Option (List Event)) → queue_of queues t ≡ found → SameArrivals queues (queued_in queues t head event found)
+    go : (found : Option (List Event)) → queue_of queues t ≡ found → SameArrivals queues (queues_with_event_in queues t head event found)
     go None there u text = refl
     go (Some events) there u text =
         by_queue queues t u text events (with_event head event events) (arrivals queues u text) there
@@ -58,10 +58,10 @@ by_mail queues t head event quiet = go (queue_of queues t) refl
         omega (arith, count-placed text head event events, none, had))
         (λ differs. refl)
 
-pub many_mail : (queues : Queues) (t : ℕ) (head : Bool) (event : Event) → length (queued queues t head event) ≡ length queues
+pub many_mail : (queues : Queues) (t : ℕ) (head : Bool) (event : Event) → length (queues_with_event queues t head event) ≡ length queues
 many_mail queues t head event = go (queue_of queues t)
   where
-    go : (found : Option (List Event)) → length (queued_in queues t head event found) ≡ length queues
+    go : (found : Option (List Event)) → length (queues_with_event_in queues t head event found) ≡ length queues
     go None = refl
     go (Some events) = length-put queues (t - 1) (with_event head event events)
 
@@ -74,9 +74,9 @@ by_new queues u text =
 
 -- an event that brings a channel is put into the queue of a thread
 pub by_sending : (queues : Queues) (t u : ℕ) (events : List Event) (channel text : List ℕ) → queue_of queues t ≡ Some events
-    → arrivals (queued queues t false (event.Moved channel)) u text ≡ arrivals queues u text + (if u == t then weight text (event.Moved channel) else 0)
+    → arrivals (queues_with_event queues t false (event.Moved channel)) u text ≡ arrivals queues u text + (if u == t then weight text (event.Moved channel) else 0)
 by_sending queues t u events channel text there =
-    ap (λ found. arrivals (queued_in queues t false (event.Moved channel) found) u text) there
+    ap (λ found. arrivals (queues_with_event_in queues t false (event.Moved channel) found) u text) there
     ∙ by_queue queues t u text events (with_event false (event.Moved channel) events) _ there
     (λ same.
     let had : arrivals queues u text ≡ count text events = ap (λ one. arrivals queues one text) same ∙ ap (λ found. count text (events_in found)) there in
@@ -106,11 +106,11 @@ by_taking queues t u event events text there = go (u == t) refl
         by_queue queues t u text (event ∷ events) events (arrivals queues u text) there (λ one. absurd (deciding.differs u t is one)) (λ differs. refl) in
         omega (arith, has)
 
-pub by_emptying : (queues : Queues) (t u : ℕ) (text : List ℕ) → arrivals (emptied queues t) u text ≡ (if u == t then 0 else arrivals queues u text)
+pub by_emptying : (queues : Queues) (t u : ℕ) (text : List ℕ) → arrivals (queues_without_events queues t) u text ≡ (if u == t then 0 else arrivals queues u text)
 by_emptying queues t u text = go (queue_of queues t) refl
   where
     at : (found : Option (List Event)) → queue_of queues t ≡ found → (b : Bool) → (u == t) ≡ b →
-        arrivals (emptied_in queues t found) u text ≡ (if b then 0 else arrivals queues u text)
+        arrivals (queues_without_events_in queues t found) u text ≡ (if b then 0 else arrivals queues u text)
     at None there true is =
         let same : u ≡ t = deciding.same u t is in
         ap (λ one. arrivals queues one text) same ∙ ap (λ found. count text (events_in found)) there
@@ -121,12 +121,12 @@ by_emptying queues t u text = go (queue_of queues t) refl
         by_queue queues t u text events [] (arrivals queues u text) there (λ same. absurd (deciding.differs u t is same)) (λ differs. refl)
 
     go : (found : Option (List Event)) → queue_of queues t ≡ found →
-        arrivals (emptied_in queues t found) u text ≡ (if u == t then 0 else arrivals queues u text)
+        arrivals (queues_without_events_in queues t found) u text ≡ (if u == t then 0 else arrivals queues u text)
     go found there = at found there (u == t) refl
 
-pub many_emptied : (queues : Queues) (t : ℕ) → length (emptied queues t) ≡ length queues
+pub many_emptied : (queues : Queues) (t : ℕ) → length (queues_without_events queues t) ≡ length queues
 many_emptied queues t = go (queue_of queues t)
   where
-    go : (found : Option (List Event)) → length (emptied_in queues t found) ≡ length queues
+    go : (found : Option (List Event)) → length (queues_without_events_in queues t found) ≡ length queues
     go None = refl
     go (Some events) = length-put queues (t - 1) []

@@ -4,10 +4,10 @@ use Rattle.tt_calls.specs.declared.chan_call.ChanCall.{ChanCall}
 use Rattle.tt_calls.specs.declared.chan_call.ChanCall.TheVariants as chan
 use Rattle.tt_calls.specs.declared.reply.Reply.TheVariants.{Go, Value}
 use Rattle.tt_calls.specs.Replies.{answers, refuses, Answered}
-use Rattle.tt_chans.specs.Calls.{act_own, attaches, eof, gets, id_of, if_owned, moved as move_ends, puts, puts_at}
+use Rattle.tt_chans.specs.Calls.{act_own, attaches, eof, gets, id_of, if_owned, transfer_end as move_ends, puts, puts_at}
 use Rattle.tt_chans.specs.Calls.{standard_message, table_after, transfers, waits}
 use Rattle.tt_chans.specs.Channels.{ChannelTable, channel_of, is_standard, with_channel, with_pipe, without_channel}
-use Rattle.tt_chans.specs.Ends.{gets_line, owned, puts_into, takes_line, with_owner}
+use Rattle.tt_chans.specs.Ends.{gets_line, own_channel, puts_into, takes_line, with_owner}
 use Rattle.tt_chans.specs.Lines.{has_line}
 use Rattle.tt_chans.specs.declared.channel.Channel.{Channel}
 use Rattle.tt_chans.specs.declared.channel.End.{End}
@@ -54,9 +54,9 @@ Removes P table t call = (text : List ℕ) (old : Channel) → call ≡ chan.Clo
 module _ (P : ChannelTable → Type 0) (table : ChannelTable) (t : ℕ) (target : Option ℕ) (same : P table) where
   if_found : (does : Channel → Answered ChannelTable) (text : List ℕ) →
       ((channel : Channel) → IsFound t (channel_of table text) channel → P (does channel).table) → P (if_owned does table t text).table
-  if_found does text found = go (owned t (channel_of table text)) refl
+  if_found does text found = go (own_channel t (channel_of table text)) refl
     where
-      go : (one : Option Channel) → owned t (channel_of table text) ≡ one → P (if_owned does table t text).table
+      go : (one : Option Channel) → own_channel t (channel_of table text) ≡ one → P (if_owned does table t text).table
       go None is = rw (is, if_owned) same
       go (Some channel) is = rw (is, if_owned) (found channel (owned_is t (channel_of table text) channel is))
 

@@ -8,8 +8,8 @@ use Rattle.tt_calls.specs.declared.reply.Step.TheVariants as step
 use Rattle.tt_calls.specs.declared.request.Request.{Request}
 use Rattle.tt_calls.specs.declared.request.Request.TheVariants as ask
 use Rattle.tt_chans.specs.Calls.{table_after}
-use Rattle.tt_chans.specs.Channels.{ChannelTable, channel_of, given, table_after_end}
-use Rattle.tt_chans.specs.Ends.{is_owned, owned}
+use Rattle.tt_chans.specs.Channels.{ChannelTable, channel_of, after_arrival, table_after_end}
+use Rattle.tt_chans.specs.Ends.{is_owned, own_channel}
 use Rattle.tt_chans.specs.declared.channel.Channel.{Channel}
 use Rattle.tt_chans.specs.declared.channel.Owner.{Owner}
 use Rattle.tt_chans.specs.declared.channel.Owner.TheVariants.{Thread, Detached, Moving}
@@ -25,7 +25,7 @@ use Rattle.tt_shared.specs.declared.applied.Line.{Line}
 -- ---- what holds of the channels after an action ----
 
 module _ (P : ChannelTable → Type 0) (state : State) (t : ℕ) (same : P state.channels)
-    (comes : (text : List ℕ) → P (given state.channels t text (channel_of state.channels text))) where
+    (comes : (text : List ℕ) → P (after_arrival state.channels t text (channel_of state.channels text))) where
   by_first : (found : Option Event) → P (takes_first state t found).state.channels
   by_first None = same
   by_first (Some (event.Moved text)) = comes text
@@ -35,7 +35,7 @@ module _ (P : ChannelTable → Type 0) (state : State) (t : ℕ) (same : P state
   by_takes = by_first (first_of state.queues t)
 
 module _ (P : ChannelTable → Type 0) (state : State) (t : ℕ) (same : P state.channels)
-    (comes : (text : List ℕ) → P (given state.channels t text (channel_of state.channels text))) where
+    (comes : (text : List ℕ) → P (after_arrival state.channels t text (channel_of state.channels text))) where
   by_gives : (gives : PoolStep) → P (gives_of state t gives).state.channels
   by_gives gives = go gives.step refl
     where
@@ -46,7 +46,7 @@ module _ (P : ChannelTable → Type 0) (state : State) (t : ℕ) (same : P state
           rw is (subst P (sym kept) same)
 
 module _ (P : ChannelTable → Type 0) (state : State) (t : ℕ) (same : P state.channels)
-    (comes : (text : List ℕ) → P (given state.channels t text (channel_of state.channels text))) where
+    (comes : (text : List ℕ) → P (after_arrival state.channels t text (channel_of state.channels text))) where
   by_pools : (answered : pools.Answered) → P (pools_after state t answered).state.channels
   by_pools answered = by_gives P (record state { pools = answered.table }) t same comes answered.gives
 
@@ -71,7 +71,7 @@ pub record IsFound (t : ℕ) (found : Option Channel) (channel : Channel) : Type
   pub there : found ≡ Some channel
   pub owner : channel.owner ≡ Thread t
 
-pub owned_is : (t : ℕ) (found : Option Channel) (channel : Channel) → owned t found ≡ Some channel → IsFound t found channel
+pub owned_is : (t : ℕ) (found : Option Channel) (channel : Channel) → own_channel t found ≡ Some channel → IsFound t found channel
 owned_is t None channel is = absurd (cc is)
 owned_is t (Some other) channel is = go (is_owned other.owner t) refl is
   where

@@ -3,7 +3,7 @@ use Rattle.std.proofs.Common.{◌≡◌, ◌≢◌, ◌+◌, ◌*◌, ◌≤◌,
 use Rattle.std.proofs.Common.{length, Option, Some, None, IfSome, refl, sym, subst, arith}
 use Rattle.std.specs.Map.{remove_entry}
 use Rattle.tt_calls.specs.declared.request.Request.{Request}
-use Rattle.tt_chans.specs.Channels.{ChannelTable, channel_of, given, inserted, no_channels, owner_given, read_end}
+use Rattle.tt_chans.specs.Channels.{ChannelTable, channel_of, after_arrival, with_entry, no_channels, owner_given, read_end}
 use Rattle.tt_chans.specs.Channels.{read_id, table_after_end, with_channel, with_pipe, without_channel, write_end}
 use Rattle.tt_chans.specs.Channels.{write_id}
 use Rattle.tt_chans.specs.Ends.{after_end, stays_open, with_owner}
@@ -107,12 +107,12 @@ pub by_pipe : (P : Option Channel → Type 0) (table : ChannelTable) (t : ℕ) (
     → (text ≡ read_id table → P (Some (read_end table t))) → (text ≡ write_id table → P (Some (write_end table t)))
     → P (channel_of table text) → P (channel_of (with_pipe table t) text)
 by_pipe P table t text reads writes is =
-    by_insert P text (write_id table) (inserted table.channels (read_id table) (read_end table t)) (write_end table t) writes
+    by_insert P text (write_id table) (with_entry table.channels (read_id table) (read_end table t)) (write_end table t) writes
     (by_insert P text (read_id table) table.channels (read_end table t) reads is)
 
 pub pipe_drawn : (table : ChannelTable) (t : ℕ) → IsDrawn table → table.next + 2 < 2 ^ 64 → IsDrawn (with_pipe table t)
 pipe_drawn table t drawn small =
-    let with_reader = inserted table.channels (read_id table) (read_end table t) in
+    let with_reader = with_entry table.channels (read_id table) (read_end table t) in
     let still_new =
     by_insert (λ found. found ≡ None) (write_id table) (read_id table) table.channels (read_end table t)
     (λ same. absurd (ids_apart table small same)) (write_new table drawn small) in
@@ -136,7 +136,7 @@ pub record GoesUp (old new : ChannelTable) : Type 0 where
 stays : (table : ChannelTable) → GoesUp table table
 stays table = record { up = omega arith; few = omega arith; drawn = λ small drawn. drawn }
 
-comes : (table : ChannelTable) (t : ℕ) (text : List ℕ) (found : Option Channel) → channel_of table text ≡ found → GoesUp table (given table t text found)
+comes : (table : ChannelTable) (t : ℕ) (text : List ℕ) (found : Option Channel) → channel_of table text ≡ found → GoesUp table (after_arrival table t text found)
 comes table t text None is = stays table
 comes table t text (Some channel) is = record {
   up = omega arith;

@@ -33,7 +33,7 @@ use Rattle.tt_shared.specs.declared.reports.ErrorProcedure.{ErrorProcedure}
 use Rattle.tt_slots.specs.Waiting.{slot_of}
 use Rattle.tt_slots.specs.declared.slot.Slot.{Slot}
 use Rattle.tt_threads.specs.Requests as threads
-use Rattle.tt_threads.specs.Rows.{linked, new_row}
+use Rattle.tt_threads.specs.Rows.{linked_thread, new_row}
 use Rattle.tt_threads.specs.declared.row.Row.{Row}
 use Rattle.tt_tsv.specs.Arrays.{Table}
 
@@ -91,7 +91,7 @@ by_named state t text script mode variable head (Some target) = by_linked state 
 by_sends : (state : State) (t : ℕ) (text script : List ℕ) (mode : Mode) (variable : Option (List ℕ)) (head : Bool) →
     families (sends state t text script mode variable head).state ≡ families state
 by_sends state t text script mode variable head =
-    by_if (is_asked mode variable) _ _ _ (by_named state t text script mode variable head (linked state.rows text)) refl
+    by_if (is_asked mode variable) _ _ _ (by_named state t text script mode variable head (linked_thread state.rows text)) refl
 
 by_awaits : (state : State) (t n : ℕ) (found : Option Slot) → families (awaits_at state t n found).state ≡ families state
 by_awaits state t n None = refl
@@ -187,7 +187,7 @@ quiet state t (ask.WriteErr text) line is = refl
 quiet state t ask.ReadLine line is = by_reads state line
 quiet state t ask.StdinEof line is = refl
 quiet state t (ask.Create joinable preserved script) line is = by_creates state joinable preserved script
-quiet state t (ask.Release text) line is = by_stops _ (threads.named state.rows t text)
+quiet state t (ask.Release text) line is = by_stops _ (threads.thread_named state.rows t text)
 quiet state t (ask.ErrorProc name) line is = by_names state t name
 quiet state t (ask.Send text script mode variable head) line is = by_sends state t text script mode variable head
 quiet state t (ask.Await n) line is = by_awaits state t n (slot_of state.posts.slots n)

@@ -5,7 +5,7 @@ use Rattle.tt_calls.specs.declared.chan_call.ChanCall.{ChanCall}
 use Rattle.tt_calls.specs.declared.request.Request.{Request}
 use Rattle.tt_calls.specs.declared.request.Request.TheVariants as ask
 use Rattle.tt_chans.proofs.LineLaw.{line}
-use Rattle.tt_chans.specs.Channels.{ChannelTable, channel_of, given, owner_given, read_id, table_after_end, with_channel, with_pipe, without_channel}
+use Rattle.tt_chans.specs.Channels.{ChannelTable, channel_of, after_arrival, owner_given, read_id, table_after_end, with_channel, with_pipe, without_channel}
 use Rattle.tt_chans.specs.Ends.{after_end, stays_open, with_owner}
 use Rattle.tt_chans.specs.declared.channel.Channel.{Channel}
 use Rattle.laws_shared.proofs.Apart.{left, left-is, other_key, remove_here}
@@ -92,7 +92,7 @@ module _ (state : State) (id : List ℕ) (drawn : IsDrawn state.channels) where
           either true = is
           either false = shut refl refl refl
 
-  by_come : (t : ℕ) (text : List ℕ) (found : Option Channel) → channel_of table text ≡ found → Quiet (channel_of (given table t text found) id)
+  by_come : (t : ℕ) (text : List ℕ) (found : Option Channel) → channel_of table text ≡ found → Quiet (channel_of (after_arrival table t text found) id)
   by_come t text None there = same
   by_come t text (Some channel) there = by_owner text channel (with_owner channel (owner_given t channel.owner)) there refl
 

@@ -14,11 +14,11 @@ use Rattle.tt_calls.specs.declared.request.Request.{Request}
 use Rattle.tt_calls.specs.declared.request.Request.TheVariants as ask
 use Rattle.tt_chans.specs.Channels.{ChannelTable}
 use Rattle.tt_chans.specs.declared.channel.Channel.{Channel}
-use Rattle.laws_shared.specs.Actions.{Moment, acted}
-use Rattle.laws_shared.specs.Happenings.{Recipient, Happening, Happening as happening, recipient_of, began, deaths}
-use Rattle.laws_shared.specs.Happenings.{delivered, got, happened, happens, hold_changed, holders_in, holds_changed}
+use Rattle.laws_shared.specs.Actions.{Moment, action_result}
+use Rattle.laws_shared.specs.Happenings.{Recipient, Happening, Happening as happening, recipient_of, begin_happenings, deaths}
+use Rattle.laws_shared.specs.Happenings.{answer_happenings, got, happenings_by, happens, hold_changed, holders_in, holds_changed}
 use Rattle.laws_shared.specs.Happenings.{holds_of, is_owner, lock_named, others, owner_changed, owners_changed}
-use Rattle.laws_shared.specs.Happenings.{post_died, post_set, posted_from, reported, sent, set_of, set_where, slot_died}
+use Rattle.laws_shared.specs.Happenings.{post_died, post_set, posts_from, report_happenings, send_happenings, variable_happenings, slot_happenings, slot_died}
 use Rattle.laws_shared.specs.Owners.{owner_at}
 use Rattle.tt_locks.specs.Lock.{is_among}
 use Rattle.tt_locks.specs.Table.{LockTable, lock_of}
@@ -30,7 +30,7 @@ use Rattle.tt_shared.specs.declared.posts.VariablePost.{VariablePost}
 use Rattle.tt_shared.specs.declared.reports.ErrorProcedure.{ErrorProcedure}
 use Rattle.tt_slots.specs.Waiting.{slot_of}
 use Rattle.tt_slots.specs.declared.slot.Slot.{Slot}
-use Rattle.tt_threads.specs.Rows.{is_living, linked}
+use Rattle.tt_threads.specs.Rows.{is_living, linked_thread}
 use Rattle.tt_threads.specs.declared.row.Row.{Row}
 
 -- ---- a count of holds ----
@@ -76,19 +76,19 @@ module _ (new : LockTable) where
   each f holds [] = nothing
   each f holds (x ∷ xs) = All-append (IsHeld new) (f x) (flat_map f xs) (holds x) (each f holds xs)
 
-  by_sent : (t : ℕ) (target : Option ℕ) (asks : Recipient) (head : Bool) (told : Reply) → All (IsHeld new) (sent t target asks head told)
+  by_sent : (t : ℕ) (target : Option ℕ) (asks : Recipient) (head : Bool) (told : Reply) → All (IsHeld new) (send_happenings t target asks head told)
   by_sent t (Some target) asks head (reply.Posted n) = one _ tt
   by_sent t target asks head told = nothing
 
-  by_reported : (state : State) (t : ℕ) (procedure : Option ErrorProcedure) → All (IsHeld new) (reported state t procedure)
+  by_reported : (state : State) (t : ℕ) (procedure : Option ErrorProcedure) → All (IsHeld new) (report_happenings state t procedure)
   by_reported state t None = nothing
   by_reported state t (Some procedure) = one _ tt
 
-  by_posted : (n t : ℕ) (targets : List ℕ) → All (IsHeld new) (posted_from n t targets)
+  by_posted : (n t : ℕ) (targets : List ℕ) → All (IsHeld new) (posts_from n t targets)
   by_posted n t [] = nothing
   by_posted n t (target ∷ targets) = All-cons (IsHeld new) _ _ tt (by_posted (suc n) t targets)
 
-  by_began : (told : Reply) → All (IsHeld new) (began told)
+  by_began : (told : Reply) → All (IsHeld new) (begin_happenings told)
   by_began (reply.Event (event.Script n script answer plain)) = one _ tt
   by_began told = nothing
 
@@ -97,15 +97,15 @@ module _ (new : LockTable) where
   by_got n (reply.Answer outcome) = one _ tt
   by_got n told = nothing
 
-  by_set : (rows : List Row) (n : ℕ) (value : List ℕ) (post : Option VariablePost) → All (IsHeld new) (set_of rows n value post)
+  by_set : (rows : List Row) (n : ℕ) (value : List ℕ) (post : Option VariablePost) → All (IsHeld new) (variable_happenings rows n value post)
   by_set rows n value None = nothing
   by_set rows n value (Some post) = if_one (is_living rows post.sender) _ tt
 
-  by_where : (state : State) (n : ℕ) (value : List ℕ) (slot : Option Slot) → All (IsHeld new) (set_where state n value slot)
+  by_where : (state : State) (n : ℕ) (value : List ℕ) (slot : Option Slot) → All (IsHeld new) (slot_happenings state n value slot)
   by_where state n value None = by_set state.rows n value (variable_post state.posts n)
   by_where state n value (Some slot) = nothing
 
-  by_delivered : (state : State) (n : ℕ) (outcome : Outcome) (told : Reply) → All (IsHeld new) (delivered state n outcome told)
+  by_delivered : (state : State) (n : ℕ) (outcome : Outcome) (told : Reply) → All (IsHeld new) (answer_happenings state n outcome told)
   by_delivered state n outcome (reply.Served stops) = All-cons (IsHeld new) _ _ tt (by_where state n outcome.value (slot_of state.posts.slots n))
   by_delivered state n outcome told = nothing
 
@@ -142,7 +142,7 @@ module _ (new : LockTable) where
   by_locks old t (Some text) = by_hold old text t
 
 by_table : (old new : State) (t : ℕ) (request : Request) (told : Reply) → All (IsHeld new.locks) (happens old new t request told)
-by_table old new t (ask.Send text script mode variable head) told = by_sent new.locks t (linked old.rows text) (recipient_of mode variable) head told
+by_table old new t (ask.Send text script mode variable head) told = by_sent new.locks t (linked_thread old.rows text) (recipient_of mode variable) head told
 by_table old new t (ask.Report trace plain) told = by_reported new.locks old t (procedure_in_use old plain old.error_procedure)
 by_table old new t (ask.Broadcast script) told = by_posted new.locks old.posts.next t (others old t)
 by_table old new t ask.Take told = by_began new.locks told
@@ -154,10 +154,10 @@ by_table old new t (ask.Lock call) told = by_locks new.locks old.locks t (lock_n
 by_table old new t (ask.End code) told = by_deaths new.locks old t
 by_table old new t request told = nothing new.locks
 
-pub got_held : (moment : Moment) → All (IsHeld (acted moment.before moment.action).state.locks) (happened moment)
+pub got_held : (moment : Moment) → All (IsHeld (action_result moment.before moment.action).state.locks) (happenings_by moment)
 got_held moment =
     let old = moment.before in
-    let done = acted old moment.action in
+    let done = action_result old moment.action in
     All-append (IsHeld done.state.locks) (happens old done.state moment.action.thread moment.action.request done.gives.reply)
     (owners_changed old.channels done.state.channels)
     (by_table old done.state moment.action.thread moment.action.request done.gives.reply)

@@ -9,7 +9,7 @@ use Rattle.laws_shared.proofs.GotHolds.{IsHeld, got_held}
 use Rattle.laws_shared.proofs.LockCalls.{one_of, still_after}
 use Rattle.laws_shared.proofs.LockHolds.{Still, among, one-alone}
 use Rattle.laws_shared.specs.Actions.{Action, Acts, Moment, Reached, after, moments, more, none}
-use Rattle.laws_shared.specs.Happenings.{Happening, Happening as happening, happened, happenings, holders_in}
+use Rattle.laws_shared.specs.Happenings.{Happening, Happening as happening, happenings_by, happenings, holders_in}
 use Rattle.laws_shared.specs.HeldLocks.{HoldsLock, hold_in, hold_of, is_alone}
 use Rattle.laws_shared.specs.SharedLaws.{HoldStaysLaw, LocksHaveOneHolder, OneHolderLaw as OneHoldLaw}
 use Rattle.tt_locks.proofs.HolderLaw.{one_holder}
@@ -87,21 +87,21 @@ Mine alone t text what = alone ≡ true → (other : ℕ) → what ≡ happening
 
 got_mine : (state : State) (action : Action) (t : ℕ) (text : List ℕ) (alone : Bool) → HaveOneHolder (after state action).locks →
     hold_of (after state action) t text ≡ Some alone
-    → All (Mine alone t text) (happened (record { before = state; action = action }))
+    → All (Mine alone t text) (happenings_by (record { before = state; action = action }))
 unfolding Mine
 got_mine state action t text alone have holds =
     let table = (after state action).locks in
     All-weaker (IsHeld table) (Mine alone t text)
     (λ what held is other same.
     one_in table text t other (lock_of table text) refl have (holds ∙ ap Some is) (subst (IsHeld table) same held))
-    (happened (record { before = state; action = action })) (got_held (record { before = state; action = action }))
+    (happenings_by (record { before = state; action = action })) (got_held (record { before = state; action = action }))
 
 pub got_one : (state : State) (action : Action) (t other : ℕ) (text : List ℕ) → HaveOneHolder (after state action).locks →
     hold_of (after state action) t text ≡ Some true
-    → Contains (happened (record { before = state; action = action })) (happening.GetsHold text other) → other ≡ t
+    → Contains (happenings_by (record { before = state; action = action })) (happening.GetsHold text other) → other ≡ t
 unfolding Mine
 got_one state action t other text have holds got =
-    All-contains (Mine true t text) (happened (record { before = state; action = action })) (happening.GetsHold text other)
+    All-contains (Mine true t text) (happenings_by (record { before = state; action = action })) (happening.GetsHold text other)
     (got_mine state action t text true have holds) got refl other refl
 
 record Kept (old : State) (actions : List Action) (new : State) (t : ℕ) (text : List ℕ) (alone : Bool) : Type 0 where
@@ -122,7 +122,7 @@ along old new (action ∷ actions) t text alone have (more can rest) was holds =
     let later = along next new actions t text alone have_next rest now (All-tail holding first others holds) in
     record {
       stays = later.stays;
-      mine = All-append (Mine alone t text) (happened first) (flat_map happened others) (got_mine old action t text alone have_next now) later.mine;
+      mine = All-append (Mine alone t text) (happenings_by first) (flat_map happenings_by others) (got_mine old action t text alone have_next now) later.mine;
     }
 
 pub hold_stays : HoldStaysLaw

@@ -12,10 +12,10 @@ use Rattle.tt_lists.specs.declared.items.Split.TheVariants as split
 use Rattle.laws_shared.proofs.Deciding as deciding
 use Rattle.tt_calls.specs.Replies.{answers, refuses}
 use Rattle.tt_tsv.specs.Calls.{act, array_act, changes, empty_answer, exists_message, fills, is_own, moves_of, refills}
-use Rattle.tt_tsv.specs.Calls.{run, run_asked, table_after, unsets, waits}
-use Rattle.tt_tsv.specs.Arrays.{Table, added, array_of, changed, changes_in, element_of, emptied, held, is_held}
-use Rattle.tt_tsv.specs.Arrays.{is_held_by, let_go, with_array, makes_in, with_element, without_array, without_element}
-use Rattle.tt_tsv.specs.Words.{Asked, asked_of}
+use Rattle.tt_tsv.specs.Calls.{usage_answer, asked_answer, table_after, unsets, waits}
+use Rattle.tt_tsv.specs.Arrays.{Table, array_with_items, array_of, table_with_change, changes_in, element_of, array_without_elements, array_with_hold, is_held}
+use Rattle.tt_tsv.specs.Arrays.{is_held_by, array_without_hold, with_array, makes_in, with_element, without_array, without_element}
+use Rattle.tt_tsv.specs.Words.{Asked, usage_of_words}
 use Rattle.tt_tsv.specs.declared.array.Array.{Array}
 
 both : (name other key : List ℕ) → bytes_eq other key ≡ true → bytes_eq name key ≡ true → name ≡ other
@@ -28,14 +28,14 @@ unheld t array none is = go array.holder none is
     go None none is = cc is
     go (Some one) none is = cc none
 
-own-hold : (t : ℕ) (array : Array) → is_held_by t (held t array) ≡ true
+own-hold : (t : ℕ) (array : Array) → is_held_by t (array_with_hold t array) ≡ true
 own-hold t array = deciding.itself t
 
 -- a hold of several
-still : (t : ℕ) (array : Array) → (array.depth ≤ 1 → ⊥) → is_held_by t array ≡ true → is_held_by t (let_go array) ≡ true
+still : (t : ℕ) (array : Array) → (array.depth ≤ 1 → ⊥) → is_held_by t array ≡ true → is_held_by t (array_without_hold array) ≡ true
 still t array deep is = go (nat_le array.depth 1) refl
   where
-    go : (b : Bool) → nat_le array.depth 1 ≡ b → is_held_by t (let_go array) ≡ true
+    go : (b : Bool) → nat_le array.depth 1 ≡ b → is_held_by t (array_without_hold array) ≡ true
     go true few = let least : array.depth ≤ 1 = grind (arith, nat_tests, few) in absurd (deep least)
     go false few = rw few is
 
@@ -101,19 +101,19 @@ module _ (t : ℕ) (name other : List ℕ) where
       Stays t name table (changes_in change table other found)
   by_changed change keeps table None is own = own
   by_changed change keeps table (Some array) is own =
-      by_set table (change array) (λ same held. keeps array (subst (λ found. is_own t found ≡ true) is held)) own
+      by_set table (change array) (λ same array_with_hold. keeps array (subst (λ found. is_own t found ≡ true) is array_with_hold)) own
 
   by_made : (change : Array → Array) → Keeps change → (table : Table) (found : Option Array) → array_of table other ≡ found →
       Stays t name table (makes_in change table other found)
   by_made change keeps table None is own =
-      by_insert table _ (λ same held. let nobody : is_own t None ≡ true = subst (λ found. is_own t found ≡ true) is held in absurd (cc nobody)) own
+      by_insert table _ (λ same array_with_hold. let nobody : is_own t None ≡ true = subst (λ found. is_own t found ≡ true) is array_with_hold in absurd (cc nobody)) own
   by_made change keeps table (Some array) is own =
-      by_set table (change array) (λ same held. keeps array (subst (λ found. is_own t found ≡ true) is held)) own
+      by_set table (change array) (λ same array_with_hold. keeps array (subst (λ found. is_own t found ≡ true) is array_with_hold)) own
 
   by_put : (table : Table) (key value : List ℕ) → Stays t name table (with_array (with_element key value) table other)
   by_put table key value own = by_made (with_element key value) (λ array is. is) table (array_of table other) refl own
 
-  by_removed : (table : Table) (key : List ℕ) → Stays t name table (changed (without_element key) table other)
+  by_removed : (table : Table) (key : List ℕ) → Stays t name table (table_with_change (without_element key) table other)
   by_removed table key own = by_changed (without_element key) (λ array is. is) table (array_of table other) refl own
 
   by_change : (table : Table) (key : List ℕ) (change : _) → Stays t name table (changes table other key change).table
@@ -124,7 +124,7 @@ module _ (t : ℕ) (name other : List ℕ) where
   by_move table key new (Some value) own = go (is_some (element_of table other new))
     where
       without : Table
-      without = changed (without_element key) table other
+      without = table_with_change (without_element key) table other
 
       go : (b : Bool) →
           is_own t (array_of
@@ -138,16 +138,16 @@ module _ (t : ℕ) (name other : List ℕ) where
   by_unset table None is own = own
   by_unset table (Some array) is own = go (is_held array) refl
     where
-      go : (b : Bool) → is_held array ≡ b → is_own t (array_of (if b then changed emptied table other else without_array table other) name) ≡ true
-      go true any = by_changed emptied (λ array is. is) table (array_of table other) refl own
+      go : (b : Bool) → is_held array ≡ b → is_own t (array_of (if b then table_with_change array_without_elements table other else without_array table other) name) ≡ true
+      go true any = by_changed array_without_elements (λ array is. is) table (array_of table other) refl own
       go false none = by_remove table array is none own
 
   by_fill : (table : Table) (list : Split) → Stays t name table (fills table other list).table
   by_fill table (split.Bad fault) own = own
   by_fill table (split.Items items) own = go (length items % 2 == 0)
     where
-      go : (b : Bool) → is_own t (array_of (if b then empty_answer (with_array (added items) table other) else refuses table (codes "list must have an even number of elements")).table name) ≡ true
-      go true = by_made (added items) (λ array is. is) table (array_of table other) refl own
+      go : (b : Bool) → is_own t (array_of (if b then empty_answer (with_array (array_with_items items) table other) else refuses table (codes "list must have an even number of elements")).table name) ≡ true
+      go true = by_made (array_with_items items) (λ array is. is) table (array_of table other) refl own
       go false = own
 
   by_refill : (table : Table) (list : Split) → Stays t name table (refills table other list).table
@@ -155,12 +155,12 @@ module _ (t : ℕ) (name other : List ℕ) where
   by_refill table (split.Items items) own = go (length items % 2 == 0)
     where
       without : Table
-      without = changed emptied table other
+      without = table_with_change array_without_elements table other
 
-      go : (b : Bool) → is_own t (array_of (if b then empty_answer (with_array (added items) without other) else refuses table (codes "list must have an even number of elements")).table name) ≡ true
+      go : (b : Bool) → is_own t (array_of (if b then empty_answer (with_array (array_with_items items) without other) else refuses table (codes "list must have an even number of elements")).table name) ≡ true
       go true =
-          by_made (added items) (λ array is. is) without (array_of without other) refl
-          (by_changed emptied (λ array is. is) table (array_of table other) refl own)
+          by_made (array_with_items items) (λ array is. is) without (array_of without other) refl
+          (by_changed array_without_elements (λ array is. is) table (array_of table other) refl own)
       go false = own
 
   by_unset_here : (table : Table) → Stays t name table (unsets table other (array_of table other))
@@ -169,21 +169,21 @@ module _ (t : ℕ) (name other : List ℕ) where
   by_array : (table : Table) (asked : _) (words : List (List ℕ)) → Stays t name table (array_act table asked other words).table
   by_array table asked words own = grind (arith, own, by_unset_here table own, by_fill table, by_refill table)
 
-  by_run : (table : Table) (asked : _) (words : List (List ℕ)) → Stays t name table (run table asked (other ∷ words)).table
+  by_run : (table : Table) (asked : _) (words : List (List ℕ)) → Stays t name table (usage_answer table asked (other ∷ words)).table
   by_run table asked words own = grind (arith, own, by_move, by_array, by_change)
 
   by_unhold : (table : Table) (found : Option Array) → array_of table other ≡ found
       → (name ≡ other → (array : Array) → found ≡ Some array → array.depth ≤ 1 → ⊥)
-      → Stays t name table (changes_in let_go table other found)
+      → Stays t name table (changes_in array_without_hold table other found)
   by_unhold table None is deep own = own
   by_unhold table (Some array) is deep own =
-      by_set table (let_go array) (λ same held. still t array (deep same array refl) (subst (λ found. is_own t found ≡ true) is held)) own
+      by_set table (array_without_hold array) (λ same array_with_hold. still t array (deep same array refl) (subst (λ found. is_own t found ≡ true) is array_with_hold)) own
 
-by_asked : (t : ℕ) (name : List ℕ) (table : Table) (asked : Option Asked) → Stays t name table (run_asked table asked).table
+by_asked : (t : ℕ) (name : List ℕ) (table : Table) (asked : Option Asked) → Stays t name table (asked_answer table asked).table
 by_asked t name table None own = own
 by_asked t name table (Some asked) own = go asked.0 asked.1
   where
-    go : (which : _) (words : List (List ℕ)) → is_own t (array_of (run table which words).table name) ≡ true
+    go : (which : _) (words : List (List ℕ)) → is_own t (array_of (usage_answer table which words).table name) ≡ true
     go which [] = grind (arith, own)
     go which (other ∷ words) = by_run t name other table which words own
 
@@ -192,13 +192,13 @@ abbrev pub IsDeep : Table → (name : List ℕ) → Type 0
 IsDeep table name = (array : Array) → array_of table name ≡ Some array → array.depth ≤ 1 → ⊥
 
 by_call : (t : ℕ) (name : List ℕ) (table : Table) (call : TsvCall) → (call ≡ Unhold name → IsDeep table name) → Stays t name table (act table t call).table
-by_call t name table (Hold other) deep own = by_made t name other (held t) (λ array is. own-hold t array) table (array_of table other) refl own
+by_call t name table (Hold other) deep own = by_made t name other (array_with_hold t) (λ array is. own-hold t array) table (array_of table other) refl own
 by_call t name table (Unhold other) deep own = go (is_own t (array_of table other))
   where
-    go : (b : Bool) → is_own t (array_of (if b then answers (changed let_go table other) Go else refuses table []).table name) ≡ true
+    go : (b : Bool) → is_own t (array_of (if b then answers (table_with_change array_without_hold table other) Go else refuses table []).table name) ≡ true
     go true = by_unhold t name other table (array_of table other) refl (λ same. subst (λ one. IsDeep table one) same (deep (ap Unhold (sym same)))) own
     go false = own
-by_call t name table (Run words) deep own = by_asked t name table (asked_of words) own
+by_call t name table (Run words) deep own = by_asked t name table (usage_of_words words) own
 
 -- so it is after a call of its own
 pub own_call : (t : ℕ) (name : List ℕ) (table : Table) (call : TsvCall) → (call ≡ Unhold name → IsDeep table name) →

@@ -22,7 +22,7 @@ use Rattle.laws_shared.proofs.Mild.{HaveQueues, Mild}
 use Rattle.laws_shared.proofs.Tables.{by_remove, by_set, is_key, same_key, set_here}
 use Rattle.laws_shared.specs.KeptChannels.{arrivals}
 use Rattle.laws_shared.specs.Owners.{owner_at, owner_in}
-use Rattle.tt_shared.specs.Mail.{Queues, queue_of, queued}
+use Rattle.tt_shared.specs.Mail.{Queues, queue_of, queues_with_event}
 use Rattle.tt_shared.specs.State.{State}
 use Rattle.tt_threads.specs.Rows.{is_living}
 use Rattle.tt_threads.specs.declared.row.Row.{Row}
@@ -160,11 +160,11 @@ pub by_sent : (queues : Queues) (rows : List Row) (table : ChannelTable) (t to :
     AllHold queues rows table
     → channel_of table id ≡ Some channel → channel.owner ≡ Thread t → is_living rows t ≡ true → is_living rows to ≡ true → t ≢ to →
     queue_of queues to ≡ Some events
-    → AllHold (queued queues to false (event.Moved id)) rows (with_channel table id (with_owner channel (Moving (Some t) to)))
+    → AllHold (queues_with_event queues to false (event.Moved id)) rows (with_channel table id (with_owner channel (Moving (Some t) to)))
 by_sent queues rows table t to events id channel all there mine lives target differs place = record { each = λ text. go text (is_key text id) refl }
   where
     sent : Queues
-    sent = queued queues to false (event.Moved id)
+    sent = queues_with_event queues to false (event.Moved id)
 
     new : Channel
     new = with_owner channel (Moving (Some t) to)

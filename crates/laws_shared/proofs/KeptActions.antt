@@ -16,7 +16,7 @@ use Rattle.tt_calls.specs.declared.request.Request.TheVariants as ask
 use Rattle.tt_calls.specs.declared.start.Start.{Start}
 use Rattle.tt_chans.specs.Calls as channels
 use Rattle.tt_chans.specs.Channels.{ChannelTable, channel_of, is_standard}
-use Rattle.tt_chans.specs.Ends.{owned}
+use Rattle.tt_chans.specs.Ends.{own_channel}
 use Rattle.tt_chans.specs.declared.channel.Channel.{Channel}
 use Rattle.tt_chans.specs.declared.channel.Owner.{Owner}
 use Rattle.tt_chans.specs.declared.channel.Owner.TheVariants.{Thread, Detached, Moving}
@@ -37,13 +37,13 @@ use Rattle.laws_shared.specs.Actions.{Action, Acts, NumbersFit, Reached, after, 
 use Rattle.tt_pools.specs.Calls as pools
 use Rattle.tt_pools.specs.declared.step.PoolStep.{PoolStep}
 use Rattle.tt_shared.specs.Acts.{act, gives_of, moves, on_channels, pools_after, target_of}
-use Rattle.tt_shared.specs.Ends.{died, ended, hears, tells_died, with_died_event}
-use Rattle.tt_shared.specs.Mail.{Queues, first_in, queue_of, queued, with_queue, without_first_in}
+use Rattle.tt_shared.specs.Ends.{end_event, state_after_end, hears, tells_died, with_died_event}
+use Rattle.tt_shared.specs.Mail.{Queues, first_in, queue_of, queues_with_event, with_queue, without_first_in}
 use Rattle.tt_shared.specs.Sends.{come, takes, takes_first}
 use Rattle.tt_shared.specs.State.{State, is_marked, room, start_state}
 use Rattle.tt_shared.specs.declared.applied.Line.{Line}
 use Rattle.tt_shared.specs.declared.posts.VariablePost.{VariablePost}
-use Rattle.tt_threads.specs.Rows.{is_living, linked, row_of}
+use Rattle.tt_threads.specs.Rows.{is_living, linked_thread, row_of}
 use Rattle.tt_threads.specs.declared.row.Row.{Row}
 
 all_of : (state : State) → Kept state → AllHold state.queues state.rows state.channels
@@ -130,10 +130,10 @@ module _ (state : State) (t : ℕ) (lives : is_living state.rows t ≡ true) (ke
   refused thread text None message = kept
   refused thread text (Some to) message = kept
 
-  by_owner : (thread text : List ℕ) (target : Option ℕ) (channel : Channel) → linked state.rows thread ≡ target →
+  by_owner : (thread text : List ℕ) (target : Option ℕ) (channel : Channel) → linked_thread state.rows thread ≡ target →
       IsFound t (channel_of state.channels text) channel
       → Kept (sent thread text target (channels.transfers state.channels t thread text target channel))
-  by_owner thread text None channel named found = refused thread text None (channels.named (codes "thread \"") thread (codes "\" does not exist"))
+  by_owner thread text None channel named found = refused thread text None (channels.id_message (codes "thread \"") thread (codes "\" does not exist"))
   by_owner thread text (Some to) channel named found = go (to == t) refl
     where
       target : IsLinked state.rows to
@@ -157,20 +157,20 @@ module _ (state : State) (t : ℕ) (lives : is_living state.rows t ≡ true) (ke
   by_transfer thread text = go (is_standard text)
     where
       target : Option ℕ
-      target = linked state.rows thread
+      target = linked_thread state.rows thread
 
-      own : (found : Option Channel) → owned t (channel_of state.channels text) ≡ found
-          → Kept (sent thread text (linked state.rows thread)
-          (channels.if_owned (channels.transfers state.channels t thread text (linked state.rows thread)) state.channels t text))
-      own None is = rw (is, channels.if_owned) (refused thread text (linked state.rows thread) _)
+      own : (found : Option Channel) → own_channel t (channel_of state.channels text) ≡ found
+          → Kept (sent thread text (linked_thread state.rows thread)
+          (channels.if_owned (channels.transfers state.channels t thread text (linked_thread state.rows thread)) state.channels t text))
+      own None is = rw (is, channels.if_owned) (refused thread text (linked_thread state.rows thread) _)
       own (Some channel) is =
-          rw (is, channels.if_owned) (by_owner thread text (linked state.rows thread) channel refl (owned_is t (channel_of state.channels text) channel is))
+          rw (is, channels.if_owned) (by_owner thread text (linked_thread state.rows thread) channel refl (owned_is t (channel_of state.channels text) channel is))
 
-      go : (b : Bool) → Kept (sent thread text (linked state.rows thread)
+      go : (b : Bool) → Kept (sent thread text (linked_thread state.rows thread)
           (if b then replies.refuses state.channels (channels.standard_message text (chan.Transfer thread text)) else
-          channels.if_owned (channels.transfers state.channels t thread text (linked state.rows thread)) state.channels t text))
-      go true = refused thread text (linked state.rows thread) _
-      go false = own (owned t (channel_of state.channels text)) refl
+          channels.if_owned (channels.transfers state.channels t thread text (linked_thread state.rows thread)) state.channels t text))
+      go true = refused thread text (linked_thread state.rows thread) _
+      go false = own (own_channel t (channel_of state.channels text)) refl
 
   by_channels : (call : ChanCall) → is_transfer call ≡ false → (channels.table_after state.channels t (target_of state call) call).next < 2 ^ 64
       → Kept (record state { channels = channels.table_after state.channels t (target_of state call) call })
@@ -183,9 +183,9 @@ tell_one : (rows : List Row) (t : ℕ) (queues : Queues) (post : VariablePost) �
     × (length (with_died_event rows t queues post) ≡ length queues)
 tell_one rows t queues post = go (hears rows t post)
   where
-    go : (b : Bool) → SameArrivals queues (if b then queued queues post.sender false (died post.name) else queues)
-        × (length (if b then queued queues post.sender false (died post.name) else queues) ≡ length queues)
-    go true = (by_mail queues post.sender false (died post.name) (λ text. refl), many_mail queues post.sender false (died post.name))
+    go : (b : Bool) → SameArrivals queues (if b then queues_with_event queues post.sender false (end_event post.name) else queues)
+        × (length (if b then queues_with_event queues post.sender false (end_event post.name) else queues) ≡ length queues)
+    go true = (by_mail queues post.sender false (end_event post.name) (λ text. refl), many_mail queues post.sender false (end_event post.name))
     go false = (λ u text. refl, refl)
 
 tell : (rows : List Row) (t : ℕ) (posts : List VariablePost) (queues : Queues) → SameArrivals queues (tells_died rows t posts queues)
@@ -196,7 +196,7 @@ tell rows t (post ∷ posts) queues =
     let later = tell rows t posts (with_died_event rows t queues post) in
     (λ u text. later.0 u text ∙ first.0 u text, later.1 ∙ first.1)
 
-by_end : (state : State) (t : ℕ) (code : ℤ) → Kept state → IsDrawn state.channels → Kept (ended state t code)
+by_end : (state : State) (t : ℕ) (code : ℤ) → Kept state → IsDrawn state.channels → Kept (state_after_end state t code)
 by_end state t code kept drawn =
     let told = tell state.rows t (values_of state.posts.variables) state.queues in
     let queues = tells_died state.rows t (values_of state.posts.variables) state.queues in

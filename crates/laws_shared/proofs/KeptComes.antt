@@ -4,7 +4,7 @@ use Rattle.std.proofs.Common.{Option, Some, None, ap, refl, sym, subst, arith}
 use Rattle.std.proofs.lemmas.Bool.Decides.{nat_tests}
 use Rattle.tt_calls.specs.declared.event.Event.{Event}
 use Rattle.tt_calls.specs.declared.event.Event.TheVariants as event
-use Rattle.tt_chans.specs.Channels.{ChannelTable, channel_of, given, owner_given, with_channel}
+use Rattle.tt_chans.specs.Channels.{ChannelTable, channel_of, after_arrival, owner_given, with_channel}
 use Rattle.tt_chans.specs.Ends.{with_owner}
 use Rattle.tt_chans.specs.declared.channel.Channel.{Channel}
 use Rattle.tt_chans.specs.declared.channel.Owner.{Owner}
@@ -104,9 +104,9 @@ module _ (queues : Queues) (rows : List Row) (table : ChannelTable) (t : ℕ) (l
             by_set (λ one. OwnerHolds later rows text (owner_in one)) text id table.channels new (λ alike had. absurd (other alike))
             ((λ u. others (event.Moved id) text there not_it u ∙ (all.each text).0 u), (all.each text).1)
 
-    pub by_coming : AllHold later rows (given table t id (channel_of table id))
+    pub by_coming : AllHold later rows (after_arrival table t id (channel_of table id))
     by_coming = go (channel_of table id) refl
       where
-        go : (one : Option Channel) → channel_of table id ≡ one → AllHold later rows (given table t id one)
+        go : (one : Option Channel) → channel_of table id ≡ one → AllHold later rows (after_arrival table t id one)
         go None missing = let both : None ≡ Some (Moving from t) = sym (ap owner_in missing) ∙ moving in absurd (cc both)
         go (Some channel) found = come channel found

@@ -1,7 +1,7 @@
 -- Channels stay kept at the end of a thread, and when one has come.
 use Rattle.std.proofs.Common.{◌≡◌, ◌≢◌, ◌∙◌, ◌==◌, ◌||◌, ℕ, Bool, true, false, not, if◌then◌else◌, List, Option, Some, None, ap, refl, sym, subst, ℤ}
 use Rattle.tt_chans.specs.Channels.{ChannelTable, channel_of, table_after_end}
-use Rattle.tt_chans.specs.Ends.{after_end, is_sent, owner_after, stays_open, unsent}
+use Rattle.tt_chans.specs.Ends.{after_end, is_sent, owner_after, stays_open, owner_without_sender}
 use Rattle.tt_chans.specs.declared.channel.Channel.{Channel}
 use Rattle.tt_chans.specs.declared.channel.Owner.{Owner}
 use Rattle.tt_chans.specs.declared.channel.Owner.TheVariants.{Thread, Detached, Moving}
@@ -13,7 +13,7 @@ use Rattle.laws_shared.proofs.Kept.{AllHold, OwnerHolds}
 use Rattle.laws_shared.proofs.Lives.{by_end}
 use Rattle.laws_shared.specs.KeptChannels.{arrivals}
 use Rattle.laws_shared.specs.Owners.{owner_in}
-use Rattle.tt_shared.specs.Mail.{Queues, emptied}
+use Rattle.tt_shared.specs.Mail.{Queues, queues_without_events}
 use Rattle.tt_threads.specs.Rows.{is_living, with_end}
 use Rattle.tt_threads.specs.declared.row.Row.{Row}
 
@@ -35,17 +35,17 @@ owner-left t channel = go (stays_open t channel)
 
 module _ (queues later : Queues) (rows : List Row) (t : ℕ) (code : ℤ) (text : List ℕ) (arrive : SameArrivals queues later) where
   abbrev HoldsThen : Option Owner → Type 0
-  HoldsThen owner = OwnerHolds (emptied later t) (with_end rows t code) text owner
+  HoldsThen owner = OwnerHolds (queues_without_events later t) (with_end rows t code) text owner
 
-  counted : (u : ℕ) → arrivals (emptied later t) u text ≡ (if u == t then 0 else arrivals queues u text)
+  counted : (u : ℕ) → arrivals (queues_without_events later t) u text ≡ (if u == t then 0 else arrivals queues u text)
   counted u = by_emptying later t u text ∙ ap (λ n. if u == t then 0 else n) (arrive u text)
 
-  nothing : (owner : Option Owner) → ((u : ℕ) → arrivals queues u text ≡ 0) → (u : ℕ) → arrivals (emptied later t) u text ≡ 0
+  nothing : (owner : Option Owner) → ((u : ℕ) → arrivals queues u text ≡ 0) → (u : ℕ) → arrivals (queues_without_events later t) u text ≡ 0
   nothing owner none u = counted u ∙ ap (λ n. if u == t then 0 else n) (none u) ∙ deciding.still_zero (u == t)
 
   -- it was on its way to another thread, and still is
   on_its_way : (to : ℕ) → (to == t) ≡ false → ((u : ℕ) → arrivals queues u text ≡ (if to == u then 1 else 0)) → (u : ℕ) →
-      arrivals (emptied later t) u text ≡ (if to == u then 1 else 0)
+      arrivals (queues_without_events later t) u text ≡ (if to == u then 1 else 0)
   on_its_way to other had u = counted u ∙ ap (λ n. if u == t then 0 else n) (had u) ∙ go (u == t) refl
     where
       go : (b : Bool) → (u == t) ≡ b → deciding.zero_if b (deciding.one_if (to == u)) ≡ deciding.one_if (to == u)
@@ -79,7 +79,7 @@ module _ (queues later : Queues) (rows : List Row) (t : ℕ) (code : ℤ) (text 
       apart : s ≢ to
       apart = holds.1.1.1
 
-      go : (b : Bool) → (to == t) ≡ b → HoldsThen (if not b || true then Some (if b then Thread s else unsent t (Some s) to) else None)
+      go : (b : Bool) → (to == t) ≡ b → HoldsThen (if not b || true then Some (if b then Thread s else owner_without_sender t (Some s) to) else None)
       go true is = (
         λ u. counted u ∙ ap (λ n. if u == t then 0 else n) (holds.0 u)
             ∙ gone u (u == t) refl,
@@ -100,17 +100,17 @@ module _ (queues later : Queues) (rows : List Row) (t : ℕ) (code : ℤ) (text 
 
 pub by_ending : (queues later : Queues) (rows : List Row) (table : ChannelTable) (t : ℕ) (code : ℤ) → SameArrivals queues later → IsDrawn table →
     AllHold queues rows table
-    → AllHold (emptied later t) (with_end rows t code) (table_after_end table t)
+    → AllHold (queues_without_events later t) (with_end rows t code) (table_after_end table t)
 by_ending queues later rows table t code arrive drawn all = record {
   each = λ text.
-      subst (λ found. OwnerHolds (emptied later t) (with_end rows t code) text (owner_in found))
+      subst (λ found. OwnerHolds (queues_without_events later t) (with_end rows t code) text (owner_in found))
       (sym (left-is (stays_open t) (after_end t) text table.channels drawn.apart))
       (go text (channel_of table text) (all.each text));
 }
   where
     go : (text : List ℕ) (found : Option Channel) → OwnerHolds queues rows text (owner_in found) →
-        OwnerHolds (emptied later t) (with_end rows t code) text (owner_in (left (stays_open t) (after_end t) found))
+        OwnerHolds (queues_without_events later t) (with_end rows t code) text (owner_in (left (stays_open t) (after_end t) found))
     go text None holds = (nothing queues later rows t code text arrive None holds.0, tt)
     go text (Some channel) holds =
-        subst (λ owner. OwnerHolds (emptied later t) (with_end rows t code) text owner) (sym (owner-left t channel))
+        subst (λ owner. OwnerHolds (queues_without_events later t) (with_end rows t code) text owner) (sym (owner-left t channel))
         (goes_on queues later rows t code text arrive channel.owner holds)

@@ -8,7 +8,7 @@ use Rattle.laws_shared.proofs.Numbered.{by_number, length-put, numbered-suc}
 use Rattle.tt_ids.specs.Ids.{id}
 use Rattle.tt_ids.specs.declared.id.IdKind.TheVariants.{Thread}
 use Rattle.tt_threads.specs.Requests as threads
-use Rattle.tt_threads.specs.Rows.{found_from, is_linked, is_living, is_living_at, linked, lives, row_of, thread_of_id, with_end, with_end_at, with_row}
+use Rattle.tt_threads.specs.Rows.{found_from, is_linked, is_living, is_living_at, linked_thread, lives, row_of, thread_of_id, with_end, with_end_at, with_row}
 use Rattle.tt_threads.specs.declared.row.Life.{Life}
 use Rattle.tt_threads.specs.declared.row.Life.TheVariants.{Live, Marked, Ended}
 use Rattle.tt_threads.specs.declared.row.Row.{Row}
@@ -90,11 +90,11 @@ module _ (rows : List Row) where
   by_configures text words (Some n) = by_configure n words (row_of rows n) refl
 
   pub by_threads : (t : ℕ) (request : Request) → GoesOn rows (threads.act rows t request).rows
-  by_threads t (ask.Preserve text) = by_counts threads.preserved (λ row is. is) text (threads.named rows t text)
-  by_threads t (ask.Release text) = by_counts threads.released (λ row is. lives_at _ row.life is) text (threads.named rows t text)
+  by_threads t (ask.Preserve text) = by_counts threads.with_reference (λ row is. is) text (threads.thread_named rows t text)
+  by_threads t (ask.Release text) = by_counts threads.without_reference (λ row is. lives_at _ row.life is) text (threads.thread_named rows t text)
   by_threads t (ask.Join text) = by_joins t text (thread_of_id rows text)
   by_threads t (ask.AwaitEnd n) = by_exit (row_of rows n)
-  by_threads t (ask.Configure text words) = by_configures text words (linked rows text)
+  by_threads t (ask.Configure text words) = by_configures text words (linked_thread rows text)
   by_threads t request = on_same rows
 
 -- ---- others live on at the end of a thread, and a thread that is linked lives ----
@@ -140,13 +140,13 @@ found_at (row ∷ rows) start n text is = go (is_linked row.life) (bytes_eq text
 
     go : (first second : Bool) → is_linked row.life ≡ first → (if first && second then Some start else found_from is_linked (suc start) rows text) ≡ Some n
         → (found_from is_linked (suc start) rows text ≡ Some n → IsAt rows (suc start) n) → IsAt (row ∷ rows) start n
-    go true true linked is later =
+    go true true linked_thread is later =
         let same : start ≡ n = cc is in
-        record { place = 0; row = row; number = omega (arith, same); there = refl; is = linked }
-    go true false linked is later = more (later is)
-    go false second linked is later = more (later is)
+        record { place = 0; row = row; number = omega (arith, same); there = refl; is = linked_thread }
+    go true false linked_thread is later = more (later is)
+    go false second linked_thread is later = more (later is)
 
-pub linked_is : (rows : List Row) (text : List ℕ) (n : ℕ) → linked rows text ≡ Some n → IsLinked rows n
+pub linked_is : (rows : List Row) (text : List ℕ) (n : ℕ) → linked_thread rows text ≡ Some n → IsLinked rows n
 linked_is rows text n is =
     let at = found_at rows 1 n text is in
     let number : n ≡ suc at.place = omega (arith, at.number) in

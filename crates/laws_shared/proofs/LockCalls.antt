@@ -10,8 +10,8 @@ use Rattle.tt_calls.specs.declared.lock_call.LockCall.TheVariants as ask
 use Rattle.tt_calls.specs.Replies.{refuses}
 use Rattle.tt_locks.specs.Calls.{act, acts_on, begins, cond_waits, destroys, destroys_named, gives_up, is_first, table_after, waits, waits_where}
 use Rattle.tt_locks.specs.LockLaws.{HasOneHolder, HaveOneHolder}
-use Rattle.tt_locks.specs.Lock.{Done, does_go, family_of, free, held, locks, read_locks, unlocks, write_locks, has_none}
-use Rattle.tt_locks.specs.Lock.{is_among, is_owned, unheld, waits_alone}
+use Rattle.tt_locks.specs.Lock.{Done, does_go, family_of, free, with_hold, locks, read_locks, unlocks, write_locks, has_none}
+use Rattle.tt_locks.specs.Lock.{is_among, is_owned, without_hold, waits_alone}
 use Rattle.tt_locks.specs.Table.{LockTable, in_family, is_id, is_same, lock_in, lock_of, new_id, with_lock, with_new, without_lock}
 use Rattle.tt_locks.specs.declared.lock.Lock.{Lock}
 use Rattle.laws_shared.proofs.LockHolds.{Still, among, by_lock, by_read, by_take, by_unheld, by_unlock, by_write, none-among, unchanged}
@@ -153,8 +153,8 @@ module _ (table : LockTable) (t u : ℕ) (text : List ℕ) (alone : Bool) (have 
 
       go : (b : Bool) → is_owned lock u ≡ b → StillIn (gives_up table u condition mutex (Some lock)).table
       go true mine =
-          rw mine (by_begin (with_lock table mutex (unheld lock u)) condition
-          (by_with (Still t alone) table text mutex (unheld lock u)
+          rw mine (by_begin (with_lock table mutex (without_hold lock u)) condition
+          (by_with (Still t alone) table text mutex (without_hold lock u)
           (λ here had. by_unheld lock t u alone (if_here mutex lock there here) (one_of table mutex lock have there) (owned lock.kind mine)) same))
       go false mine = rw mine same
 
@@ -175,7 +175,7 @@ module _ (table : LockTable) (t u : ℕ) (text : List ℕ) (alone : Bool) (have 
       by_deed (λ lock t. does_go (record lock { waiters = [] })) family.Condition id (λ lock is found had. unchanged lock t u alone had)
   by_act (ask.CondWait condition mutex) free = by_wait condition mutex (lock_in table family.Condition condition)
   by_act (ask.CondTake condition mutex) free =
-      by_deed (λ lock t. does_go (held lock t false)) family.Mutex mutex (λ lock is found had. by_take lock t u alone had found.of)
+      by_deed (λ lock t. does_go (with_hold lock t false)) family.Mutex mutex (λ lock is found had. by_take lock t u alone had found.of)
 
   pub still_after : (call : LockCall) → StillIn (table_after table u call)
   still_after call = go (waits table u call) refl

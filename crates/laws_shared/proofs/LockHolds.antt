@@ -7,7 +7,7 @@ use Rattle.tt_calls.specs.declared.lock_call.Family.TheVariants as family
 use Rattle.tt_calls.specs.declared.lock_call.Kind.{Kind}
 use Rattle.tt_calls.specs.declared.lock_call.Kind.TheVariants.{Exclusive, Recursive, ReadWrite, Condition}
 use Rattle.tt_locks.specs.LockLaws.{AreAllowed, HasOneHolder}
-use Rattle.tt_locks.specs.Lock.{Done, family_of, has_none, held, holds, is_among, locks, read_locks, unheld, unlocks, waits_alone, without_one, write_locks}
+use Rattle.tt_locks.specs.Lock.{Done, family_of, has_none, with_hold, holds, is_among, locks, read_locks, without_hold, unlocks, waits_alone, without_one, write_locks}
 use Rattle.tt_locks.specs.Table.{is_same}
 use Rattle.tt_locks.specs.declared.lock.Lock.{Lock}
 use Rattle.laws_shared.proofs.Deciding as deciding
@@ -101,8 +101,8 @@ module _ (lock : Lock) (t u : ℕ) (alone : Bool) (was : hold_in t (Some lock) �
   pub by_lock : is_same family.Mutex (family_of lock.kind) ≡ true → Still t alone (Some (locks lock u).lock)
   by_lock of = go lock.kind refl
     where
-      taken : Still t alone (Some (held lock u false))
-      taken = alike t alone lock (held lock u false) was (mutex lock.kind false lock.writing of)
+      taken : Still t alone (Some (with_hold lock u false))
+      taken = alike t alone lock (with_hold lock u false) was (mutex lock.kind false lock.writing of)
 
       go : (kind : Kind) → lock.kind ≡ kind → Still t alone (Some (locks lock u).lock)
       go Recursive is = rw (is, locks) taken
@@ -110,8 +110,8 @@ module _ (lock : Lock) (t u : ℕ) (alone : Bool) (was : hold_in t (Some lock) �
       go ReadWrite is = rw (is, locks) (either (is_among lock.holders u) _ _ unchanged taken)
       go Condition is = rw (is, locks) (either (is_among lock.holders u) _ _ unchanged taken)
 
-  pub by_take : is_same family.Mutex (family_of lock.kind) ≡ true → Still t alone (Some (held lock u false))
-  by_take of = alike t alone lock (held lock u false) was (mutex lock.kind false lock.writing of)
+  pub by_take : is_same family.Mutex (family_of lock.kind) ≡ true → Still t alone (Some (with_hold lock u false))
+  by_take of = alike t alone lock (with_hold lock u false) was (mutex lock.kind false lock.writing of)
 
   choose : (b : Bool) (one other : Done) → (b ≡ true → Still t alone (Some one.lock)) → (b ≡ false → Still t alone (Some other.lock)) →
       Still t alone (Some (if b then one else other).lock)
@@ -119,7 +119,7 @@ module _ (lock : Lock) (t u : ℕ) (alone : Bool) (was : hold_in t (Some lock) �
   choose false one other first second = second refl
 
   pub by_read : Still t alone (Some (read_locks lock u).lock)
-  by_read = choose lock.writing _ _ (λ is. unchanged) (λ is. alike t alone lock (held lock u false) was (ap (is_alone lock.kind) (sym is)))
+  by_read = choose lock.writing _ _ (λ is. unchanged) (λ is. alike t alone lock (with_hold lock u false) was (ap (is_alone lock.kind) (sym is)))
 
   pub by_write : waits_alone lock u ≡ false → Still t alone (Some (write_locks lock u).lock)
   by_write free =
@@ -134,21 +134,21 @@ module _ (lock : Lock) (t u : ℕ) (alone : Bool) (was : hold_in t (Some lock) �
       alone-not out = none-among lock.holders t (others (has_none lock.holders) (is_among lock.holders u) out free) (among t lock alone was).0
 
   -- one hold less: of a lock that is written, the writer's
-  pub by_unheld : HasOneHolder lock → is_among lock.holders u ≡ true → Still t alone (Some (unheld lock u))
+  pub by_unheld : HasOneHolder lock → is_among lock.holders u ≡ true → Still t alone (Some (without_hold lock u))
   by_unheld allowed mine = go lock.kind lock.writing refl refl
     where
-      go : (kind : Kind) (writing : Bool) → lock.kind ≡ kind → lock.writing ≡ writing → Still t alone (Some (unheld lock u))
+      go : (kind : Kind) (writing : Bool) → lock.kind ≡ kind → lock.writing ≡ writing → Still t alone (Some (without_hold lock u))
       go Exclusive writing is w now holds =
-          alike t alone lock (unheld lock u) was (ap (λ kind. is_alone kind false) is ∙ ap (λ kind. is_alone kind lock.writing) (sym is)) now holds
+          alike t alone lock (without_hold lock u) was (ap (λ kind. is_alone kind false) is ∙ ap (λ kind. is_alone kind lock.writing) (sym is)) now holds
       go Recursive writing is w now holds =
-          alike t alone lock (unheld lock u) was (ap (λ kind. is_alone kind false) is ∙ ap (λ kind. is_alone kind lock.writing) (sym is)) now holds
+          alike t alone lock (without_hold lock u) was (ap (λ kind. is_alone kind false) is ∙ ap (λ kind. is_alone kind lock.writing) (sym is)) now holds
       go Condition writing is w now holds =
-          alike t alone lock (unheld lock u) was (ap (λ kind. is_alone kind false) is ∙ ap (λ kind. is_alone kind lock.writing) (sym is)) now holds
-      go ReadWrite false is w now holds = alike t alone lock (unheld lock u) was (ap (is_alone lock.kind) (sym w)) now holds
+          alike t alone lock (without_hold lock u) was (ap (λ kind. is_alone kind false) is ∙ ap (λ kind. is_alone kind lock.writing) (sym is)) now holds
+      go ReadWrite false is w now holds = alike t alone lock (without_hold lock u) was (ap (is_alone lock.kind) (sym w)) now holds
       go ReadWrite true is w now holds =
           let few : length lock.holders ≤ 1 =
           subst (λ kind. AreAllowed kind true lock.holders) is (subst (λ writing. AreAllowed lock.kind writing lock.holders) w allowed) in
-          absurd (none-left lock.holders u t few mine (among t (unheld lock u) now holds).0)
+          absurd (none-left lock.holders u t few mine (among t (without_hold lock u) now holds).0)
 
   pub by_unlock : HasOneHolder lock → Still t alone (Some (unlocks lock u).lock)
   by_unlock allowed =

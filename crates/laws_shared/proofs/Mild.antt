@@ -15,10 +15,10 @@ use Rattle.laws_shared.proofs.Lives.{GoesOn, by_threads}
 use Rattle.laws_shared.proofs.Numbered.{by_more}
 use Rattle.laws_shared.specs.KeptChannels.{brings}
 use Rattle.tt_shared.specs.Acts.{act, creates, has_newline, reads, starts, stops_unheld, with_workers}
-use Rattle.tt_shared.specs.Mail.{Queues, queued, variable_post}
-use Rattle.tt_shared.specs.Sends.{awaits_at, broadcasts_to, delivers_at, delivers_value, is_asked, is_due, mailed}
+use Rattle.tt_shared.specs.Mail.{Queues, queues_with_event, variable_post}
+use Rattle.tt_shared.specs.Sends.{awaits_at, broadcasts_to, delivers_at, delivers_value, is_asked, is_due, state_with_event}
 use Rattle.tt_shared.specs.Sends.{names_procedure, procedure_in_use, reports_to, sends, sends_linked, sends_named}
-use Rattle.tt_shared.specs.Sends.{sends_to, served, sets, takes_answer, tells}
+use Rattle.tt_shared.specs.Sends.{sends_to, reply_to_server, sets, takes_answer, tells}
 use Rattle.tt_shared.specs.State.{Acted, State, answers, is_not_asked, with_thread}
 use Rattle.tt_shared.specs.declared.applied.Line.{Line}
 use Rattle.tt_shared.specs.declared.applied.Line.TheVariants as line
@@ -28,7 +28,7 @@ use Rattle.tt_slots.specs.Waiting.{slot_of, with_state}
 use Rattle.tt_slots.specs.declared.slot.Slot.{Slot}
 use Rattle.tt_slots.specs.declared.slot.SlotState.TheVariants as slot
 use Rattle.tt_threads.specs.Requests as threads
-use Rattle.tt_threads.specs.Rows.{is_living, is_living_at, linked, new_row}
+use Rattle.tt_threads.specs.Rows.{is_living, is_living_at, linked_thread, new_row}
 use Rattle.tt_threads.specs.declared.row.Row.{Row}
 
 -- a thread has a queue
@@ -61,7 +61,7 @@ quietly old new channels queues rows = record {
 same : (state : State) → Mild state state
 same state = quietly state state refl refl refl
 
-mail : (state : State) (t : ℕ) (head : Bool) (event : Event) → ((text : List ℕ) → brings text event ≡ false) → Mild state (mailed state t head event)
+mail : (state : State) (t : ℕ) (head : Bool) (event : Event) → ((text : List ℕ) → brings text event ≡ false) → Mild state (state_with_event state t head event)
 mail state t head event quiet = record {
   channels = refl;
   many = λ many. many_mail state.queues t head event ∙ many;
@@ -127,7 +127,7 @@ by_names state t (Some name) = quietly state _ refl refl refl
 by_sends_to : (state : State) (t target : ℕ) (script : List ℕ) (mode : Mode) (variable : Option (List ℕ)) (head : Bool) →
     Mild state (sends_to state t target script mode variable head).state
 by_sends_to state t target script mode variable head =
-    and_on state _ _ (quietly state (record state { posts = Rattle.tt_shared.specs.Mail.posted state.posts t target mode variable }) refl refl refl)
+    and_on state _ _ (quietly state (record state { posts = Rattle.tt_shared.specs.Mail.posts_with_next state.posts t target mode variable }) refl refl refl)
     (mail _ target head _ (λ text. refl))
 
 by_linked : (state : State) (t target : ℕ) (script : List ℕ) (mode : Mode) (variable : Option (List ℕ)) (head : Bool) →
@@ -143,7 +143,7 @@ by_named state t text script mode variable head (Some target) = by_linked state 
 by_sends : (state : State) (t : ℕ) (text script : List ℕ) (mode : Mode) (variable : Option (List ℕ)) (head : Bool) →
     Mild state (sends state t text script mode variable head).state
 by_sends state t text script mode variable head =
-    by_if state (is_asked mode variable) _ _ (by_named state t text script mode variable head (linked state.rows text)) (same state)
+    by_if state (is_asked mode variable) _ _ (by_named state t text script mode variable head (linked_thread state.rows text)) (same state)
 
 by_awaits : (state : State) (t n : ℕ) (found : Option Slot) → Mild state (awaits_at state t n found).state
 by_awaits state t n None = same state
@@ -160,7 +160,7 @@ by_value state t n outcome (Some post) = by_if state _ _ _ (by_sets state _ post
 by_delivers : (state : State) (t n : ℕ) (outcome : Outcome) (found : Option Slot) → Mild state (delivers_at state t n outcome found).state
 by_delivers state t n outcome None = by_value state t n outcome (variable_post state.posts n)
 by_delivers state t n outcome (Some found) =
-    by_if state (is_due t found) (answers filled (served state t outcome)) (is_not_asked state) (quietly state filled refl refl refl) (same state)
+    by_if state (is_due t found) (answers filled (reply_to_server state t outcome)) (is_not_asked state) (quietly state filled refl refl refl) (same state)
   where
     filled : State
     filled = record state { posts = record state.posts { slots = with_state state.posts.slots n (slot.Result outcome) } }
@@ -200,7 +200,7 @@ mild state t (ask.WriteErr text) line is = same state
 mild state t ask.ReadLine line is = by_reads state line
 mild state t ask.StdinEof line is = same state
 mild state t (ask.Create joinable preserved script) line is = by_creates state joinable preserved script
-mild state t (ask.Release text) line is = by_stops state _ (threads.named state.rows t text) (by_threads_alone state t (ask.Release text))
+mild state t (ask.Release text) line is = by_stops state _ (threads.thread_named state.rows t text) (by_threads_alone state t (ask.Release text))
 mild state t (ask.ErrorProc name) line is = by_names state t name
 mild state t (ask.Send text script mode variable head) line is = by_sends state t text script mode variable head
 mild state t (ask.Await n) line is = by_awaits state t n (slot_of state.posts.slots n)

@@ -8,7 +8,7 @@ use Rattle.tt_calls.specs.declared.reply.Reply.TheVariants.{Refused}
 use Rattle.tt_calls.specs.declared.reply.Step.TheVariants as step
 use Rattle.tt_chans.specs.Calls as channels
 use Rattle.tt_chans.specs.Channels.{ChannelTable, channel_of, is_standard}
-use Rattle.tt_chans.specs.Ends.{is_owned, owned}
+use Rattle.tt_chans.specs.Ends.{is_owned, own_channel}
 use Rattle.tt_chans.specs.declared.channel.Channel.{Channel}
 use Rattle.tt_chans.specs.declared.channel.Owner.{Owner}
 use Rattle.tt_chans.specs.declared.channel.Owner.TheVariants.{Thread, Detached, Moving}
@@ -17,7 +17,7 @@ use Rattle.laws_shared.specs.Owners.{asks_owner, owner_in}
 use Rattle.tt_shared.specs.Acts.{moves, on_channels, target_of}
 use Rattle.tt_shared.specs.State.{State, answers, refuses, reply_of}
 
-not_owned : (t : ℕ) (found : Option Channel) → ¬ (owner_in found ≡ Some (Thread t)) → owned t found ≡ None
+not_owned : (t : ℕ) (found : Option Channel) → ¬ (owner_in found ≡ Some (Thread t)) → own_channel t found ≡ None
 not_owned t None other = refl
 not_owned t (Some channel) other = go channel.owner refl
   where
@@ -35,12 +35,12 @@ not_owned t (Some channel) other = go channel.owner refl
     go (Moving from to) is = if-not (is_owned channel.owner t) (ap (λ owner. is_owned owner t) is)
 
 module _ (table : ChannelTable) (t : ℕ) where
-  is-none : (does : Channel → Answered ChannelTable) (text : List ℕ) → owned t (channel_of table text) ≡ None →
+  is-none : (does : Channel → Answered ChannelTable) (text : List ℕ) → own_channel t (channel_of table text) ≡ None →
       channels.if_owned does table t text ≡ channels.not_found table text
   is-none does text none = rw (none, channels.if_owned) refl
 
   -- the call is one of those that the owner alone may make
-  refused : (target : Option ℕ) (call : ChanCall) → asks_owner call ≡ true → owned t (channel_of table (channels.id_of call)) ≡ None
+  refused : (target : Option ℕ) (call : ChanCall) → asks_owner call ≡ true → own_channel t (channel_of table (channels.id_of call)) ≡ None
       → channels.act_own table t target call ≡ channels.not_found table (channels.id_of call)
   refused target (chan.Put text bytes) asks none = is-none (channels.puts table text bytes) text none
   refused target (chan.GetLine text) asks none = is-none (channels.gets table text) text none
@@ -50,7 +50,7 @@ module _ (table : ChannelTable) (t : ℕ) where
   refused target (chan.Transfer thread text) asks none = is-none (channels.transfers table t thread text target) text none
   refused target call asks none = absurd (cc asks)
 
-  ready : (call : ChanCall) → asks_owner call ≡ true → owned t (channel_of table (channels.id_of call)) ≡ None → channels.waits table t call ≡ false
+  ready : (call : ChanCall) → asks_owner call ≡ true → own_channel t (channel_of table (channels.id_of call)) ≡ None → channels.waits table t call ≡ false
   ready (chan.GetLine text) asks none = ap (channels.waits_for_line table) none
   ready (chan.AwaitMove text) asks none = absurd (cc asks)
   ready call asks none = refl

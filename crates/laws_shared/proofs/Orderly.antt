@@ -12,7 +12,7 @@ use Rattle.laws_shared.proofs.Owners.{stays_after}
 use Rattle.laws_shared.proofs.Pipes.{flow_after}
 use Rattle.laws_shared.specs.Actions.{CanHappen, Moment, NumbersFit, after}
 use Rattle.laws_shared.specs.Orderly.{KeepsArrays, KeepsChannels, KeepsLocks, OrderlyLaw, later}
-use Rattle.laws_shared.specs.Pipes.{Flows, bytes_at, put_at, taken_at}
+use Rattle.laws_shared.specs.Pipes.{Flows, bytes_at, action_puts, action_takes}
 use Rattle.tt_locks.specs.LockLaws.{HaveOneHolder}
 
 keeps_arrays : (moment : Moment) → CanHappen moment.before moment.action → KeepsArrays moment
@@ -64,7 +64,7 @@ keeps_channels moment can kept drawn small =
       owned = λ t text own keeps. stays_after state t action.thread text drawn own action.request action.line
           (λ me gives. keeps record { thread = me; gives = gives }) small;
       flows = λ id.
-          flows state.channels.next id (bytes_at state.channels id) (bytes_at (later moment).channels id) (put_at id moment) (taken_at id moment)
+          flows state.channels.next id (bytes_at state.channels id) (bytes_at (later moment).channels id) (action_puts id moment) (action_takes id moment)
           (flow_after state id action.thread action.request action.line drawn small);
       kept = are_kept (later moment) (kept_after state action.thread action.request action.line can.lives kept drawn small);
     }

@@ -7,7 +7,7 @@ use Rattle.tt_calls.specs.declared.chan_call.ChanCall.{ChanCall}
 use Rattle.tt_calls.specs.declared.chan_call.ChanCall.TheVariants as chan
 use Rattle.tt_calls.specs.declared.request.Request.{Request}
 use Rattle.tt_calls.specs.declared.request.Request.TheVariants as ask
-use Rattle.tt_chans.specs.Channels.{ChannelTable, channel_of, given, owner_given, table_after_end, with_channel, with_pipe, without_channel}
+use Rattle.tt_chans.specs.Channels.{ChannelTable, channel_of, after_arrival, owner_given, table_after_end, with_channel, with_pipe, without_channel}
 use Rattle.tt_chans.specs.Ends.{after_end, owner_after, stays_open, with_owner}
 use Rattle.tt_chans.specs.declared.channel.Channel.{Channel}
 use Rattle.tt_chans.specs.declared.channel.Owner.{Owner}
@@ -93,7 +93,7 @@ module _ (state : State) (t u : ℕ) (text : List ℕ) (drawn : IsDrawn state.ch
       (λ same. absurd (not_there t _ (write_new table drawn small) (subst (λ one. owner_at table one ≡ Some (Thread t)) same own)))
       own
 
-  by_come : (id : List ℕ) (found : Option Channel) → channel_of table id ≡ found → Owns (given table u id found)
+  by_come : (id : List ℕ) (found : Option Channel) → channel_of table id ≡ found → Owns (after_arrival table u id found)
   by_come id None there small = own
   by_come id (Some channel) there small =
       by_new id channel (with_owner channel (owner_given u channel.owner)) there (λ same whose. ap (owner_given u) whose) small

@@ -7,9 +7,9 @@ use Rattle.tt_calls.specs.declared.reply.Reply.TheVariants as reply
 use Rattle.tt_calls.specs.declared.reply.Step.TheVariants as step
 use Rattle.tt_chans.proofs.LineLaw.{line}
 use Rattle.tt_calls.specs.Replies.{Answered, refuses}
-use Rattle.tt_chans.specs.Calls.{act, gets, if_owned, named, puts, puts_at, standard_message, step_after, table_after, took, waits}
+use Rattle.tt_chans.specs.Calls.{act, gets, if_owned, id_message, puts, puts_at, standard_message, step_after, table_after, took, waits}
 use Rattle.tt_chans.specs.Channels.{ChannelTable, channel_of, is_standard, with_channel}
-use Rattle.tt_chans.specs.Ends.{Taken, gets_line, owned, puts_into, reads, rest_reply, takes_line, takes_rest}
+use Rattle.tt_chans.specs.Ends.{Taken, gets_line, own_channel, puts_into, reads, rest_reply, takes_line, takes_rest}
 use Rattle.tt_chans.specs.Lines.{first_line, has_line, later_lines}
 use Rattle.tt_chans.specs.declared.channel.Channel.{Channel}
 use Rattle.tt_chans.specs.declared.channel.End.{End}
@@ -18,7 +18,7 @@ use Rattle.laws_shared.proofs.Deciding as deciding
 use Rattle.laws_shared.proofs.Channels.{owned_is}
 use Rattle.laws_shared.proofs.Flows.{Flow, flow_same, opened}
 use Rattle.laws_shared.proofs.Tables.{by_set, set_here}
-use Rattle.laws_shared.specs.Pipes.{bytes_at, bytes_in, bytes_of, has_newline, put_into, taken_with}
+use Rattle.laws_shared.specs.Pipes.{bytes_at, bytes_in, bytes_of, has_newline, bytes_into, line_takes}
 use Rattle.tt_shared.specs.State.{reply_of}
 
 module _ (table : ChannelTable) (id : List ℕ) where
@@ -46,9 +46,9 @@ module _ (table : ChannelTable) (id : List ℕ) where
 
   module _ (text bytes : List ℕ) where
     abbrev Puts : Answered ChannelTable → Type 0
-    Puts answered = After answered.table (put_into id bytes (channel_of table text) answered.reply) []
+    Puts answered = After answered.table (bytes_into id bytes (channel_of table text) answered.reply) []
 
-    no_put : (found : Option Channel) (message : List ℕ) → put_into id bytes found (reply.Refused message) ≡ []
+    no_put : (found : Option Channel) (message : List ℕ) → bytes_into id bytes found (reply.Refused message) ≡ []
     no_put None message = refl
     no_put (Some channel) message = refl
 
@@ -61,7 +61,7 @@ module _ (table : ChannelTable) (id : List ℕ) where
         → Puts (took table channel.other (puts_into reader bytes (Reads before ended)))
     goes_in channel reader before ended there names is =
         subst (λ put. After (with_channel table channel.other (reads reader (before ++ bytes) ended)) put [])
-        (sym (ap (λ found. put_into id bytes found reply.Go) there)) (go (bytes_eq channel.other id) refl)
+        (sym (ap (λ found. bytes_into id bytes found reply.Go) there)) (go (bytes_eq channel.other id) refl)
       where
         go : (b : Bool) → bytes_eq channel.other id ≡ b →
             After (with_channel table channel.other (reads reader (before ++ bytes) ended)) (if b then bytes else []) []
@@ -95,9 +95,9 @@ module _ (table : ChannelTable) (id : List ℕ) where
         go (Reads before ended) is = rw (is, puts) (refused _)
 
     by_put : (t : ℕ) → Puts (if_owned (puts table text bytes) table t text)
-    by_put t = go (owned t (channel_of table text)) refl
+    by_put t = go (own_channel t (channel_of table text)) refl
       where
-        go : (found : Option Channel) → owned t (channel_of table text) ≡ found → Puts (if_owned (puts table text bytes) table t text)
+        go : (found : Option Channel) → own_channel t (channel_of table text) ≡ found → Puts (if_owned (puts table text bytes) table t text)
         go None is = rw (is, if_owned) (refused _)
         go (Some channel) is = rw (is, if_owned) (by_writer channel (owned_is t (channel_of table text) channel is).there)
 
@@ -112,12 +112,12 @@ module _ (table : ChannelTable) (id : List ℕ) where
 
   module _ (text : List ℕ) where
     abbrev Gets : Answered ChannelTable → Type 0
-    Gets answered = After answered.table [] (if bytes_eq text id then taken_with (has_newline (bytes_at table id)) answered.reply else [])
+    Gets answered = After answered.table [] (if bytes_eq text id then line_takes (has_newline (bytes_at table id)) answered.reply else [])
 
     not_got : (message : List ℕ) → Gets (refuses table message)
     not_got message = go (bytes_eq text id)
       where
-        go : (b : Bool) → After table [] (if b then taken_with (has_newline (bytes_at table id)) (reply.Refused message) else [])
+        go : (b : Bool) → After table [] (if b then line_takes (has_newline (bytes_at table id)) (reply.Refused message) else [])
         go true = same
         go false = same
 
@@ -132,7 +132,7 @@ module _ (table : ChannelTable) (id : List ℕ) where
         flows
 
     -- a line and its newline, or the rest
-    rest_taken : (bytes : List ℕ) → taken_with false (rest_reply bytes) ≡ bytes
+    rest_taken : (bytes : List ℕ) → line_takes false (rest_reply bytes) ≡ bytes
     rest_taken [] = refl
     rest_taken (b ∷ bytes) = refl
 
@@ -145,12 +145,12 @@ module _ (table : ChannelTable) (id : List ℕ) where
           if newline then record { channel = reads channel (later_lines bytes) ended; reply = reply.Line (first_line bytes) } else takes_rest channel bytes
 
       got : text ≡ id → (newline : Bool) → has_line bytes ≡ newline →
-          After (with_channel table text (line_or_rest newline).channel) [] (taken_with newline (line_or_rest newline).reply)
+          After (with_channel table text (line_or_rest newline).channel) [] (line_takes newline (line_or_rest newline).reply)
       got mine true has =
           here channel (reads channel (later_lines bytes) ended) bytes (later_lines bytes) (first_line bytes ++ 10 ∷ []) ended ended there is refl mine
           (line_taken bytes has)
       got mine false has =
-          here channel (reads channel [] true) bytes [] (taken_with false (rest_reply bytes)) ended true there is refl mine
+          here channel (reads channel [] true) bytes [] (line_takes false (rest_reply bytes)) ended true there is refl mine
           (ap (λ taken. taken ++ []) (sym (rest_taken bytes)))
 
       by_line : Gets (took table text (takes_line channel bytes ended))
@@ -158,13 +158,13 @@ module _ (table : ChannelTable) (id : List ℕ) where
         where
           go : (b : Bool) → bytes_eq text id ≡ b
               → After (with_channel table text (takes_line channel bytes ended).channel) []
-              (if b then taken_with (has_newline (bytes_at table id)) (takes_line channel bytes ended).reply else [])
+              (if b then line_takes (has_newline (bytes_at table id)) (takes_line channel bytes ended).reply else [])
           go true same_id =
               let mine : text ≡ id = deciding.same_text text id same_id in
               let newline : has_newline (bytes_at table id) ≡ has_line bytes =
               ap has_newline (ap (bytes_at table) (sym mine) ∙ ap bytes_in there ∙ ap bytes_of is) in
               subst (λ one. After (with_channel table text (takes_line channel bytes ended).channel) []
-              (taken_with one (takes_line channel bytes ended).reply)) (sym newline)
+              (line_takes one (takes_line channel bytes ended).reply)) (sym newline)
               (got mine (has_line bytes) refl)
           go false other =
               elsewhere text (takes_line channel bytes ended).channel
@@ -178,7 +178,7 @@ module _ (table : ChannelTable) (id : List ℕ) where
           where
             wrong : (b : Bool) →
                 After (with_channel table text channel) []
-                (if b then taken_with (has_newline (bytes_at table id)) (gets_line channel text Writes).reply else [])
+                (if b then line_takes (has_newline (bytes_at table id)) (gets_line channel text Writes).reply else [])
             wrong true = alike text channel channel there refl
             wrong false = alike text channel channel there refl
 
@@ -187,10 +187,10 @@ module _ (table : ChannelTable) (id : List ℕ) where
         go (Reads bytes ended) is = by_line channel bytes ended there is
 
     by_get : (t : ℕ) → Gets (if_owned (gets table text) table t text)
-    by_get t = go (owned t (channel_of table text)) refl
+    by_get t = go (own_channel t (channel_of table text)) refl
       where
-        go : (found : Option Channel) → owned t (channel_of table text) ≡ found → Gets (if_owned (gets table text) table t text)
-        go None is = rw (is, if_owned) (not_got (named (codes "can not find channel named \"") text (codes "\"")))
+        go : (found : Option Channel) → own_channel t (channel_of table text) ≡ found → Gets (if_owned (gets table text) table t text)
+        go None is = rw (is, if_owned) (not_got (id_message (codes "can not find channel named \"") text (codes "\"")))
         go (Some channel) is = rw (is, if_owned) (by_reader_end channel (owned_is t (channel_of table text) channel is).there)
 
     get_answered : (t : ℕ) (target : Option ℕ) → Gets (act table t target (chan.GetLine text))

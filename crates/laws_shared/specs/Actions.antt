@@ -15,11 +15,11 @@ pub record Action : Type 0 where
   pub line : Line
 
 -- what an action gives, and the state after it
-abbrev pub acted : State → Action → Acted
-acted state action = act state action.thread action.request action.line
+abbrev pub action_result : State → Action → Acted
+action_result state action = act state action.thread action.request action.line
 
 abbrev pub after : State → Action → State
-after state action = (acted state action).state
+after state action = (action_result state action).state
 
 -- an action can happen: its thread lives, and need not wait
 pub record CanHappen (state : State) (action : Action) : Type 0 where

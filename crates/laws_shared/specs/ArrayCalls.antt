@@ -6,7 +6,7 @@ use Rattle.tt_calls.specs.declared.reply.Step.{Step}
 use Rattle.tt_calls.specs.declared.request.Request.{Request}
 use Rattle.tt_calls.specs.declared.request.Request.TheVariants as ask
 use Rattle.tt_calls.specs.declared.tsv_call.TsvCall.{TsvCall}
-use Rattle.laws_shared.specs.Actions.{Action, Moment, acted, moments}
+use Rattle.laws_shared.specs.Actions.{Action, Moment, action_result, moments}
 use Rattle.tt_shared.specs.State.{State}
 use Rattle.tt_tsv.specs.Calls.{step_after, table_after}
 use Rattle.tt_tsv.specs.Arrays.{Table}
@@ -34,7 +34,7 @@ reply_where None reply = None
 reply_where (Some call) reply = Some reply
 
 abbrev pub array_reply : Moment → Option Reply
-array_reply moment = reply_where (array_call moment.action) (acted moment.before moment.action).gives.reply
+array_reply moment = reply_where (array_call moment.action) (action_result moment.before moment.action).gives.reply
 
 abbrev pub array_replies : State → List Action → List Reply
 array_replies state actions = filter_map array_reply (moments state actions)

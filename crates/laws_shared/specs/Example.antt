@@ -15,7 +15,7 @@ use Rattle.tt_chans.specs.declared.channel.Owner.TheVariants.{Thread, Detached, 
 use Rattle.laws_shared.specs.Actions.{Action}
 use Rattle.laws_shared.specs.Happenings.{Began, Died, Finished, Frees, Got, GetsHold, Nobody, Owner, Posted, Set}
 use Rattle.laws_shared.specs.Happenings.{Variable, Waiting, happenings}
-use Rattle.laws_shared.specs.Pipes.{put, taken}
+use Rattle.laws_shared.specs.Pipes.{bytes_put, bytes_taken}
 use Rattle.tt_shared.specs.State.{State, start_state}
 use Rattle.tt_shared.specs.declared.applied.Line.TheVariants.{NotRead}
 
@@ -96,5 +96,5 @@ pub record WorkedHappenings : Type 0 where
       ∷ Owner (codes "chan1") (Thread 2)
       ∷ Owner (codes "chan1") Detached
       ∷ []
-  pub put : put (codes "chan1") main pipes ≡ codes "ab\ncd"
-  pub taken : taken (codes "chan1") main pipes ≡ codes "ab\n"
+  pub put : bytes_put (codes "chan1") main pipes ≡ codes "ab\ncd"
+  pub taken : bytes_taken (codes "chan1") main pipes ≡ codes "ab\n"

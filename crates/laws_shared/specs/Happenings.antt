@@ -17,7 +17,7 @@ use Rattle.tt_chans.specs.Channels.{ChannelTable}
 use Rattle.tt_chans.specs.declared.channel.Channel.{Channel}
 use Rattle.tt_chans.specs.declared.channel.Owner as owners
 use Rattle.tt_chans.specs.declared.channel.Owner.TheVariants.{Thread, Detached, Moving}
-use Rattle.laws_shared.specs.Actions.{Action, Moment, acted, moments}
+use Rattle.laws_shared.specs.Actions.{Action, Moment, action_result, moments}
 use Rattle.laws_shared.specs.Owners.{owner_at}
 use Rattle.tt_locks.specs.Table.{LockTable, lock_of}
 use Rattle.tt_locks.specs.declared.lock.Lock.{Lock}
@@ -29,7 +29,7 @@ use Rattle.tt_shared.specs.declared.posts.VariablePost.{VariablePost}
 use Rattle.tt_shared.specs.declared.reports.ErrorProcedure.{ErrorProcedure}
 use Rattle.tt_slots.specs.Waiting.{slot_of}
 use Rattle.tt_slots.specs.declared.slot.Slot.{Slot}
-use Rattle.tt_threads.specs.Rows.{is_living, linked, row_of}
+use Rattle.tt_threads.specs.Rows.{is_living, linked_thread, row_of}
 use Rattle.tt_threads.specs.declared.row.Row.{Row}
 
 -- who gets the answer of a post: nobody, its sender, who waits, or a variable of its sender
@@ -59,13 +59,13 @@ recipient_of mode.Waits variable = Waiting
 recipient_of mode.Later None = Nobody
 recipient_of mode.Later (Some name) = Variable
 
-abbrev pub sent : ℕ → (target : Option ℕ) → Recipient → (head : Bool) → Reply → List Happening
-sent t (Some target) recipient head (reply.Posted n) = Posted n t target recipient head ∷ []
-sent t target recipient head answered = []
+abbrev pub send_happenings : ℕ → (target : Option ℕ) → Recipient → (head : Bool) → Reply → List Happening
+send_happenings t (Some target) recipient head (reply.Posted n) = Posted n t target recipient head ∷ []
+send_happenings t target recipient head answered = []
 
-abbrev pub reported : State → ℕ → Option ErrorProcedure → List Happening
-reported state t None = []
-reported state t (Some procedure) = Posted state.posts.next t procedure.thread Nobody false ∷ []
+abbrev pub report_happenings : State → ℕ → Option ErrorProcedure → List Happening
+report_happenings state t None = []
+report_happenings state t (Some procedure) = Posted state.posts.next t procedure.thread Nobody false ∷ []
 
 -- thread::broadcast: to each linked thread but oneself, by number
 abbrev pub others : State → ℕ → List ℕ
@@ -74,15 +74,15 @@ others state t =
     (λ number. not (number == t) && is_linked_row (row_of state.rows number))
     (range_with_len 1 (length state.rows))
 
-abbrev pub posted_from : (n t : ℕ) → (targets : List ℕ) → List Happening
-posted_from n t [] = []
-posted_from n t (target ∷ targets) = Posted n t target Nobody false ∷ posted_from (suc n) t targets
+abbrev pub posts_from : (n t : ℕ) → (targets : List ℕ) → List Happening
+posts_from n t [] = []
+posts_from n t (target ∷ targets) = Posted n t target Nobody false ∷ posts_from (suc n) t targets
 
 -- ---- events and answers ----
 
-abbrev pub began : Reply → List Happening
-began (reply.Event (event.Script n script answer plain)) = Began n ∷ []
-began answered = []
+abbrev pub begin_happenings : Reply → List Happening
+begin_happenings (reply.Event (event.Script n script answer plain)) = Began n ∷ []
+begin_happenings answered = []
 
 abbrev pub got : (n : ℕ) → Reply → List Happening
 got n reply.Died = Got n reply.Died ∷ []
@@ -90,18 +90,18 @@ got n (reply.Answer outcome) = Got n (reply.Answer outcome) ∷ []
 got n answered = []
 
 -- the variable of the sender, if that has not ended
-abbrev pub set_of : List Row → (n : ℕ) → (value : List ℕ) → Option VariablePost → List Happening
-set_of rows n value None = []
-set_of rows n value (Some post) = if is_living rows post.sender then Set n value ∷ [] else []
+abbrev pub variable_happenings : List Row → (n : ℕ) → (value : List ℕ) → Option VariablePost → List Happening
+variable_happenings rows n value None = []
+variable_happenings rows n value (Some post) = if is_living rows post.sender then Set n value ∷ [] else []
 
-abbrev pub set_where : State → (n : ℕ) → (value : List ℕ) → Option Slot → List Happening
-set_where state n value None = set_of state.rows n value (variable_post state.posts n)
-set_where state n value (Some slot) = []
+abbrev pub slot_happenings : State → (n : ℕ) → (value : List ℕ) → Option Slot → List Happening
+slot_happenings state n value None = variable_happenings state.rows n value (variable_post state.posts n)
+slot_happenings state n value (Some slot) = []
 
-abbrev pub delivered : State → (n : ℕ) → Outcome → Reply → List Happening
-delivered state n outcome (reply.Served stops) =
-    Finished n outcome ∷ set_where state n outcome.value (slot_of state.posts.slots n)
-delivered state n outcome answered = []
+abbrev pub answer_happenings : State → (n : ℕ) → Outcome → Reply → List Happening
+answer_happenings state n outcome (reply.Served stops) =
+    Finished n outcome ∷ slot_happenings state n outcome.value (slot_of state.posts.slots n)
+answer_happenings state n outcome answered = []
 
 -- ---- the end of a thread ----
 
@@ -173,26 +173,27 @@ owners_changed old new = flat_map (owner_changed old) new.channels
 -- the table, but for owners: a line for each request by which something happens
 abbrev pub happens : (old new : State) → (t : ℕ) → Request → Reply → List Happening
 happens old new t (ask.Send text script mode variable head) answered =
-    sent t (linked old.rows text) (recipient_of mode variable) head answered
-happens old new t (ask.Report trace plain) answered = reported old t (procedure_in_use old plain old.error_procedure)
-happens old new t (ask.Broadcast script) answered = posted_from old.posts.next t (others old t)
-happens old new t ask.Take answered = began answered
-happens old new t ask.TakeReady answered = began answered
-happens old new t (ask.Pool call) answered = began answered
-happens old new t (ask.Deliver n outcome) answered = delivered old n outcome answered
+    send_happenings t (linked_thread old.rows text) (recipient_of mode variable) head answered
+happens old new t (ask.Report trace plain) answered =
+    report_happenings old t (procedure_in_use old plain old.error_procedure)
+happens old new t (ask.Broadcast script) answered = posts_from old.posts.next t (others old t)
+happens old new t ask.Take answered = begin_happenings answered
+happens old new t ask.TakeReady answered = begin_happenings answered
+happens old new t (ask.Pool call) answered = begin_happenings answered
+happens old new t (ask.Deliver n outcome) answered = answer_happenings old n outcome answered
 happens old new t (ask.Await n) answered = got n answered
 happens old new t (ask.Lock call) answered = holds_changed old.locks new.locks t (lock_named call)
 happens old new t (ask.End code) answered = deaths old t
 happens old new t request answered = []
 
 -- what happened by an action
-abbrev pub happened : Moment → List Happening
-happened moment =
+abbrev pub happenings_by : Moment → List Happening
+happenings_by moment =
     let old = moment.before in
-    let done = acted old moment.action in
+    let done = action_result old moment.action in
     happens old done.state moment.action.thread moment.action.request done.gives.reply
     ++ owners_changed old.channels done.state.channels
 
 -- what happened by a list of actions, in order
 abbrev pub happenings : State → List Action → List Happening
-happenings state actions = flat_map happened (moments state actions)
+happenings state actions = flat_map happenings_by (moments state actions)

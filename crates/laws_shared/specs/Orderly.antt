@@ -6,13 +6,13 @@ use Rattle.tt_calls.specs.declared.request.Request.TheVariants as ask
 use Rattle.tt_chans.specs.Calls.{id_of}
 use Rattle.tt_chans.specs.Channels.{is_standard}
 use Rattle.laws_shared.specs.Actions.{CanHappen, Moment, NumbersFit, Reached, after}
-use Rattle.laws_shared.specs.Happenings.{Happening as happening, happened}
+use Rattle.laws_shared.specs.Happenings.{Happening as happening, happenings_by}
 use Rattle.laws_shared.specs.HeldArrays.{EndsHold, HoldsArray, IsOn}
 use Rattle.laws_shared.specs.HeldLocks.{HoldsLock, hold_of}
 use Rattle.laws_shared.specs.KeptChannels.{AreKept}
 use Rattle.laws_shared.specs.SharedLaws.{ArraysStandAlone, IsNotFound, LocksHaveOneHolder}
 use Rattle.laws_shared.specs.Owners.{GivesUp, OwnsChannel, asks_owner}
-use Rattle.laws_shared.specs.Pipes.{Flows, bytes_at, put_at, taken_at}
+use Rattle.laws_shared.specs.Pipes.{Flows, bytes_at, action_puts, action_takes}
 use Rattle.tt_shared.specs.State.{State}
 
 -- the state after a moment's action
@@ -48,7 +48,7 @@ pub record KeepsLocks (moment : Moment) : Type 0 where
   pub none :
       (t other : ℕ) (text : List ℕ) →
       hold_of (later moment) t text ≡ Some true →
-      Contains (happened moment) (happening.GetsHold text other) →
+      Contains (happenings_by moment) (happening.GetsHold text other) →
       other ≡ t
 
 -- ---- channels ----
@@ -73,8 +73,8 @@ pub record KeepsChannels (moment : Moment) : Type 0 where
       Flows
       (bytes_at moment.before.channels id)
       (bytes_at (later moment).channels id)
-      (put_at id moment)
-      (taken_at id moment)
+      (action_puts id moment)
+      (action_takes id moment)
   pub kept : AreKept (later moment)
 
 -- ---- an action ----

@@ -12,7 +12,7 @@ use Rattle.tt_chans.specs.Lines.{has_line}
 use Rattle.tt_chans.specs.declared.channel.Channel.{Channel}
 use Rattle.tt_chans.specs.declared.channel.End.{End}
 use Rattle.tt_chans.specs.declared.channel.End.TheVariants.{Reads, Writes}
-use Rattle.laws_shared.specs.Actions.{Action, Moment, acted, moments}
+use Rattle.laws_shared.specs.Actions.{Action, Moment, action_result, moments}
 use Rattle.tt_shared.specs.State.{State}
 
 -- the bytes that the read end of an id has; none if it was closed, or never made
@@ -30,13 +30,14 @@ bytes_at table id = bytes_in (channel_of table id)
 -- ---- puts ----
 
 -- what a call that is answered puts into the read end of an id: the one that its channel names as the other end
-abbrev pub put_into : (id bytes : List ℕ) → Option Channel → Reply → List ℕ
-put_into id bytes (Some channel) reply.Go = if bytes_eq channel.other id then bytes else []
-put_into id bytes found answered = []
+abbrev pub bytes_into : (id bytes : List ℕ) → Option Channel → Reply → List ℕ
+bytes_into id bytes (Some channel) reply.Go = if bytes_eq channel.other id then bytes else []
+bytes_into id bytes found answered = []
 
-abbrev pub put_by : (id : List ℕ) → State → Request → Reply → List ℕ
-put_by id state (ask.Chan (chan.Put text bytes)) answered = put_into id bytes (channel_of state.channels text) answered
-put_by id state request answered = []
+abbrev pub call_puts : (id : List ℕ) → State → Request → Reply → List ℕ
+call_puts id state (ask.Chan (chan.Put text bytes)) answered =
+    bytes_into id bytes (channel_of state.channels text) answered
+call_puts id state request answered = []
 
 -- ---- gets ----
 
@@ -45,29 +46,31 @@ abbrev pub has_newline : Option (List ℕ) → Bool
 has_newline None = false
 has_newline (Some bytes) = has_line bytes
 
-abbrev pub taken_with : (newline : Bool) → Reply → List ℕ
-taken_with newline (reply.Line line) = if newline then line ++ 10 ∷ [] else line
-taken_with newline answered = []
+abbrev pub line_takes : (newline : Bool) → Reply → List ℕ
+line_takes newline (reply.Line line) = if newline then line ++ 10 ∷ [] else line
+line_takes newline answered = []
 
-abbrev pub taken_by : (id : List ℕ) → State → Request → Reply → List ℕ
-taken_by id state (ask.Chan (chan.GetLine text)) answered =
-    if bytes_eq text id then taken_with (has_newline (bytes_at state.channels id)) answered else []
-taken_by id state request answered = []
+abbrev pub call_takes : (id : List ℕ) → State → Request → Reply → List ℕ
+call_takes id state (ask.Chan (chan.GetLine text)) answered =
+    if bytes_eq text id then line_takes (has_newline (bytes_at state.channels id)) answered else []
+call_takes id state request answered = []
 
 -- ---- lists of actions ----
 
-abbrev pub put_at : (id : List ℕ) → Moment → List ℕ
-put_at id moment = put_by id moment.before moment.action.request (acted moment.before moment.action).gives.reply
+abbrev pub action_puts : (id : List ℕ) → Moment → List ℕ
+action_puts id moment =
+    call_puts id moment.before moment.action.request (action_result moment.before moment.action).gives.reply
 
-abbrev pub taken_at : (id : List ℕ) → Moment → List ℕ
-taken_at id moment = taken_by id moment.before moment.action.request (acted moment.before moment.action).gives.reply
+abbrev pub action_takes : (id : List ℕ) → Moment → List ℕ
+action_takes id moment =
+    call_takes id moment.before moment.action.request (action_result moment.before moment.action).gives.reply
 
 -- all that was put into a read end, and all that was taken out of it
-abbrev pub put : (id : List ℕ) → State → List Action → List ℕ
-put id state actions = flat_map (put_at id) (moments state actions)
+abbrev pub bytes_put : (id : List ℕ) → State → List Action → List ℕ
+bytes_put id state actions = flat_map (action_puts id) (moments state actions)
 
-abbrev pub taken : (id : List ℕ) → State → List Action → List ℕ
-taken id state actions = flat_map (taken_at id) (moments state actions)
+abbrev pub bytes_taken : (id : List ℕ) → State → List Action → List ℕ
+bytes_taken id state actions = flat_map (action_takes id) (moments state actions)
 
 -- What a read end has, and then what is put in, is what is taken and then what it has. If it is closed, new or not
 -- there, nothing is put in or taken, and a new one has no bytes.

@@ -15,7 +15,7 @@ use Rattle.laws_shared.specs.HeldArrays.{EndsHold, HoldsArray, IsOn, array_named
 use Rattle.laws_shared.specs.HeldLocks.{HoldsLock, HoldsAlone, hold_of}
 use Rattle.laws_shared.specs.KeptChannels.{AreKept}
 use Rattle.laws_shared.specs.Owners.{GivesUp, OwnsChannel, asks_owner}
-use Rattle.laws_shared.specs.Pipes.{bytes_at, put, taken}
+use Rattle.laws_shared.specs.Pipes.{bytes_at, bytes_put, bytes_taken}
 use Rattle.tt_locks.specs.LockLaws.{HaveOneHolder}
 use Rattle.tt_shared.specs.Acts.{act}
 use Rattle.tt_shared.specs.Enabled.{enabled}
@@ -128,7 +128,7 @@ ChannelsAreKeptLaw = (state : State) → Reached state → NumbersFit state → 
 -- has, while that is open.
 pub record IsPiped (main : Start) (actions : List Action) (state : State) (id : List ℕ) : Type 0 where
   pub rest : List ℕ
-  pub front : put id (start_state main) actions ≡ taken id (start_state main) actions ++ rest
+  pub front : bytes_put id (start_state main) actions ≡ bytes_taken id (start_state main) actions ++ rest
   pub left : IfSome (bytes_at state.channels id) (λ bytes. bytes ≡ rest)
 
 abbrev pub PipeLaw : Type 0

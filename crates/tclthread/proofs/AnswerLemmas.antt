@@ -301,12 +301,12 @@ moved-run setup setup' mode mode' input status taken a b is =
 ran-view : (asked : Asked) (told : Option Names) (names : Names) (setup : Setup) (mode : Mode) (status : Status) (input taken : List ℕ)
     → told ≡ Some names → BeginsAs asked told setup mode → IsRunTo setup mode input status taken → View (found_by asked names) input status taken
 ran-view (plain named) told names setup mode status input taken is asks ran =
-    rw (tells-is told names named.script (Some asks.script) is asks.told) (moved-run setup _ mode _ input status taken asks.begins asks.chosen ran)
+    rw (tells-is told names named.script (Some asks.script) is asks.script_is) (moved-run setup _ mode _ input status taken asks.begins asks.chosen ran)
 ran-view (replay named) told names setup mode status input taken is asks ran =
     rw (
-      tells-is told names named.script (Some asks.script) is asks.there.script_told,
+      tells-is told names named.script (Some asks.script) is asks.there.script_is,
       tells-is told names named.schedule (Some asks.text)
-          is asks.there.text_told,
+          is asks.there.text_is,
     )
     (with_run asks.is_text (moved-run setup _ mode _ input status taken asks.begins asks.chosen ran))
 ran-view (generate named) told names setup mode status input taken is asks ran = moved-run setup _ mode _ input status taken asks.0 asks.1 ran
@@ -325,9 +325,9 @@ wrong-view : (asked : Asked) (told : Option Names) (names : Names) (place : ℕ)
 wrong-view (plain named) told names place input taken is wrong empty = absurd wrong
 wrong-view (replay named) told names place input taken is wrong empty =
     rw (
-      tells-is told names named.script (Some wrong.script) is wrong.there.script_told,
+      tells-is told names named.script (Some wrong.script) is wrong.there.script_is,
       tells-is told names named.schedule
-          (Some wrong.text) is wrong.there.text_told,
+          (Some wrong.text) is wrong.there.text_is,
     )
     (wrong_text wrong.wrong wrong.no_text empty)
 wrong-view (generate named) told names place input taken is wrong empty = absurd wrong
@@ -546,7 +546,7 @@ module _ {F S K E : Type 0} (files : OfFiles F) (source : OfSource S) (output : 
       → files.map old ≡ Some names → names named.schedule ≡ Some text → IsScheduleText text list
       → (is : HasRun files source output errors (replay named) old new began ended) → is.mode ≡ Replaying list
   list-of named old new began ended names text list told has is_text is =
-      let other = tells-is (files.map old) names named.schedule (Some is.begins.text) told is.begins.there.text_told in
+      let other = tells-is (files.map old) names named.schedule (Some is.begins.text) told is.begins.there.text_is in
       let same : is.begins.text ≡ text = cc (sym other ∙ has) in
       let lists : is.begins.given ≡ list =
       one_list text is.begins.given list (subst (λ (t : List ℕ). IsScheduleText t is.begins.given) same is.begins.is_text) is_text in

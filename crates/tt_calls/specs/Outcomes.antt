@@ -8,5 +8,5 @@ abbrev pub fine : List ℕ → Outcome
 fine value = record { code = Fine; value = value; trace = []; kept = Fine }
 
 -- an evaluation that ended with this error, whose trace begins with its message
-abbrev pub failed : List ℕ → Outcome
-failed message = record { code = Failed; value = message; trace = message; kept = Fine }
+abbrev pub error_outcome : List ℕ → Outcome
+error_outcome message = record { code = Failed; value = message; trace = message; kept = Fine }

@@ -1,5 +1,5 @@
 ghost use Rattle.std.specs.Prelude.{◌≡◌, IfOk};
-ghost use Rattle.tt_calls.specs.Outcomes.{failed, fine};
+ghost use Rattle.tt_calls.specs.Outcomes.{error_outcome, fine};
 ghost use Rattle.tt_calls.specs.Usages as usages;
 
 use crate::usages;
@@ -62,7 +62,7 @@ impl Outcome {
     ///
     /// `NoMemory` if the memory for the trace is refused.
     pub fn failed(message: Text) -> Result<Self, NoMemory>
-        ensures failed { IfOk result (λ outcome. outcome ≡ failed message) }
+        ensures failed { IfOk result (λ outcome. outcome ≡ error_outcome message) }
     {
         let trace = message.copy()?;
         Ok(Outcome {
@@ -77,7 +77,7 @@ impl Outcome {
     ///
     /// `NoMemory` if the memory for it is refused.
     pub fn wrong_number(alloc: Global, usage: &[u8]) -> Result<Self, NoMemory>
-        ensures failed { IfOk result (λ outcome. outcome ≡ failed (usages.wrong_number usage.now)) }
+        ensures failed { IfOk result (λ outcome. outcome ≡ error_outcome (usages.wrong_number usage.now)) }
     {
         let message = usages::wrong_number(alloc, usage)?;
         Outcome::failed(message)
@@ -87,7 +87,7 @@ impl Outcome {
     ///
     /// `NoMemory` if the memory for it is refused.
     pub fn bad_option(alloc: Global, word: &[u8]) -> Result<Self, NoMemory>
-        ensures failed { IfOk result (λ outcome. outcome ≡ failed (usages.bad_option word.now)) }
+        ensures failed { IfOk result (λ outcome. outcome ≡ error_outcome (usages.bad_option word.now)) }
     {
         let message = usages::bad_option(alloc, word)?;
         Outcome::failed(message)

@@ -9,21 +9,21 @@ use tt_text::{NoMemory, Text, quoting};
 ///
 /// `NoMemory` if the memory for it is refused, as for the others.
 pub fn wrong_number(alloc: Global, usage: &[u8]) -> Result<Text, NoMemory>
-    ensures told { IfOk result (λ message. message ≡ usages.wrong_number usage.now) }
+    ensures message { IfOk result (λ message. message ≡ usages.wrong_number usage.now) }
 {
     quoting(alloc, b"wrong # args: should be \"", usage, b"\"")
 }
 
 /// That a word is no option, or no subcommand.
 pub fn bad_option(alloc: Global, word: &[u8]) -> Result<Text, NoMemory>
-    ensures told { IfOk result (λ message. message ≡ usages.bad_option word.now) }
+    ensures message { IfOk result (λ message. message ≡ usages.bad_option word.now) }
 {
     quoting(alloc, b"bad option \"", word, b"\"")
 }
 
 /// That an option doesn't have such a value.
 pub fn bad_value(alloc: Global, word: &[u8]) -> Result<Text, NoMemory>
-    ensures told { IfOk result (λ message. message ≡ usages.bad_value word.now) }
+    ensures message { IfOk result (λ message. message ≡ usages.bad_value word.now) }
 {
     quoting(alloc, b"bad value \"", word, b"\"")
 }

@@ -45,13 +45,13 @@ puts_to (Some Output) name text = Ask (ask.WriteOut text) after.Value
 puts_to (Some Errors) name text = Ask (ask.WriteErr text) after.Value
 puts_to None name text = Ask (ask.Chan (chan.Put name text)) after.Value
 
-abbrev pub put : (wrong : Call) → (options words : List (List ℕ)) → Call
-put wrong options (text ∷ []) = puts_to (Some Output) (codes "stdout") (line options text)
-put wrong options (name ∷ text ∷ []) = puts_to (standard_of name) name (line options text)
-put wrong options words = wrong
+abbrev pub puts_call : (wrong : Call) → (options words : List (List ℕ)) → Call
+puts_call wrong options (text ∷ []) = puts_to (Some Output) (codes "stdout") (line options text)
+puts_call wrong options (name ∷ text ∷ []) = puts_to (standard_of name) name (line options text)
+puts_call wrong options words = wrong
 
 abbrev pub puts : (wrong : Call) → (words : List (List ℕ)) → Call
-puts wrong words = by_options (NoNewline ∷ []) 1 words (put wrong)
+puts wrong words = by_options (NoNewline ∷ []) 1 words (puts_call wrong)
 
 -- gets(n)
 abbrev pub gets_from : Option Standard → (name : List ℕ) → Then → Call

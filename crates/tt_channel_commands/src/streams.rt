@@ -24,7 +24,7 @@ pub(crate) fn puts(alloc: Global, usage: &[u8], words: &[Text]) -> Result<Call, 
 }
 
 fn put(alloc: Global, usage: &[u8], options: &[Text], words: &[Text]) -> Result<Call, NoMemory>
-    ensures { IfOk result (λ call. call ≡ channels.put (wrong_number usage.now) options.now words.now) }
+    ensures { IfOk result (λ call. call ≡ channels.puts_call (wrong_number usage.now) options.now words.now) }
 {
     match words {
         [text] => {

@@ -10,7 +10,7 @@ use Rattle.tt_calls.specs.declared.reply.Reply.TheVariants.{Go, Value, Died}
 use Rattle.tt_calls.specs.declared.reply.Step.{Step}
 use Rattle.tt_chans.specs.Channels.{ChannelTable, channel_of, is_standard, read_id, with_channel, with_pipe}
 use Rattle.tt_chans.specs.Channels.{without_channel, write_id}
-use Rattle.tt_chans.specs.Ends.{Taken, gets_line, is_owned, moves_from, of_channel, owned, puts_into, with_owner}
+use Rattle.tt_chans.specs.Ends.{Taken, gets_line, is_owned, moves_from, of_channel, own_channel, puts_into, with_owner}
 use Rattle.tt_chans.specs.Lines.{has_line}
 use Rattle.tt_chans.specs.declared.channel.Channel.{Channel}
 use Rattle.tt_chans.specs.declared.channel.End.{End}
@@ -38,19 +38,19 @@ waits_for_move t None = false
 waits_for_move t (Some channel) = moves_from channel.owner t
 
 abbrev pub waits : ChannelTable → ℕ → ChanCall → Bool
-waits table t (ask.GetLine text) = waits_for_line table (owned t (channel_of table text))
+waits table t (ask.GetLine text) = waits_for_line table (own_channel t (channel_of table text))
 waits table t (ask.AwaitMove text) = waits_for_move t (channel_of table text)
 waits table t call = false
 
 -- ---- what a call does ----
 
 -- a message with an id in it
-abbrev pub named : (before text after : List ℕ) → List ℕ
-named before text after = before ++ (text ++ after)
+abbrev pub id_message : (before text after : List ℕ) → List ℕ
+id_message before text after = before ++ (text ++ after)
 
 -- a channel that the thread does not own is none to it
 abbrev pub no_channel : List ℕ → List ℕ
-no_channel text = named (codes "can not find channel named \"") text (codes "\"")
+no_channel text = id_message (codes "can not find channel named \"") text (codes "\"")
 
 abbrev pub not_found : ChannelTable → List ℕ → Answered ChannelTable
 not_found table text = refuses table (no_channel text)
@@ -59,7 +59,7 @@ not_found table text = refuses table (no_channel text)
 abbrev pub if_owned :
     (Channel → Answered ChannelTable) → ChannelTable → ℕ → List ℕ → Answered ChannelTable
 if_owned does table t text =
-    elim (owned t (channel_of table text)) [ None ↦ not_found table text | Some channel ↦ does channel ]
+    elim (own_channel t (channel_of table text)) [ None ↦ not_found table text | Some channel ↦ does channel ]
 
 -- the channel of an id after a call on it
 abbrev pub took : ChannelTable → List ℕ → Taken → Answered ChannelTable
@@ -103,13 +103,14 @@ abbrev pub closes : ChannelTable → ℕ → List ℕ → Answered ChannelTable
 closes table t text = if_owned (λ channel. answers (without_channel table text) Go) table t text
 
 -- a channel under its id, with another owner
-abbrev pub owned_by : ChannelTable → List ℕ → Owner → Option Channel → ChannelTable
-owned_by table text owner None = table
-owned_by table text owner (Some channel) = with_channel table text (with_owner channel owner)
+abbrev pub table_with_owner : ChannelTable → List ℕ → Owner → Option Channel → ChannelTable
+table_with_owner table text owner None = table
+table_with_owner table text owner (Some channel) = with_channel table text (with_owner channel owner)
 
 -- thread::detach
 abbrev pub detaches : ChannelTable → ℕ → List ℕ → Answered ChannelTable
-detaches table t text = if_owned (λ channel. answers (owned_by table text Detached (Some channel)) Go) table t text
+detaches table t text =
+    if_owned (λ channel. answers (table_with_owner table text Detached (Some channel)) Go) table t text
 
 -- thread::attach: of a channel that nobody owns
 abbrev pub not_detached : ChannelTable → List ℕ → Answered ChannelTable
@@ -130,7 +131,7 @@ attaches_named table t text = attaches table t text (channel_of table text)
 abbrev pub transfers :
     ChannelTable → ℕ → (thread text : List ℕ) → (target : Option ℕ) → Channel → Answered ChannelTable
 transfers table t thread text None channel =
-    refuses table (named (codes "thread \"") thread (codes "\" does not exist"))
+    refuses table (id_message (codes "thread \"") thread (codes "\" does not exist"))
 transfers table t thread text (Some target) channel =
     if target == t then answers table (Value []) else
     answers (with_channel table text (with_owner channel (Moving (Some t) target))) Go
@@ -139,9 +140,9 @@ abbrev pub transfers_named : ChannelTable → ℕ → (thread text : List ℕ) �
 transfers_named table t thread text target = if_owned (transfers table t thread text target) table t text
 
 -- the end of that wait: if the target ended first, the sender owns the channel again
-abbrev pub moved : ChannelTable → ℕ → Option Channel → Answered ChannelTable
-moved table t None = answers table Go
-moved table t (Some channel) = answers table (if is_owned channel.owner t then Died else Go)
+abbrev pub transfer_end : ChannelTable → ℕ → Option Channel → Answered ChannelTable
+transfer_end table t None = answers table Go
+transfer_end table t (Some channel) = answers table (if is_owned channel.owner t then Died else Go)
 
 -- the channels that belong to every thread
 abbrev pub standard_message : List ℕ → ChanCall → List ℕ
@@ -161,7 +162,7 @@ act_own table t target (ask.Close text) = closes table t text
 act_own table t target (ask.Detach text) = detaches table t text
 act_own table t target (ask.Attach text) = attaches_named table t text
 act_own table t target (ask.Transfer thread text) = transfers_named table t thread text target
-act_own table t target (ask.AwaitMove text) = moved table t (channel_of table text)
+act_own table t target (ask.AwaitMove text) = transfer_end table t (channel_of table text)
 
 -- the id that a call names
 abbrev pub id_of : ChanCall → List ℕ

@@ -55,12 +55,13 @@ read_end table t = record { other = write_id table; owner = Thread t; end = Read
 abbrev pub write_end : ChannelTable → ℕ → Channel
 write_end table t = record { other = read_id table; owner = Thread t; end = Writes }
 
-abbrev pub inserted : List (List ℕ × Channel) → List ℕ → Channel → List (List ℕ × Channel)
-inserted channels text channel = insert_entry (slice_cmp nat_cmp) channels text channel
+abbrev pub with_entry : List (List ℕ × Channel) → List ℕ → Channel → List (List ℕ × Channel)
+with_entry channels text channel = insert_entry (slice_cmp nat_cmp) channels text channel
 
 abbrev pub with_pipe : ChannelTable → ℕ → ChannelTable
 with_pipe table t = record {
-  channels = inserted (inserted table.channels (read_id table) (read_end table t)) (write_id table) (write_end table t);
+  channels = with_entry (with_entry table.channels (read_id table) (read_end table t)) (write_id table)
+      (write_end table t);
   next = table.next + 2;
 }
 
@@ -79,7 +80,7 @@ owner_given t (Moving from to) = if to == t then Thread t else Moving from to
 owner_given t owner = owner
 
 -- the channel has come to the thread, if it was on its way there
-abbrev pub given : ChannelTable → ℕ → List ℕ → Option Channel → ChannelTable
-given table t text None = table
-given table t text (Some channel) =
+abbrev pub after_arrival : ChannelTable → ℕ → List ℕ → Option Channel → ChannelTable
+after_arrival table t text None = table
+after_arrival table t text (Some channel) =
     with_channel table text (with_owner channel (owner_given t channel.owner))

@@ -29,9 +29,9 @@ abbrev pub with_owner : Channel → Owner → Channel
 with_owner channel owner = record channel { owner = owner }
 
 -- the channel that is found, if the thread owns it
-abbrev pub owned : ℕ → Option Channel → Option Channel
-owned t None = None
-owned t (Some channel) = if is_owned channel.owner t then Some channel else None
+abbrev pub own_channel : ℕ → Option Channel → Option Channel
+own_channel t None = None
+own_channel t (Some channel) = if is_owned channel.owner t then Some channel else None
 
 -- a read end with these bytes, whose end was met or not
 abbrev pub reads : Channel → (bytes : List ℕ) → Bool → Channel
@@ -96,13 +96,13 @@ back_to None = Detached
 back_to (Some thread) = Thread thread
 
 -- one that is on its way from it has no sender any more
-abbrev pub unsent : ℕ → (from : Option ℕ) → (to : ℕ) → Owner
-unsent t from to = if is_sender from t then Moving None to else Moving from to
+abbrev pub owner_without_sender : ℕ → (from : Option ℕ) → (to : ℕ) → Owner
+owner_without_sender t from to = if is_sender from t then Moving None to else Moving from to
 
 abbrev pub owner_after : ℕ → Owner → Owner
 owner_after t (Thread thread) = Thread thread
 owner_after t Detached = Detached
-owner_after t (Moving from to) = if to == t then back_to from else unsent t from to
+owner_after t (Moving from to) = if to == t then back_to from else owner_without_sender t from to
 
 abbrev pub after_end : ℕ → Channel → Channel
 after_end t channel = with_owner channel (owner_after t channel.owner)

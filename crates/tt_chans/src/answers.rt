@@ -1,7 +1,7 @@
 ghost use Rattle.std.specs.Prelude.{◌≡◌, ◌++◌, ◌∷◌, IfOk, OnOk};
 ghost use Rattle.tt_calls.specs.declared.reply.Reply.TheVariants.{Value};
 ghost use Rattle.tt_chans.specs.Calls.{act, act_own, attaches_named, closes, detaches, eof, gets_named, if_owned};
-ghost use Rattle.tt_chans.specs.Calls.{moved, owned_by, puts_named, puts_other, step_after, table_after};
+ghost use Rattle.tt_chans.specs.Calls.{transfer_end, table_with_owner, puts_named, puts_other, step_after, table_after};
 ghost use Rattle.tt_chans.specs.Calls.{transfers_named};
 ghost use Rattle.tt_chans.specs.Channels.{channel_of, read_id, with_pipe, write_id};
 
@@ -222,7 +222,7 @@ impl Chans {
 
     // The end of a move: whether the channel came back.
     fn moved(&self, thread: u32, id: &Text) -> Reply
-        ensures { result ≡ (moved self.now thread (channel_of self.now id.now)).reply }
+        ensures { result ≡ (transfer_end self.now thread (channel_of self.now id.now)).reply }
     {
         if self.owned(thread, id).is_some() {
             Reply::Died
@@ -232,7 +232,7 @@ impl Chans {
     }
 
     fn set_owner(&mut self, id: &Text, owner: Owner)
-        ensures { self.new ≡ owned_by self.old id.now owner (channel_of self.old id.now) }
+        ensures { self.new ≡ table_with_owner self.old id.now owner (channel_of self.old id.now) }
     {
         if let Some(channel) = self.channels.get_mut(id) {
             channel.owner = owner;

@@ -1,7 +1,7 @@
 ghost use Rattle.std.specs.Prelude.{◌≡◌, option_copied};
 ghost use Rattle.tt_chans.specs.Calls.{lacks_line, waits};
-ghost use Rattle.tt_chans.specs.Channels.{channel_of, given, no_channels, table_after_end};
-ghost use Rattle.tt_chans.specs.Ends.{owned};
+ghost use Rattle.tt_chans.specs.Channels.{channel_of, after_arrival, no_channels, table_after_end};
+ghost use Rattle.tt_chans.specs.Ends.{own_channel};
 
 use crate::{Channel, End, Owner};
 use std::alloc::Global;
@@ -40,7 +40,7 @@ impl Chans {
 
     // The channel of an id, if the thread owns it.
     pub(crate) fn owned(&self, thread: u32, id: &Text) -> Option<&Channel>
-        ensures { option_copied result ≡ owned thread (channel_of self.now id.now) }
+        ensures { option_copied result ≡ own_channel thread (channel_of self.now id.now) }
     {
         let channel = self.channels.get(id)?;
         channel.owner.is(thread).then_some(channel)
@@ -77,7 +77,7 @@ impl Chans {
 
     /// The thread has a channel, if that was on its way to it (thread(n), thread::transfer). It takes no memory.
     pub fn give(&mut self, thread: u32, id: &Text)
-        ensures given { self.new ≡ given self.old thread id.now (channel_of self.old id.now) }
+        ensures given { self.new ≡ after_arrival self.old thread id.now (channel_of self.old id.now) }
     {
         if let Some(channel) = self.channels.get_mut(id) {
             channel.owner = channel.owner.given(thread);

@@ -1,6 +1,6 @@
 ghost use Rattle.std.specs.Prelude.{◌≡◌, ◌++◌, codes, IfOk};
 ghost use Rattle.tt_calls.specs.declared.reply.Reply.TheVariants.{Refused};
-ghost use Rattle.tt_chans.specs.Calls.{id_of, named, no_channel, standard_message};
+ghost use Rattle.tt_chans.specs.Calls.{id_of, id_message, no_channel, standard_message};
 ghost use Rattle.tt_chans.specs.Ends.{of_channel};
 ghost use Rattle.tt_chans.specs.Channels.{is_standard};
 
@@ -58,7 +58,8 @@ pub(crate) fn not_found(alloc: Global, id: &Text) -> Result<Reply, NoMemory>
 }
 
 pub(crate) fn no_thread(alloc: Global, id: &Text) -> Result<Reply, NoMemory>
-    ensures { IfOk result (λ reply. reply ≡ Refused (named (codes "thread \"") id.now (codes "\" does not exist"))) }
+    ensures { IfOk result (λ reply.
+        reply ≡ Refused (id_message (codes "thread \"") id.now (codes "\" does not exist"))) }
 {
     named(alloc, b"thread \"", id, b"\" does not exist")
 }
@@ -70,7 +71,7 @@ pub(crate) fn of_channel(alloc: Global, id: &Text, after: &[u8]) -> Result<Reply
 }
 
 fn named(alloc: Global, before: &[u8], id: &Text, after: &[u8]) -> Result<Reply, NoMemory>
-    ensures { IfOk result (λ reply. reply ≡ Refused (named before.now id.now after.now)) }
+    ensures { IfOk result (λ reply. reply ≡ Refused (id_message before.now id.now after.now)) }
 {
     let mut text = Text::from_bytes(alloc, before)?;
     text.push_bytes(id.as_bytes())?;

@@ -3,7 +3,7 @@ use Rattle.std.proofs.Common.{◌≡◌, ℕ, ◌+◌, true, false, List, [], �
 use Rattle.tt_script.specs.Words.{PlainPart, letters, variable, element, script, PlainParts, none, more}
 use Rattle.tt_exprs.specs.Trees as trees
 use Rattle.tt_exprs.specs.Trees.{PlainExpr, leaf, words, node, PlainExprs}
-use Rattle.tt_code.specs.Code.{run}
+use Rattle.tt_code.specs.Code.{needs_from}
 use Rattle.tt_code.specs.Kinds.{kind_of}
 use Rattle.tt_code.specs.Making.{Instructions, part_code, later_code, parts_code, before, count_of, expression_code}
 use Rattle.tt_code.specs.Making.{operator_code, both_code, either_code, one_of_code, values_code}
@@ -15,17 +15,17 @@ use Rattle.tt_code.specs.declared.kind.Kind.TheVariants.{Eager, Both, Either, On
 abbrev pub Grows : (whole rest : Instructions) → Type 0
 Grows whole rest = (front : Instructions) × (whole ≡ front ++ rest)
 
-passed : (front rest : Instructions) (vs : List (List ℕ)) → run (front ++ rest) (length front) vs ≡ run rest 0 vs
+passed : (front rest : Instructions) (vs : List (List ℕ)) → needs_from (front ++ rest) (length front) vs ≡ needs_from rest 0 vs
 passed [] rest vs = refl
 passed (first ∷ front) rest vs = passed front rest vs
 
 measured : (front rest : Instructions) → before (front ++ rest) rest ≡ length front
 measured front rest = let e : length (front ++ rest) ≡ length front + length rest = length-append front rest in omega (arith, e)
 
-pub skips : (whole rest : Instructions) → Grows whole rest → (vs : List (List ℕ)) → run whole (before whole rest) vs ≡ run rest 0 vs
+pub skips : (whole rest : Instructions) → Grows whole rest → (vs : List (List ℕ)) → needs_from whole (before whole rest) vs ≡ needs_from rest 0 vs
 skips whole rest (front, e) vs =
-    ap (λ (w : Instructions). run w (before w rest) vs) e
-    ∙ ap (λ (n : ℕ). run (front ++ rest) n vs) (measured front rest)
+    ap (λ (w : Instructions). needs_from w (before w rest) vs) e
+    ∙ ap (λ (n : ℕ). needs_from (front ++ rest) n vs) (measured front rest)
     ∙ passed front rest vs
 
 pub one_more : (first : Instruction) (rest : Instructions) → Grows (first ∷ rest) rest

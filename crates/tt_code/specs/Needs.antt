@@ -34,16 +34,16 @@ abbrev pub with_items : Split → UseAll → Needs
 with_items (Items items) go = go items
 with_items (Bad fault) go = Refused (list_message fault)
 
-abbrev pub expanded : List ℕ → UseAll → Needs
-expanded list go = with_items (split_of list) go
+abbrev pub expansion_needs : List ℕ → UseAll → Needs
+expansion_needs list go = with_items (split_of list) go
 
 -- the truth of a value, or that it has none (expr(n), Operands)
 abbrev pub with_truth : Result Bool (List ℕ) → (Bool → Needs) → Needs
 with_truth (Ok truth) go = go truth
 with_truth (Err message) go = Refused message
 
-abbrev pub tested : List ℕ → (Bool → Needs) → Needs
-tested value go = with_truth (truth_of value) go
+abbrev pub test_needs : List ℕ → (Bool → Needs) → Needs
+test_needs value go = with_truth (truth_of value) go
 
 -- the value of an outcome that is fine, or the message of one that has failed
 abbrev pub with_value : Code → List ℕ → Use → Needs

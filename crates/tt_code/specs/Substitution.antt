@@ -1,7 +1,7 @@
 -- How words are substituted, from left to right (Tcl(n), rules 5 and 7 to 11).
 use Rattle.std.specs.Prelude.{ℕ, Bool, true, false, List, [], ◌∷◌, ◌++◌, Some, None}
 use Rattle.tt_script.specs.Words.{PlainPart, letters, variable, element, script, PlainParts, none, more, PlainWord}
-use Rattle.tt_code.specs.Needs.{Needs, Variable, Script, Values, Use, UseAll, expanded}
+use Rattle.tt_code.specs.Needs.{Needs, Variable, Script, Values, Use, UseAll, expansion_needs}
 
 abbrev mutual
   -- what a part stands for; an element's index is substituted before its value is read
@@ -18,7 +18,7 @@ abbrev mutual
 
 -- what the value of a word's parts stands for: the items of a list, or itself
 abbrev pub word_values : (expand : Bool) → List ℕ → UseAll → Needs
-word_values true value go = expanded value go
+word_values true value go = expansion_needs value go
 word_values false value go = go (value ∷ [])
 
 -- words, each after the values of those that are done

@@ -1,9 +1,9 @@
 //! Running code.
 ghost use Rattle.std.specs.Prelude.{◌≡◌, ◌<◌, length, IfOk, OnOk};
 ghost use Rattle.std.specs.Arc.{arc_value};
-ghost use Rattle.tt_code.specs.Code.{needs_of, run};
-ghost use Rattle.tt_code.specs.Running.{halted, needs, with_value};
-ghost use Rattle.tt_code.specs.inside.Turns.{IsFurther, turned};
+ghost use Rattle.tt_code.specs.Code.{needs_of, needs_from};
+ghost use Rattle.tt_code.specs.Running.{halt_needs, needs, with_value};
+ghost use Rattle.tt_code.specs.inside.Turns.{IsFurther, turn_needs};
 
 use crate::code::{Code, Instruction};
 use crate::stack::Stack;
@@ -49,7 +49,7 @@ impl Running {
     /// `NoMemory` if memory is refused; then it is only fit to be restarted.
     #[tactic(auto, using(crate::proofs::Stepping::at_end))]
     pub fn advance(&mut self) -> Result<Halt, NoMemory>
-        ensures halts { IfOk result (λ halt. needs self.old ≡ halted halt (with_value self.new)) }
+        ensures halts { IfOk result (λ halt. needs self.old ≡ halt_needs halt (with_value self.new)) }
     {
         'steps: while self.place < self.code.instructions.len() {
             let step = turn(
@@ -88,8 +88,8 @@ fn turn(
     values: &mut Stack,
 ) -> Result<Step, NoMemory>
     requires { place < length instructions.now }
-    ensures same { IfOk result (λ step. run instructions.now place values.old
-        ≡ turned step instructions.now place values.new) }
+    ensures same { IfOk result (λ step. needs_from instructions.now place values.old
+        ≡ turn_needs step instructions.now place values.new) }
     ensures further { IfOk result (λ step. IsFurther step place) }
 {
     let step = perform(alloc, &instructions[place], values)?;

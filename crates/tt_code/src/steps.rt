@@ -1,8 +1,8 @@
 //! What the instructions do.
 ghost use Rattle.std.specs.Prelude.{◌≡◌, ◌∷◌, ◌++◌, IfOk, List, ℕ, reverse};
 ghost use Rattle.tt_code.specs.Code.{Next, act};
-ghost use Rattle.tt_code.specs.Needs.{expanded, unless_failed};
-ghost use Rattle.tt_code.specs.inside.Turns.{stepped};
+ghost use Rattle.tt_code.specs.Needs.{expansion_needs, unless_failed};
+ghost use Rattle.tt_code.specs.inside.Turns.{step_needs};
 ghost use Rattle.tt_code.specs.declared.code.Instruction.TheVariants as code;
 
 use crate::code::Instruction;
@@ -46,7 +46,7 @@ pub(crate) fn perform(
     values: &mut Stack,
 ) -> Result<Step, NoMemory>
     ensures { IfOk result (λ step. (next : Next)
-        → act instruction.now next values.old ≡ stepped step next values.new) }
+        → act instruction.now next values.old ≡ step_needs step next values.new) }
 {
     match instruction {
         Instruction::Push(text) => push(values, Value::from_text(text.copy()?)),
@@ -68,7 +68,7 @@ pub(crate) fn perform(
 
 fn wrong_operands(alloc: Global) -> Result<Step, NoMemory>
     ensures { IfOk result (λ step. (next : Next) (values : List (List ℕ))
-        → act code.WrongOperands next values ≡ stepped step next values) }
+        → act code.WrongOperands next values ≡ step_needs step next values) }
 {
     let message = Text::from_bytes(alloc, b"wrong number of operands")?;
     Ok(Step::Halts(Halt::Refused(message)))
@@ -76,7 +76,7 @@ fn wrong_operands(alloc: Global) -> Result<Step, NoMemory>
 
 fn push(values: &mut Stack, value: Value) -> Result<Step, NoMemory>
     ensures { IfOk result (λ step. (next : Next)
-        → act (code.Push value) next values.old ≡ stepped step next values.new) }
+        → act (code.Push value) next values.old ≡ step_needs step next values.new) }
 {
     values.push(value)?;
     Ok(Step::Goes(0))
@@ -84,7 +84,7 @@ fn push(values: &mut Stack, value: Value) -> Result<Step, NoMemory>
 
 fn element(alloc: Global, name: &Text, values: &mut Stack) -> Result<Step, NoMemory>
     ensures { IfOk result (λ step. (next : Next)
-        → act (code.Element name.now) next values.old ≡ stepped step next values.new) }
+        → act (code.Element name.now) next values.old ≡ step_needs step next values.new) }
 {
     match values.pop() {
         Some(index) => Ok(Step::Halts(Halt::Element(name.copy()?, index.into_text(alloc)?))),
@@ -94,7 +94,7 @@ fn element(alloc: Global, name: &Text, values: &mut Stack) -> Result<Step, NoMem
 
 fn append(alloc: Global, values: &mut Stack) -> Result<Step, NoMemory>
     ensures { IfOk result (λ step. (next : Next)
-        → act code.Append next values.old ≡ stepped step next values.new) }
+        → act code.Append next values.old ≡ step_needs step next values.new) }
 {
     match (values.pop(), values.pop()) {
         (Some(back), Some(front)) => {
@@ -108,7 +108,7 @@ fn append(alloc: Global, values: &mut Stack) -> Result<Step, NoMemory>
 
 fn expand(alloc: Global, values: &mut Stack) -> Result<Step, NoMemory>
     ensures { IfOk result (λ step. (next : Next)
-        → act code.Expand next values.old ≡ stepped step next values.new) }
+        → act code.Expand next values.old ≡ step_needs step next values.new) }
 {
     match values.pop() {
         Some(list) => push_items(alloc, &list, values),
@@ -118,7 +118,7 @@ fn expand(alloc: Global, values: &mut Stack) -> Result<Step, NoMemory>
 
 fn push_items(alloc: Global, list: &Value, values: &mut Stack) -> Result<Step, NoMemory>
     ensures { IfOk result (λ step. (next : Next)
-        → expanded list.now (λ items. next 0 (reverse items ++ values.old)) ≡ stepped step next values.new) }
+        → expansion_needs list.now (λ items. next 0 (reverse items ++ values.old)) ≡ step_needs step next values.new) }
 {
     match list.to_items(alloc)? {
         Ok(items) => {
@@ -131,7 +131,7 @@ fn push_items(alloc: Global, list: &Value, values: &mut Stack) -> Result<Step, N
 
 fn apply_to(alloc: Global, op: Op, count: usize, values: &mut Stack) -> Result<Step, NoMemory>
     ensures { IfOk result (λ step. (next : Next)
-        → act (code.Apply op count) next values.old ≡ stepped step next values.new) }
+        → act (code.Apply op count) next values.old ≡ step_needs step next values.new) }
 {
     let operands = values.newest(count);
     if op.is_lazy() || !op.takes(operands.len()) {
@@ -146,7 +146,7 @@ fn apply_to(alloc: Global, op: Op, count: usize, values: &mut Stack) -> Result<S
 /// The value of an outcome, unless it has failed.
 fn push_value(alloc: Global, outcome: Outcome, values: &mut Stack) -> Result<Step, NoMemory>
     ensures { IfOk result (λ step. (next : Next)
-        → unless_failed outcome (λ v. next 0 (v ∷ values.old)) ≡ stepped step next values.new) }
+        → unless_failed outcome (λ v. next 0 (v ∷ values.old)) ≡ step_needs step next values.new) }
 {
     let Outcome { code, value, .. } = outcome;
     match code {
@@ -157,7 +157,7 @@ fn push_value(alloc: Global, outcome: Outcome, values: &mut Stack) -> Result<Ste
 
 fn result_of(alloc: Global, values: &mut Stack) -> Result<Step, NoMemory>
     ensures { IfOk result (λ step. (next : Next)
-        → act code.Result next values.old ≡ stepped step next values.new) }
+        → act code.Result next values.old ≡ step_needs step next values.new) }
 {
     match values.pop() {
         Some(value) => {
@@ -170,7 +170,7 @@ fn result_of(alloc: Global, values: &mut Stack) -> Result<Step, NoMemory>
 
 fn give(alloc: Global, values: &mut Stack) -> Result<Step, NoMemory>
     ensures { IfOk result (λ step. (next : Next)
-        → act code.Give next values.old ≡ stepped step next values.new) }
+        → act code.Give next values.old ≡ step_needs step next values.new) }
 {
     match values.pop() {
         Some(value) => Ok(Step::Halts(Halt::Value(value))),
@@ -180,7 +180,7 @@ fn give(alloc: Global, values: &mut Stack) -> Result<Step, NoMemory>
 
 fn truth_of(alloc: Global, values: &mut Stack) -> Result<Step, NoMemory>
     ensures { IfOk result (λ step. (next : Next)
-        → act code.Truth next values.old ≡ stepped step next values.new) }
+        → act code.Truth next values.old ≡ step_needs step next values.new) }
 {
     let Some(value) = values.pop() else {
         return wrong_operands(alloc);
@@ -194,7 +194,7 @@ fn truth_of(alloc: Global, values: &mut Stack) -> Result<Step, NoMemory>
 
 fn skip_if_false(alloc: Global, count: usize, values: &mut Stack) -> Result<Step, NoMemory>
     ensures { IfOk result (λ step. (next : Next)
-        → act (code.SkipIfFalse count) next values.old ≡ stepped step next values.new) }
+        → act (code.SkipIfFalse count) next values.old ≡ step_needs step next values.new) }
 {
     let Some(value) = values.pop() else {
         return wrong_operands(alloc);
@@ -208,7 +208,7 @@ fn skip_if_false(alloc: Global, count: usize, values: &mut Stack) -> Result<Step
 
 fn skip_if_true(alloc: Global, count: usize, values: &mut Stack) -> Result<Step, NoMemory>
     ensures { IfOk result (λ step. (next : Next)
-        → act (code.SkipIfTrue count) next values.old ≡ stepped step next values.new) }
+        → act (code.SkipIfTrue count) next values.old ≡ step_needs step next values.new) }
 {
     let Some(value) = values.pop() else {
         return wrong_operands(alloc);

@@ -23,8 +23,8 @@ spelling Detached = codes "-detached"
 spelling NoWait = codes "-nowait"
 
 -- the one of these that a word is
-abbrev pub named : (known : List Flag) → (word : List ℕ) → Option Flag
-named known word = find (λ flag. bytes_eq word (spelling flag)) known
+abbrev pub flag_named : (known : List Flag) → (word : List ℕ) → Option Flag
+flag_named known word = find (λ flag. bytes_eq word (spelling flag)) known
 
 -- a word that is meant as an option: it begins with `-`, and is longer
 abbrev pub is_meant : (word : List ℕ) → Bool
@@ -38,19 +38,20 @@ before_last required words = take (length words - required) words
 
 -- the first word that is meant as an option, and is none of these
 abbrev pub first_unknown : (known : List Flag) → (words : List (List ℕ)) → Option (List ℕ)
-first_unknown known words = find (λ word. is_meant word && not (is_some (named known word))) words
+first_unknown known words = find (λ word. is_meant word && not (is_some (flag_named known word))) words
 
 -- how many of these options stand in front
 abbrev pub front : (known : List Flag) → (words : List (List ℕ)) → ℕ
-front known words = length (take_while (λ word. is_some (named known word)) words)
+front known words = length (take_while (λ word. is_some (flag_named known word)) words)
 
 -- an option stands among these
 abbrev pub has : Flag → (options : List (List ℕ)) → Bool
 has flag options = list_any (λ word. bytes_eq word (spelling flag)) options
 
 -- what a command means by the options in front and the words after them
-abbrev pub cut : ℕ → (words : List (List ℕ)) → (meaning : (options after : List (List ℕ)) → Call) → Call
-cut count words meaning = meaning (take count words) (drop count words)
+abbrev pub meaning_after_options :
+    ℕ → (words : List (List ℕ)) → (meaning : (options after : List (List ℕ)) → Call) → Call
+meaning_after_options count words meaning = meaning (take count words) (drop count words)
 
 -- a word before the last ones that is meant as an option, and is none, is an error
 abbrev pub by_options :
@@ -59,5 +60,5 @@ abbrev pub by_options :
 by_options known required words meaning =
     elim (first_unknown known (before_last required words)) [
       | Some word ↦ bad_option word
-      | None ↦ cut (front known (before_last required words)) words meaning
+      | None ↦ meaning_after_options (front known (before_last required words)) words meaning
     ]

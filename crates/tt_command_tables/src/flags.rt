@@ -36,7 +36,7 @@ fn spelling(flag: Flag) -> &'static [u8]
 }
 
 fn named(known: &[Flag], word: &[u8]) -> Option<Flag>
-    ensures { result ≡ flags.named known.now word.now }
+    ensures { result ≡ flags.flag_named known.now word.now }
 {
     known.iter().copied().find(|flag| word == spelling(*flag))
 }

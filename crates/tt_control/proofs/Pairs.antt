@@ -2,7 +2,7 @@
 use Rattle.std.proofs.Common.{◌≡◌, ◌≤◌, ℕ, ◌-◌, true, List, [], ◌∷◌, ◌++◌, length, get_or, take, drop, rules, arith}
 use Rattle.std.proofs.lemmas.Grind.{common_steps}
 use Rattle.tt_control.specs.Endings.{is_code, last_code}
-use Rattle.tt_control.specs.Turns.{column_of, read_from}
+use Rattle.tt_control.specs.Turns.{column_of, columns_from}
 use Rattle.tt_control.specs.declared.control.Control.{Control}
 use Rattle.tt_control.specs.declared.turns.Column.{Column}
 use Rattle.tt_control.specs.declared.turns.ColumnRead.TheVariants as read
@@ -25,7 +25,7 @@ pub column_read :
     values ≡ get_or words 1 values →
     read.Column column ≡ column_of names values →
     more ≡ columns ++ column ∷ [] →
-    read_from wrong columns words ≡ read_from wrong more (take (length words - 2) (drop 2 words))
+    columns_from wrong columns words ≡ columns_from wrong more (take (length words - 2) (drop 2 words))
 column_read wrong columns more column names values [] long first second known added = search rules
 column_read wrong columns more column names values (a ∷ []) long first second known added = search (rules, long)
 column_read wrong columns more column names values (a ∷ b ∷ later) long first second known added =

@@ -48,28 +48,28 @@ first_body matching text (pattern ∷ body ∷ later) =
     then body_from (pattern ∷ body ∷ later)
     else first_body matching text later
 
-abbrev pub chosen : Matching → (text : List ℕ) → (pairs : List (List ℕ)) → Control
-chosen matching text pairs =
+abbrev pub choice_among : Matching → (text : List ℕ) → (pairs : List (List ℕ)) → Control
+choice_among matching text pairs =
     if is_whole pairs then Script (first_body matching text pairs) else Bad (codes "switch pattern without body")
 
 -- the pairs of a list
-abbrev pub chosen_in : Matching → (text : List ℕ) → Split → Control
-chosen_in matching text (split.Items pairs) = chosen matching text pairs
-chosen_in matching text (split.Bad fault) = Bad (list_message fault)
+abbrev pub choice_in_list : Matching → (text : List ℕ) → Split → Control
+choice_in_list matching text (split.Items pairs) = choice_among matching text pairs
+choice_in_list matching text (split.Bad fault) = Bad (list_message fault)
 
 abbrev pub in_list : Matching → (text list : List ℕ) → Control
-in_list matching text list = chosen_in matching text (split_of list)
+in_list matching text list = choice_in_list matching text (split_of list)
 
 -- the words after the text: one alone is a list of pairs
-abbrev pub paired : (wrong : Control) → Matching → (text : List ℕ) → (words : List (List ℕ)) → Control
-paired wrong matching text [] = wrong
-paired wrong matching text (list ∷ []) = in_list matching text list
-paired wrong matching text (pattern ∷ body ∷ pairs) = chosen matching text (pattern ∷ body ∷ pairs)
+abbrev pub choice_in_words : (wrong : Control) → Matching → (text : List ℕ) → (words : List (List ℕ)) → Control
+choice_in_words wrong matching text [] = wrong
+choice_in_words wrong matching text (list ∷ []) = in_list matching text list
+choice_in_words wrong matching text (pattern ∷ body ∷ pairs) = choice_among matching text (pattern ∷ body ∷ pairs)
 
 -- the words after the options
-abbrev pub switched : (wrong : Control) → Matching → (words : List (List ℕ)) → Control
-switched wrong matching [] = wrong
-switched wrong matching (text ∷ words) = paired wrong matching text words
+abbrev pub switch_control : (wrong : Control) → Matching → (words : List (List ℕ)) → Control
+switch_control wrong matching [] = wrong
+switch_control wrong matching (text ∷ words) = choice_in_words wrong matching text words
 
 -- what a word is where options may stand
 abbrev pub sign_of : (word : List ℕ) → Sign
@@ -82,13 +82,13 @@ sign_of word =
 -- options stand in front, and never among the last two words; of those that say how patterns are compared the last
 -- counts
 abbrev pub switch : (wrong : Control) → Matching → (words : List (List ℕ)) → Control
-switch wrong matching [] = switched wrong matching []
-switch wrong matching (text ∷ []) = switched wrong matching (text ∷ [])
-switch wrong matching (text ∷ list ∷ []) = switched wrong matching (text ∷ list ∷ [])
+switch wrong matching [] = switch_control wrong matching []
+switch wrong matching (text ∷ []) = switch_control wrong matching (text ∷ [])
+switch wrong matching (text ∷ list ∷ []) = switch_control wrong matching (text ∷ list ∷ [])
 switch wrong matching (word ∷ second ∷ third ∷ words) =
     elim (sign_of word) [
       | Compares by ↦ switch wrong by (second ∷ third ∷ words)
-      | Ends ↦ switched wrong matching (second ∷ third ∷ words)
+      | Ends ↦ switch_control wrong matching (second ∷ third ∷ words)
       | Unknown ↦ bad_option word
-      | Plain ↦ switched wrong matching (word ∷ second ∷ third ∷ words)
+      | Plain ↦ switch_control wrong matching (word ∷ second ∷ third ∷ words)
     ]

@@ -11,13 +11,13 @@ use Rattle.tt_pairs.specs.declared.looping.Looping.{Looping}
 abbrev pub over : Looping → Control
 over looping = control.Foreach (looping.key ∷ looping.value ∷ []) looping.pairs looping.body
 
-abbrev pub looped : Result Looping (List ℕ) → Control
-looped (Ok looping) = over looping
-looped (Err message) = control.Bad message
+abbrev pub pair_loop : Result Looping (List ℕ) → Control
+pair_loop (Ok looping) = over looping
+pair_loop (Err message) = control.Bad message
 
 -- dict for
 abbrev pub for_pairs : Meaning
-for_pairs wrong (names ∷ dictionary ∷ body ∷ []) = looped (looping_of names (reading_of dictionary) body)
+for_pairs wrong (names ∷ dictionary ∷ body ∷ []) = pair_loop (looping_of names (reading_of dictionary) body)
 for_pairs wrong words = wrong
 
 -- the other subcommands evaluate nothing, and are none of this table

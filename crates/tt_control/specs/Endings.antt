@@ -70,14 +70,14 @@ after_codes (value ∷ []) = value ∷ []
 after_codes (option ∷ value ∷ words) = if is_code option then after_codes words else option ∷ value ∷ words
 
 -- at most one word stands there
-abbrev pub returned : (wrong : Control) → (name : List ℕ) → (words : List (List ℕ)) → Control
-returned wrong name [] = returns name []
-returned wrong name (value ∷ []) = returns name value
-returned wrong name (value ∷ next ∷ words) = wrong
+abbrev pub return_control : (wrong : Control) → (name : List ℕ) → (words : List (List ℕ)) → Control
+return_control wrong name [] = returns name []
+return_control wrong name (value ∷ []) = returns name value
+return_control wrong name (value ∷ next ∷ words) = wrong
 
 abbrev pub return_value : Meaning
 return_value wrong words =
     elim (first_unknown words) [
       | Some word ↦ bad_option word
-      | None ↦ returned wrong (last_code (codes "ok") words) (after_codes words)
+      | None ↦ return_control wrong (last_code (codes "ok") words) (after_codes words)
     ]

@@ -25,20 +25,20 @@ most_turns columns =
     fold (λ most column. max most (turns_needed (length column.names) (length column.values))) 0 columns
 
 -- so many values, the missing ones empty
-abbrev pub filled : (width : ℕ) → (values : List (List ℕ)) → List (List ℕ)
-filled width values = take width values ++ replicate (width - length values) []
+abbrev pub to_width : (width : ℕ) → (values : List (List ℕ)) → List (List ℕ)
+to_width width values = take width values ++ replicate (width - length values) []
 
 -- the values that a list gives its variables in a turn, counted from 0
 abbrev pub turn_values : (turn : ℕ) → Column → List (List ℕ)
-turn_values turn column = filled (length column.names) (drop (turn * length column.names) column.values)
+turn_values turn column = to_width (length column.names) (drop (turn * length column.names) column.values)
 
 -- the values of all variables in the first turns
 abbrev pub first_turns : (columns : List Column) → (count : ℕ) → List (List ℕ)
 first_turns columns zero = []
 first_turns columns (suc turn) = first_turns columns turn ++ flat_map (turn_values turn) columns
 
-abbrev pub turned : (columns : List Column) → (body : List ℕ) → Control
-turned columns body =
+abbrev pub list_loop : (columns : List Column) → (body : List ℕ) → Control
+list_loop columns body =
     control.Foreach (flat_map (λ column. column.names) columns) (first_turns columns (most_turns columns)) body
 
 -- a list of variables and a list of values
@@ -55,16 +55,16 @@ abbrev pub column_of : (names values : List ℕ) → ColumnRead
 column_of names values = with_names (split_of names) values
 
 -- pairs of such lists after those that were read, and a last word
-abbrev pub read_from : (wrong : Control) → (columns : List Column) → (words : List (List ℕ)) → Control
-read_from wrong columns [] = wrong
-read_from wrong columns (body ∷ []) = turned columns body
-read_from wrong columns (names ∷ values ∷ words) =
+abbrev pub columns_from : (wrong : Control) → (columns : List Column) → (words : List (List ℕ)) → Control
+columns_from wrong columns [] = wrong
+columns_from wrong columns (body ∷ []) = list_loop columns body
+columns_from wrong columns (names ∷ values ∷ words) =
     elim (column_of names values) [
-      | read.Column column ↦ read_from wrong (columns ++ column ∷ []) words
+      | read.Column column ↦ columns_from wrong (columns ++ column ∷ []) words
       | read.Bad message ↦ control.Bad message
     ]
 
 -- an odd number of words, and at least three
 abbrev pub foreach : Meaning
 foreach wrong words =
-    if nat_lt (length words) 3 || (length words % 2 == 0) then wrong else read_from wrong [] words
+    if nat_lt (length words) 3 || (length words % 2 == 0) then wrong else columns_from wrong [] words

@@ -68,7 +68,7 @@ fn switched(
     matching: Matching,
     words: &[Text],
 ) -> Result<Control, NoMemory>
-    ensures { IfOk result (λ control. control ≡ choices.switched (wrong_number usage.now) matching words.now) }
+    ensures { IfOk result (λ control. control ≡ choices.switch_control (wrong_number usage.now) matching words.now) }
 {
     match words {
         [text, words @ ..] => paired(alloc, usage, matching, text.as_bytes(), words),
@@ -83,7 +83,8 @@ fn paired(
     text: &[u8],
     words: &[Text],
 ) -> Result<Control, NoMemory>
-    ensures { IfOk result (λ control. control ≡ choices.paired (wrong_number usage.now) matching text.now words.now) }
+    ensures { IfOk result
+        (λ control. control ≡ choices.choice_in_words (wrong_number usage.now) matching text.now words.now) }
 {
     match words {
         [] => wrong_number(alloc, usage),
@@ -110,7 +111,7 @@ fn chosen(
     text: &[u8],
     pairs: &[Text],
 ) -> Result<Control, NoMemory>
-    ensures { IfOk result (λ control. control ≡ choices.chosen matching text.now pairs.now) }
+    ensures { IfOk result (λ control. control ≡ choices.choice_among matching text.now pairs.now) }
 {
     if !is_whole(pairs) {
         let message = Text::from_bytes(alloc, b"switch pattern without body")?;

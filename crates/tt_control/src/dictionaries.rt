@@ -35,7 +35,7 @@ fn for_pairs(alloc: Global, usage: &[u8], words: &[Text]) -> Result<Control, NoM
 }
 
 fn looped(alloc: Global, found: Result<Looping, Text>) -> Result<Control, NoMemory>
-    ensures { IfOk result (λ control. control ≡ dictionaries.looped found) }
+    ensures { IfOk result (λ control. control ≡ dictionaries.pair_loop found) }
 {
     match found {
         Ok(looping) => over(alloc, looping),

@@ -143,7 +143,7 @@ fn last_code<'a>(name: &'a [u8], words: &'a [Text]) -> &'a [u8]
 }
 
 fn returned(alloc: Global, usage: &[u8], name: &[u8], words: &[Text]) -> Result<Control, NoMemory>
-    ensures { IfOk result (λ control. control ≡ endings.returned (wrong_number usage.now) name.now words.now) }
+    ensures { IfOk result (λ control. control ≡ endings.return_control (wrong_number usage.now) name.now words.now) }
 {
     match words {
         [] => returns(alloc, name, b""),

@@ -35,7 +35,7 @@ pub(crate) fn foreach(alloc: Global, usage: &[u8], words: &[Value]) -> Result<Co
 }
 
 fn read_from(alloc: Global, usage: &[u8], words: &[Value]) -> Result<Control, NoMemory>
-    ensures { IfOk result (λ control. control ≡ turns.read_from (wrong_number usage.now) [] words.now) }
+    ensures { IfOk result (λ control. control ≡ turns.columns_from (wrong_number usage.now) [] words.now) }
 {
     let mut columns = Vec::new(alloc);
     let mut rest = words;
@@ -81,7 +81,7 @@ fn with_values(alloc: Global, names: Items, values: &Value) -> Result<ColumnRead
 }
 
 fn turned(alloc: Global, columns: &[Column], body: &Value) -> Result<Control, NoMemory>
-    ensures { IfOk result (λ control. control ≡ turns.turned columns.now body.now) }
+    ensures { IfOk result (λ control. control ≡ turns.list_loop columns.now body.now) }
 {
     let mut names = Texts::new(alloc);
     push_names(&mut names, columns)?;

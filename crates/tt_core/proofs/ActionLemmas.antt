@@ -6,7 +6,7 @@ use Rattle.tt_calls.specs.declared.reply.Reply.{Reply}
 use Rattle.tt_calls.specs.declared.request.Request.{Request}
 use Rattle.tt_calls.specs.declared.start.Start.TheVariants as start
 use Rattle.tt_run.specs.Acting.{Happens, ReadsBy, ReadsNothing, Writes}
-use Rattle.tt_run.specs.Desk.{Devices, Ground, can_act, unread}
+use Rattle.tt_run.specs.Desk.{Devices, Ground, can_act, input_left}
 use Rattle.tt_run.specs.declared.fault.StepFault.{StepFault}
 use Rattle.tt_run.specs.declared.fault.StepFault.TheVariants as fault
 use Rattle.tt_devices.proofs.StreamLemmas.{Grows-append, Grows-same}
@@ -97,8 +97,8 @@ known-read (Some held) (Some left) input line is reads =
     record { rest = left; told = refl; reads = subst (λ (bytes : List ℕ). TakesLine bytes line left) same reads }
 
 was-read : {S K E : Type 0} (held : S → Option (List ℕ)) (is : Bool) (old new : Devices S K E) (input : List ℕ) (line : Line)
-    → unread held old ≡ Some input → ReadsBy is held old new line → IsRead is input line (unread held new)
-was-read held true old new input line told reads = known-read (unread held old) (unread held new) input line told reads
+    → input_left held old ≡ Some input → ReadsBy is held old new line → IsRead is input line (input_left held new)
+was-read held true old new input line told reads = known-read (input_left held old) (input_left held new) input line told reads
 was-read held false old new input line told reads = record {
   rest = input;
   told = rw (reads.1, reads.2) told;
@@ -113,7 +113,7 @@ AsksIn Where number request serving =
     (machine : Machine) → Where machine → IsTrue (is_living machine.shared.rows number) → ThreadAsks machine number request serving
 
 pub can-go : {S K E : Type 0} (held : S → Option (List ℕ)) (desk : Ground S K E) (number : ℕ) (request : Request) (serving : List ℕ) (machine : Machine)
-    → IsIts desk.shared (unread held desk.devices) machine
+    → IsIts desk.shared (input_left held desk.devices) machine
     → Able desk number request
     → ThreadAsks machine number request serving
     → CanStep machine number
@@ -132,14 +132,14 @@ pub record Goes {S K E : Type 0} (held : S → Option (List ℕ)) (old new : Gro
   pub steps : Steps machine number next
   pub setup : next.setup ≡ machine.setup
   pub shared : new.shared ≡ next.shared
-  pub left : unread held new.devices ≡ Some next.input
+  pub left : input_left held new.devices ≡ Some next.input
   pub threads : next.threads ≡ with_new_threads (with_reply machine.threads number (act old.shared number request line).gives.reply) new.shared.rows
   pub out : next.out ≡ machine.out ++ (act old.shared number request line).gives.out
   pub err : next.err ≡ machine.err ++ (act old.shared number request line).gives.err
 
 goes : {S K E : Type 0} (held : S → Option (List ℕ)) (old new : Ground S K E) (number : ℕ) (request : Request) (serving : List ℕ)
     (line : Line) (machine : Machine)
-    → IsIts old.shared (unread held old.devices) machine
+    → IsIts old.shared (input_left held old.devices) machine
     → Able old number request
     → ThreadAsks machine number request serving
     → ReadsBy (reads_line request) held old.devices new.devices line
@@ -172,7 +172,7 @@ goes held old new number request serving line machine its can asking read did =
 
 -- a thread that is asked nothing that can be answered takes no step
 pub barred-asking : {S K E : Type 0} (held : S → Option (List ℕ)) (desk : Ground S K E) (number : ℕ) (request : Request) (serving : List ℕ) (machine : Machine)
-    → IsIts desk.shared (unread held desk.devices) machine → desk.kept ≡ None
+    → IsIts desk.shared (input_left held desk.devices) machine → desk.kept ≡ None
     → (IsTrue (is_living machine.shared.rows number) → ThreadAsks machine number request serving)
     → IsFalse (can_act desk number request)
     → IsBarred machine number
@@ -320,12 +320,12 @@ module _ {S K E : Type 0} (held : S → Option (List ℕ)) (got_out : K → Opti
   -- it follows from the places of the threads
   pub of-machine : (setup : Setup) (began : Began S K E) (desk : Ground S K E) (Where fact : Machine → Type 0)
       → desk.kept ≡ None → Stood setup began desk Where
-      → ((machine : Machine) → IsIts desk.shared (unread held desk.devices) machine → Where machine → fact machine)
+      → ((machine : Machine) → IsIts desk.shared (input_left held desk.devices) machine → Where machine → fact machine)
       → Of setup began desk fact
   of-machine setup began desk Where fact unmet stood follows =
       told-map (held began.input) _ _ stood (λ input standing.
       let machine = standing.0 in
-      let its = going desk.kept desk.shared (unread held desk.devices) Where machine unmet standing.1.at in
+      let its = going desk.kept desk.shared (input_left held desk.devices) Where machine unmet standing.1.at in
       (machine, standing.1.ran, follows machine its.0 its.1))
 
   -- what a machine that goes on is faithful to
@@ -339,7 +339,7 @@ module _ {S K E : Type 0} (held : S → Option (List ℕ)) (got_out : K → Opti
 
   -- the places of its threads are said anew
   pub restood : (setup : Setup) (began : Began S K E) (desk : Ground S K E) (Old New : Machine → Type 0)
-      → ((machine : Machine) → machine.setup ≡ setup → IsIts desk.shared (unread held desk.devices) machine → Old machine → New machine)
+      → ((machine : Machine) → machine.setup ≡ setup → IsIts desk.shared (input_left held desk.devices) machine → Old machine → New machine)
       → Stood setup began desk Old → Stood setup began desk New
   restood setup began desk Old New anew stood =
       told-map (held began.input) _ _ stood (λ input standing.
@@ -349,7 +349,7 @@ module _ {S K E : Type 0} (held : S → Option (List ℕ)) (got_out : K → Opti
         record {
           setup = is.setup;
           ran = is.ran;
-          at = at-anew desk.kept desk.shared (unread held desk.devices) Old New machine (anew machine is.setup) is.at;
+          at = at-anew desk.kept desk.shared (input_left held desk.devices) Old New machine (anew machine is.setup) is.at;
           input = is.input;
           faithful = is.faithful;
         },
@@ -379,7 +379,7 @@ module _ {S K E : Type 0} (held : S → Option (List ℕ)) (got_out : K → Opti
       → After setup began old new number request line false input machine
   after-whole setup began old new number request serving line Where input machine is able_to asking did =
       let can = able old number request able_to in
-      let its = going old.kept old.shared (unread held old.devices) Where machine can.nothing_met is.at in
+      let its = going old.kept old.shared (input_left held old.devices) Where machine can.nothing_met is.at in
       let asks = asking machine its.1 (rw (← its.0.is_shared) can.lives) in
       let went = goes held old new number request serving line machine its.0 can asks did.read did.shared in
       let far = whole-so-far setup began old Where input machine can.nothing_met is in
@@ -403,7 +403,7 @@ module _ {S K E : Type 0} (held : S → Option (List ℕ)) (got_out : K → Opti
       → After setup began old new number request line true input machine
   after-cut setup began old new number request serving line Where input machine is able_to asking did =
       let can = able old number request able_to in
-      let its = going old.kept old.shared (unread held old.devices) Where machine can.nothing_met is.at in
+      let its = going old.kept old.shared (input_left held old.devices) Where machine can.nothing_met is.at in
       let asks = asking machine its.1 (rw (← its.0.is_shared) can.lives) in
       let went = goes held old new number request serving line machine its.0 can asks did.read did.shared in
       let far = whole-so-far setup began old Where input machine can.nothing_met is in
@@ -433,12 +433,12 @@ module _ {S K E : Type 0} (held : S → Option (List ℕ)) (got_out : K → Opti
       let machine = standing.0 in
       let is = standing.1 in
       let went = after-whole setup began old new number request serving line Old input machine is can asking did in
-      let its = going old.kept old.shared (unread held old.devices) Old machine (able old number request can).nothing_met is.at in (
+      let its = going old.kept old.shared (input_left held old.devices) Old machine (able old number request can).nothing_met is.at in (
         went.goes.next,
         record {
           setup = went.same;
           ran = went.ran;
-          at = at-none new.kept new.shared (unread held new.devices) New went.goes.next goes_on (
+          at = at-none new.kept new.shared (input_left held new.devices) New went.goes.next goes_on (
             record { is_shared = went.goes.shared; is_left = went.goes.left },
             becomes machine went.goes.next is.setup went.same its.1 went.goes.threads,
           );
@@ -484,7 +484,7 @@ module _ {S K E : Type 0} (held : S → Option (List ℕ)) (got_out : K → Opti
         record {
           setup = went.same;
           ran = went.ran;
-          at = at-met new.kept (Some fault.WriteFault) new.shared (unread held new.devices) New went.goes.next met tt;
+          at = at-met new.kept (Some fault.WriteFault) new.shared (input_left held new.devices) New went.goes.next met tt;
           input = holds-rest new.devices.ahead (held new.devices.input) went.goes.next.input went.goes.left;
           faithful = faithful-by new.kept true (start_machine setup input) new.schedule (got_out began.output) (got_out new.devices.output)
               (got_err began.errors) (got_err new.devices.errors) went.goes.next (ap is_cut met) went.faithful;
@@ -496,19 +496,19 @@ module _ {S K E : Type 0} (held : S → Option (List ℕ)) (got_out : K → Opti
       → old.kept ≡ None → new.kept ≡ Some is → is_cut (Some is) ≡ false
       → new.schedule ≡ old.schedule → new.devices.output ≡ old.devices.output → new.devices.errors ≡ old.devices.errors
       → LosesPart (held old.devices.input) (held new.devices.input)
-      → ((machine : Machine) → IsIts old.shared (unread held old.devices) machine → Old machine
-      → IsAt (Some is) new.shared (unread held new.devices) New machine)
+      → ((machine : Machine) → IsIts old.shared (input_left held old.devices) machine → Old machine
+      → IsAt (Some is) new.shared (input_left held new.devices) New machine)
       → Stood setup began old Old → Stood setup began new New
   stopped setup began old new Old New is unmet met cut same out err loses at stood =
       told-map (held began.input) _ _ stood (λ input standing.
       let machine = standing.0 in
-      let its = going old.kept old.shared (unread held old.devices) Old machine unmet standing.1.at in
+      let its = going old.kept old.shared (input_left held old.devices) Old machine unmet standing.1.at in
       let far = whole-so-far setup began old Old input machine unmet standing.1 in (
         machine,
         record {
           setup = standing.1.setup;
           ran = rw same standing.1.ran;
-          at = at-met new.kept (Some is) new.shared (unread held new.devices) New machine met (at machine its.0 its.1);
+          at = at-met new.kept (Some is) new.shared (input_left held new.devices) New machine met (at machine its.0 its.1);
           input = holds-less (held old.devices.input) (held new.devices.input) machine.input loses standing.1.input;
           faithful = faithful-by new.kept false (start_machine setup input) new.schedule (got_out began.output) (got_out new.devices.output)
               (got_err began.errors) (got_err new.devices.errors) machine (ap is_cut met ∙ cut)
@@ -535,7 +535,7 @@ module _ {S K E : Type 0} (held : S → Option (List ℕ)) (got_out : K → Opti
       (λ machine its there. (
         record {
           is_shared = nothing.shared ∙ its.is_shared;
-          is_left = keeps-some (unread held old.devices) (unread held new.devices) machine.input its.is_left nothing.unread;
+          is_left = keeps-some (input_left held old.devices) (input_left held new.devices) machine.input its.is_left nothing.unread;
         },
         there,
       )) stood
@@ -693,7 +693,7 @@ module _ {S K E : Type 0} (held : S → Option (List ℕ)) (got_out : K → Opti
       told-map (held began.input) _ _ stood (λ input standing.
       let machine = standing.0 in
       let has = able old number request can in
-      let its = going old.kept old.shared (unread held old.devices) Where machine has.nothing_met standing.1.at in
+      let its = going old.kept old.shared (input_left held old.devices) Where machine has.nothing_met standing.1.at in
       let asks = asking machine its.1 (rw (← its.0.is_shared) has.lives) in
       let went = goes held old new number request serving line machine its.0 has asks did.read did.shared in
       let longer = old.schedule ++ number ∷ [] in

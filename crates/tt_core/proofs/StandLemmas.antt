@@ -6,7 +6,7 @@ use Rattle.tt_calls.specs.declared.reply.Reply.{Reply}
 use Rattle.tt_calls.specs.declared.request.Request.{Request}
 use Rattle.tt_calls.specs.declared.start.Start.TheVariants as start
 use Rattle.tt_run.specs.Acting.{Happens, IsAnswer, Writes}
-use Rattle.tt_run.specs.Desk.{Ground, can_act, unread}
+use Rattle.tt_run.specs.Desk.{Ground, can_act, input_left}
 use Rattle.tt_run.specs.declared.desk.Acted.{Acted}
 use Rattle.tt_run.specs.declared.fault.StepFault.{StepFault}
 use Rattle.tt_run.specs.declared.fault.StepFault.TheVariants as fault
@@ -113,7 +113,7 @@ module _ {S K E : Type 0} (held : S → Option (List ℕ)) (got_out : K → Opti
   -- ---- what can be done ----
 
   barred-at : (desk : Ground S K E) (number : ℕ) (places : Places) (machine : Machine) (found : Option Interpreter)
-      → IsIts desk.shared (unread held desk.devices) machine → InPlaces places machine → desk.kept ≡ None
+      → IsIts desk.shared (input_left held desk.devices) machine → InPlaces places machine → desk.kept ≡ None
       → interp_of places number ≡ found → IsFalse (can_act_at desk number found)
       → IsBarred machine number
   barred-at desk number places machine None its are kept is unable =
@@ -137,7 +137,7 @@ module _ {S K E : Type 0} (held : S → Option (List ℕ)) (got_out : K → Opti
   ready-one desk number (Some interp) is = (interp, refl, is)
 
   ready-at : (desk : Ground S K E) (number : ℕ) (places : Places) (machine : Machine)
-      → IsIts desk.shared (unread held desk.devices) machine → InPlaces places machine
+      → IsIts desk.shared (input_left held desk.devices) machine → InPlaces places machine
       → IsTrue (is_ready desk places number) → CanStep machine number
   ready-at desk number places machine its are is =
       let one = ready-one desk number (interp_of places number) is in
@@ -167,7 +167,7 @@ module _ {S K E : Type 0} (held : S → Option (List ℕ)) (got_out : K → Opti
     where
       by-case : (found : Option Interpreter) → interp_of places number ≡ found
           → None ≡ option_map (λ (interp : Interpreter). request_of interp.standing) found
-          → (machine : Machine) → IsIts desk.shared (unread held desk.devices) machine → InPlaces places machine → IsBarred machine number
+          → (machine : Machine) → IsIts desk.shared (input_left held desk.devices) machine → InPlaces places machine → IsBarred machine number
       by-case None at asked machine its are = barred-at desk number places machine None its are kept at refl
       by-case (Some interp) at asked machine its are = absurd (cc asked)
 
@@ -279,7 +279,7 @@ module _ {S K E : Type 0} (held : S → Option (List ℕ)) (got_out : K → Opti
       })
 
   busy-goes : (desk : Ground S K E) (places : Places) (machine : Machine)
-      → IsIts desk.shared (unread held desk.devices) machine → InPlaces places machine → AreBusy desk places → IsStuck machine → ⊥
+      → IsIts desk.shared (input_left held desk.devices) machine → InPlaces places machine → AreBusy desk places → IsStuck machine → ⊥
   busy-goes desk places machine its are (has_ended code over_is) stuck = some-none (sym over_is ∙ rw its.is_shared stuck.going)
   busy-goes desk places machine its are (can_be number is) stuck =
       not_barred machine number (ready-at desk number places machine its are is) (stuck.barred number)

@@ -2,7 +2,7 @@
 use Rattle.std.proofs.Common.{◌≡◌, ◌∙◌, ℕ, List, [], ◌∷◌, ◌++◌, Ok, Err, length, refl, sym, ap, rules}
 use Rattle.tt_pairs.specs.Pairs.{Pairs, text_of, value_of, with_pair}
 use Rattle.tt_pairs.specs.Reading.{Reading}
-use Rattle.tt_dict.specs.Paths.{edited, edited_at, for_pairs, found_by, inner_by, put_back, value_at, way_by}
+use Rattle.tt_dict.specs.Paths.{after_edit, after_edit_at, for_pairs, found_by, inner_by, put_back, value_at, way_by}
 use Rattle.tt_dict.specs.declared.edit.Edit.{Edit}
 use Rattle.tt_dict.specs.declared.edit.Level.{Level}
 use Rattle.tt_dict.specs.inside.Levels.{around}
@@ -48,34 +48,34 @@ around_stops (outer ∷ levels) message = ap (put_back outer.pairs outer.key) (a
 edit_next : (edit : Edit) (pairs : Pairs) (key next : List ℕ) (rest keys : List (List ℕ)) (inner : Reading) →
     rest ≡ next ∷ keys →
     way_by edit key (value_of pairs key) ≡ inner →
-    edited_at edit pairs key rest ≡ put_back pairs key (for_pairs (λ inner. edited_at edit inner next keys) inner)
+    after_edit_at edit pairs key rest ≡ put_back pairs key (for_pairs (λ inner. after_edit_at edit inner next keys) inner)
 edit_next edit pairs key next rest keys inner is found =
-    ap (edited_at edit pairs key) is
-    ∙ ap (λ inner. put_back pairs key (for_pairs (λ inner. edited_at edit inner next keys) inner)) found
+    ap (after_edit_at edit pairs key) is
+    ∙ ap (λ inner. put_back pairs key (for_pairs (λ inner. after_edit_at edit inner next keys) inner)) found
 
 pub edit_more : (edit : Edit) (levels more : List Level) (pairs inner : Pairs) (key next : List ℕ)
     (rest keys : List (List ℕ)) →
     rest ≡ next ∷ keys →
     way_by edit key (value_of pairs key) ≡ Ok inner →
     more ≡ levels ++ record { pairs = pairs; key = key } ∷ [] →
-    around levels (edited_at edit pairs key rest) ≡ around more (edited_at edit inner next keys)
+    around levels (after_edit_at edit pairs key rest) ≡ around more (after_edit_at edit inner next keys)
 edit_more edit levels more pairs inner key next rest keys is found pushed =
     ap (around levels) (edit_next edit pairs key next rest keys (Ok inner) is found)
-    ∙ sym (around_push levels (record { pairs = pairs; key = key }) (edited_at edit inner next keys))
-    ∙ ap (λ all. around all (edited_at edit inner next keys)) (sym pushed)
+    ∙ sym (around_push levels (record { pairs = pairs; key = key }) (after_edit_at edit inner next keys))
+    ∙ ap (λ all. around all (after_edit_at edit inner next keys)) (sym pushed)
 
 pub edit_stops : (edit : Edit) (levels : List Level) (pairs : Pairs) (key next message : List ℕ)
     (rest keys : List (List ℕ)) →
     rest ≡ next ∷ keys →
     way_by edit key (value_of pairs key) ≡ Err message →
-    around levels (edited_at edit pairs key rest) ≡ Err message
+    around levels (after_edit_at edit pairs key rest) ≡ Err message
 edit_stops edit levels pairs key next message rest keys is found =
     ap (around levels) (edit_next edit pairs key next rest keys (Err message) is found) ∙ around_stops levels message
 
 pub edit_last : (edit : Edit) (levels : List Level) (pairs made : Pairs) (key : List ℕ) (rest : List (List ℕ)) →
     length rest ≡ 0 →
-    made ≡ edited edit pairs key →
-    around levels (edited_at edit pairs key rest) ≡ around levels (Ok made)
+    made ≡ after_edit edit pairs key →
+    around levels (after_edit_at edit pairs key rest) ≡ around levels (Ok made)
 edit_last edit levels pairs made key [] none is = ap (λ all. around levels (Ok all)) (sym is)
 edit_last edit levels pairs made key (next ∷ keys) none is = absurd (search (rules, none))
 

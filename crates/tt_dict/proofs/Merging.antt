@@ -3,30 +3,30 @@ use Rattle.std.proofs.Common.{◌≡◌, ◌∙◌, ℕ, List, [], ◌∷◌, Ok
 use Rattle.tt_pairs.specs.Pairs.{Pairs, joined_pairs}
 use Rattle.tt_pairs.specs.Reading.{Reading, reading_of}
 use Rattle.tt_dict.specs.Paths.{for_pairs}
-use Rattle.tt_dict.specs.Telling.{merged}
+use Rattle.tt_dict.specs.Telling.{merge_of}
 
 merge_next : (all : Pairs) (words later : List (List ℕ)) (word : List ℕ) (reading : Reading) →
     words ≡ word ∷ later →
     reading_of word ≡ reading →
-    merged all (map reading_of words) ≡ for_pairs (λ more. merged (joined_pairs all more) (map reading_of later)) reading
+    merge_of all (map reading_of words) ≡ for_pairs (λ more. merge_of (joined_pairs all more) (map reading_of later)) reading
 merge_next all words later word reading is read =
-    ap (λ words. merged all (map reading_of words)) is
-    ∙ ap (for_pairs (λ more. merged (joined_pairs all more) (map reading_of later))) read
+    ap (λ words. merge_of all (map reading_of words)) is
+    ∙ ap (for_pairs (λ more. merge_of (joined_pairs all more) (map reading_of later))) read
 
 pub merge_more : (all more next : Pairs) (words later : List (List ℕ)) (word : List ℕ) →
     words ≡ word ∷ later →
     reading_of word ≡ Ok more →
     next ≡ joined_pairs all more →
-    merged all (map reading_of words) ≡ merged next (map reading_of later)
+    merge_of all (map reading_of words) ≡ merge_of next (map reading_of later)
 merge_more all more next words later word is read put =
-    merge_next all words later word (Ok more) is read ∙ ap (λ all. merged all (map reading_of later)) (sym put)
+    merge_next all words later word (Ok more) is read ∙ ap (λ all. merge_of all (map reading_of later)) (sym put)
 
 pub merge_stops : (all : Pairs) (words later : List (List ℕ)) (word message : List ℕ) →
     words ≡ word ∷ later →
     reading_of word ≡ Err message →
-    merged all (map reading_of words) ≡ Err message
+    merge_of all (map reading_of words) ≡ Err message
 merge_stops all words later word message is read = merge_next all words later word (Err message) is read
 
-pub merge_last : (all : Pairs) (words : List (List ℕ)) → length words ≡ 0 → merged all (map reading_of words) ≡ Ok all
+pub merge_last : (all : Pairs) (words : List (List ℕ)) → length words ≡ 0 → merge_of all (map reading_of words) ≡ Ok all
 merge_last all [] none = refl
 merge_last all (word ∷ words) none = absurd (search (rules, none))

@@ -4,9 +4,9 @@ use Rattle.tt_pairs.specs.PairLaws.{KeysDiffer}
 use Rattle.tt_pairs.specs.Pairs.{Pairs}
 use Rattle.tt_pairs.specs.Reading.{Reading, reading_of}
 use Rattle.tt_calls.specs.declared.outcome.Outcome.{Outcome}
-use Rattle.tt_dict.specs.Changing.{after, changed}
+use Rattle.tt_dict.specs.Changing.{after, change_answer}
 use Rattle.tt_dict.specs.Rows.{reads}
-use Rattle.tt_dict.specs.Telling.{merge, merged}
+use Rattle.tt_dict.specs.Telling.{merge, merge_of}
 use Rattle.tt_dict.specs.declared.changes.Change.{Change}
 
 -- texts that are read as the same pairs give the same answers: to a command that reads one, to dict merge, and after a
@@ -21,7 +21,7 @@ pub record SamePairsLaw : Type 0 where
       merge wrong ones ≡ merge wrong others
   pub changed : (change : Change) (one other : List ℕ) →
       reading_of one ≡ reading_of other →
-      changed change (reading_of one) ≡ changed change (reading_of other)
+      change_answer change (reading_of one) ≡ change_answer change (reading_of other)
 
 -- a change leaves a dictionary: its keys differ
 abbrev pub ChangedKeysLaw : Type 0
@@ -32,5 +32,5 @@ ChangedKeysLaw =
 abbrev pub MergeLaw : Type 0
 MergeLaw =
     (pairs between : Pairs) (front back : List Reading) →
-    merged pairs front ≡ Ok between →
-    merged pairs (front ++ back) ≡ merged between back
+    merge_of pairs front ≡ Ok between →
+    merge_of pairs (front ++ back) ≡ merge_of between back

@@ -32,9 +32,9 @@ value_at pairs key (next ∷ keys) = for_pairs (λ inner. value_at inner next ke
 -- ---- changing (dict set, dict unset) ----
 
 -- what becomes of the dictionary that has the last key
-abbrev pub edited : Edit → Pairs → (key : List ℕ) → Pairs
-edited (Put value) pairs key = with_pair pairs key value
-edited Remove pairs key = without_key pairs key
+abbrev pub after_edit : Edit → Pairs → (key : List ℕ) → Pairs
+after_edit (Put value) pairs key = with_pair pairs key value
+after_edit Remove pairs key = without_key pairs key
 
 -- a missing key on the way: a dictionary is made for a value that is put
 abbrev pub way_without : Edit → (key : List ℕ) → Reading
@@ -51,12 +51,12 @@ put_back pairs key (Ok inner) = Ok (with_pair pairs key (text_of inner))
 put_back pairs key (Err message) = Err message
 
 -- the last key is edited, in the dictionary that the keys before it name
-abbrev pub edited_at : Edit → Pairs → (key : List ℕ) → (keys : List (List ℕ)) → Reading
-edited_at edit pairs key [] = Ok (edited edit pairs key)
-edited_at edit pairs key (next ∷ keys) =
-    put_back pairs key (for_pairs (λ inner. edited_at edit inner next keys) (way_by edit key (value_of pairs key)))
+abbrev pub after_edit_at : Edit → Pairs → (key : List ℕ) → (keys : List (List ℕ)) → Reading
+after_edit_at edit pairs key [] = Ok (after_edit edit pairs key)
+after_edit_at edit pairs key (next ∷ keys) =
+    put_back pairs key (for_pairs (λ inner. after_edit_at edit inner next keys) (way_by edit key (value_of pairs key)))
 
 -- a path of no keys changes nothing
-abbrev pub edited_on : Edit → Pairs → (path : List (List ℕ)) → Reading
-edited_on edit pairs [] = Ok pairs
-edited_on edit pairs (key ∷ keys) = edited_at edit pairs key keys
+abbrev pub after_edit_on : Edit → Pairs → (path : List (List ℕ)) → Reading
+after_edit_on edit pairs [] = Ok pairs
+after_edit_on edit pairs (key ∷ keys) = after_edit_at edit pairs key keys

@@ -3,7 +3,7 @@
 use Rattle.std.specs.Prelude.{ℕ, Bool, List, [], ◌∷◌, codes, decimal, filter, fold, length, map, Option, Some, None}
 use Rattle.std.specs.Prelude.{Result, Ok, Err, is_ok, if◌then◌else◌}
 use Rattle.std.specs.Map.{keys_of, values_of}
-use Rattle.tt_calls.specs.Outcomes.{failed, fine}
+use Rattle.tt_calls.specs.Outcomes.{error_outcome, fine}
 use Rattle.tt_calls.specs.declared.outcome.Outcome.{Outcome}
 use Rattle.tt_lists.specs.Spelling.{list_of}
 use Rattle.tt_pairs.specs.Pairs.{Pairs, joined_pairs, text_of, without_key}
@@ -15,12 +15,12 @@ use Rattle.tt_dict.specs.Paths.{for_pairs, value_at}
 -- a text that is made of pairs
 abbrev pub text_answer : (Pairs → List ℕ) → Reading → Outcome
 text_answer make (Ok pairs) = fine (make pairs)
-text_answer make (Err message) = failed message
+text_answer make (Err message) = error_outcome message
 
 -- a text that is found, or the message
-abbrev pub answered : Result (List ℕ) (List ℕ) → Outcome
-answered (Ok text) = fine text
-answered (Err message) = failed message
+abbrev pub text_outcome : Result (List ℕ) (List ℕ) → Outcome
+text_outcome (Ok text) = fine text
+text_outcome (Err message) = error_outcome message
 
 -- 1 for what is so, else 0
 abbrev pub truth : Bool → List ℕ
@@ -29,7 +29,7 @@ truth is = if is then codes "1" else codes "0"
 -- dict get: without keys the whole dictionary
 abbrev pub get : (wrong : Outcome) → Reading → (keys : List (List ℕ)) → Outcome
 get wrong reading [] = text_answer text_of reading
-get wrong reading (key ∷ keys) = answered (for_pairs (λ pairs. value_at pairs key keys) reading)
+get wrong reading (key ∷ keys) = text_outcome (for_pairs (λ pairs. value_at pairs key keys) reading)
 
 -- dict exists: no value is there either if one on the way is no dictionary
 abbrev pub exists : (wrong : Outcome) → Reading → (keys : List (List ℕ)) → Outcome
@@ -82,9 +82,9 @@ abbrev pub create : (wrong : Outcome) → (words : List (List ℕ)) → Outcome
 create wrong words = create_by wrong (pairs_of words)
 
 -- dict merge: from the left, up to the first that is no dictionary
-abbrev pub merged : Pairs → List Reading → Reading
-merged pairs [] = Ok pairs
-merged pairs (reading ∷ readings) = for_pairs (λ more. merged (joined_pairs pairs more) readings) reading
+abbrev pub merge_of : Pairs → List Reading → Reading
+merge_of pairs [] = Ok pairs
+merge_of pairs (reading ∷ readings) = for_pairs (λ more. merge_of (joined_pairs pairs more) readings) reading
 
 abbrev pub merge : (wrong : Outcome) → (words : List (List ℕ)) → Outcome
-merge wrong words = text_answer text_of (merged [] (map reading_of words))
+merge wrong words = text_answer text_of (merge_of [] (map reading_of words))

@@ -1,7 +1,7 @@
 -- What the subcommands that change a variable come to (dict(n)); `wrong` is the answer to a wrong number of words.
 use Rattle.std.specs.Prelude.{ℕ, ◌-◌, ℤ, pos, List, [], ◌∷◌, length, slice_get, take, Result, Ok, Err}
 use Rattle.std.specs.Option.{unwrap_or}
-use Rattle.tt_calls.specs.Outcomes.{failed}
+use Rattle.tt_calls.specs.Outcomes.{error_outcome}
 use Rattle.tt_number.specs.Messages.{number_message}
 use Rattle.tt_number.specs.Numerals.{whole_of}
 use Rattle.tt_number.specs.declared.numeral.NumberFault.{NumberFault}
@@ -18,19 +18,19 @@ last_of words = unwrap_or (slice_get words (length words - 1)) []
 abbrev pub set_last : (name : List ℕ) → (words : List (List ℕ)) → DictCall
 set_last name words = Variable name (Set (take (length words - 1) words) (last_of words))
 
-abbrev pub set : Meaning
-set wrong (name ∷ key ∷ next ∷ words) = set_last name (key ∷ next ∷ words)
-set wrong words = Done wrong
+abbrev pub set_meaning : Meaning
+set_meaning wrong (name ∷ key ∷ next ∷ words) = set_last name (key ∷ next ∷ words)
+set_meaning wrong words = Done wrong
 
 -- dict unset
-abbrev pub unset : Meaning
-unset wrong (name ∷ key ∷ keys) = Variable name (Unset (key ∷ keys))
-unset wrong words = Done wrong
+abbrev pub unset_meaning : Meaning
+unset_meaning wrong (name ∷ key ∷ keys) = Variable name (Unset (key ∷ keys))
+unset_meaning wrong words = Done wrong
 
 -- dict incr: by 1, if no word says by how much; this is read before the variable
 abbrev pub incr_by : (name key step : List ℕ) → Result ℤ NumberFault → DictCall
 incr_by name key step (Ok by) = Variable name (Incr key by)
-incr_by name key step (Err fault) = Done (failed (number_message fault step))
+incr_by name key step (Err fault) = Done (error_outcome (number_message fault step))
 
 abbrev pub incr : Meaning
 incr wrong (name ∷ key ∷ []) = Variable name (Incr key (pos 1))

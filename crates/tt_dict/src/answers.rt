@@ -37,7 +37,7 @@ pub(crate) fn whole_of(
 
 /// What was found, or the error.
 pub(crate) fn answered(alloc: Global, found: Result<Text, Text>) -> Result<Outcome, NoMemory>
-    ensures { IfOk result (λ outcome. outcome ≡ telling.answered found) }
+    ensures { IfOk result (λ outcome. outcome ≡ telling.text_outcome found) }
 {
     match found {
         Ok(text) => Ok(Outcome::fine(alloc, text)),

@@ -2,7 +2,7 @@
 ghost use Rattle.std.specs.Prelude.{◌≡◌, ◌++◌, [], codes, Err, IfErr, IfOk, Ok};
 ghost use Rattle.tt_dict.specs.Changing as changing;
 ghost use Rattle.tt_dict.specs.Paths as paths;
-ghost use Rattle.tt_dict.specs.inside.Steps.{stepped};
+ghost use Rattle.tt_dict.specs.inside.Steps.{after_step};
 ghost use Rattle.tt_pairs.specs.Pairs.{Pairs};
 ghost use Rattle.tt_pairs.specs.Reading.{reading_of};
 ghost use Rattle.tt_value.specs.Growing.{value_after};
@@ -26,7 +26,7 @@ impl Changing for Change {
     ghost use Rattle.tt_dict.specs.Changing as changing;
     ghost use Rattle.tt_pairs.specs.Reading.{reading_of};
 
-    ghost meaning = { λ change text. changing.changed change (reading_of text) };
+    ghost meaning = { λ change text. changing.change_answer change (reading_of text) };
 
     fn change(&self, alloc: Global, value: &mut Value) -> Result<Made, NoMemory> {
         let pairs = match value.pairs(alloc)? {
@@ -45,7 +45,7 @@ impl Changing for Change {
 // The pairs that a value is read as take a step.
 fn take_step(alloc: Global, value: &mut Value, step: Step) -> Result<Made, NoMemory>
     ensures made { (pairs : Pairs) → reading_of value.old ≡ Ok pairs →
-        IfOk result (λ made. made ≡ changing.answer_of (Ok (stepped step pairs))) }
+        IfOk result (λ made. made ≡ changing.answer_of (Ok (after_step step pairs))) }
     ensures left { (pairs : Pairs) → reading_of value.old ≡ Ok pairs →
         IfOk result (λ made. value.new ≡ value_after made value.old) }
 {
@@ -67,7 +67,7 @@ fn step_of(
     pairs: &Dictionary,
 ) -> Result<Result<Step, Text>, NoMemory>
     ensures step { IfOk result (λ step. IfOk step (λ step.
-        changing.after change.now pairs.now ≡ Ok (stepped step pairs.now))) }
+        changing.after change.now pairs.now ≡ Ok (after_step step pairs.now))) }
     ensures bad { IfOk result (λ step. IfErr step (λ message. changing.after change.now pairs.now ≡ Err message)) }
 {
     match change {
@@ -90,10 +90,11 @@ fn incr(
 ) -> Result<Result<Step, Text>, NoMemory>
     ensures step { IfOk result (λ made. IfOk made (λ step.
         changing.putting pairs.now key.now
-        (changing.increased (changing.value_or (codes "0") pairs.now key.now) by) ≡ Ok (stepped step pairs.now))) }
+        (changing.text_increase (changing.value_or (codes "0") pairs.now key.now) by)
+        ≡ Ok (after_step step pairs.now))) }
     ensures bad { IfOk result (λ made. IfErr made (λ message.
         changing.putting pairs.now key.now
-        (changing.increased (changing.value_or (codes "0") pairs.now key.now) by) ≡ Err message)) }
+        (changing.text_increase (changing.value_or (codes "0") pairs.now key.now) by) ≡ Err message)) }
 {
     match increased(alloc, value_or(pairs, key, b"0"), by)? {
         Ok(text) => Ok(Ok(Step::Puts(key.copy()?, text))),
@@ -109,10 +110,11 @@ fn append(
 ) -> Result<Result<Step, Text>, NoMemory>
     ensures step { IfOk result (λ made. IfOk made (λ step.
         changing.putting pairs.now key.now
-        (Ok (changing.appended (changing.value_or [] pairs.now key.now) pieces.now)) ≡ Ok (stepped step pairs.now))) }
+        (Ok (changing.text_with (changing.value_or [] pairs.now key.now) pieces.now))
+        ≡ Ok (after_step step pairs.now))) }
     ensures bad { IfOk result (λ made. IfErr made (λ message.
         changing.putting pairs.now key.now
-        (Ok (changing.appended (changing.value_or [] pairs.now key.now) pieces.now)) ≡ Err message)) }
+        (Ok (changing.text_with (changing.value_or [] pairs.now key.now) pieces.now)) ≡ Err message)) }
 {
     let text = appended(alloc, value_or(pairs, key, b""), pieces)?;
     Ok(Ok(Step::Puts(key.copy()?, text)))
@@ -126,11 +128,11 @@ fn lappend(
 ) -> Result<Result<Step, Text>, NoMemory>
     ensures step { IfOk result (λ made. IfOk made (λ step.
         changing.putting pairs.now key.now
-        (changing.listed (split_of (changing.value_or [] pairs.now key.now)) items.now)
-        ≡ Ok (stepped step pairs.now))) }
+        (changing.list_with (split_of (changing.value_or [] pairs.now key.now)) items.now)
+        ≡ Ok (after_step step pairs.now))) }
     ensures bad { IfOk result (λ made. IfErr made (λ message.
         changing.putting pairs.now key.now
-        (changing.listed (split_of (changing.value_or [] pairs.now key.now)) items.now) ≡ Err message)) }
+        (changing.list_with (split_of (changing.value_or [] pairs.now key.now)) items.now) ≡ Err message)) }
 {
     match listed(alloc, value_or(pairs, key, b""), items)? {
         Ok(text) => Ok(Ok(Step::Puts(key.copy()?, text))),
@@ -149,7 +151,7 @@ fn value_or<'a>(pairs: &'a Dictionary, key: &Text, missing: &'a [u8]) -> &'a [u8
 }
 
 fn increased(alloc: Global, text: &[u8], by: i64) -> Result<Result<Text, Text>, NoMemory>
-    ensures { IfOk result (λ made. made ≡ changing.increased_by text.now (whole_of text.now) by) }
+    ensures { IfOk result (λ made. made ≡ changing.number_increase text.now (whole_of text.now) by) }
 {
     match read_whole(text) {
         Ok(number) => sum(alloc, number, by),
@@ -167,7 +169,7 @@ fn sum(alloc: Global, number: i64, by: i64) -> Result<Result<Text, Text>, NoMemo
 }
 
 fn appended(alloc: Global, text: &[u8], pieces: &[Text]) -> Result<Text, NoMemory>
-    ensures { IfOk result (λ made. made ≡ changing.appended text.now pieces.now) }
+    ensures { IfOk result (λ made. made ≡ changing.text_with text.now pieces.now) }
 {
     let mut all = Text::from_bytes(alloc, text)?;
     for piece in pieces {
@@ -177,7 +179,7 @@ fn appended(alloc: Global, text: &[u8], pieces: &[Text]) -> Result<Text, NoMemor
 }
 
 fn listed(alloc: Global, text: &[u8], more: &[Text]) -> Result<Result<Text, Text>, NoMemory>
-    ensures { IfOk result (λ made. made ≡ changing.listed (split_of text.now) more.now) }
+    ensures { IfOk result (λ made. made ≡ changing.list_with (split_of text.now) more.now) }
 {
     match split(alloc, text)? {
         Split::Items(items) => Ok(Ok(longer(alloc, items, more)?)),

@@ -4,7 +4,7 @@
 ghost use Rattle.std.specs.Prelude.{◌≡◌, ◌∷◌, Err, IfErr, IfOk, Ok, OnOk};
 ghost use Rattle.tt_dict.specs.Paths as paths;
 ghost use Rattle.tt_dict.specs.inside.Levels.{around};
-ghost use Rattle.tt_dict.specs.inside.Steps.{stepped};
+ghost use Rattle.tt_dict.specs.inside.Steps.{after_step};
 ghost use Rattle.tt_pairs.specs.Pairs.{Pairs, text_of, value_of, with_pair};
 
 use crate::edit::{Edit, Level, Step};
@@ -85,9 +85,9 @@ pub(crate) fn step_on(
     path: &[Text],
 ) -> Result<Result<Step, Text>, NoMemory>
     ensures step { IfOk result (λ made. IfOk made (λ step.
-        paths.edited_on edit.now pairs.now path.now ≡ Ok (stepped step pairs.now))) }
+        paths.after_edit_on edit.now pairs.now path.now ≡ Ok (after_step step pairs.now))) }
     ensures bad { IfOk result (λ made. IfErr made (λ message.
-        paths.edited_on edit.now pairs.now path.now ≡ Err message)) }
+        paths.after_edit_on edit.now pairs.now path.now ≡ Err message)) }
 {
     match path {
         [] => Ok(Ok(Step::Stays)),
@@ -97,7 +97,7 @@ pub(crate) fn step_on(
 }
 
 fn last_step(edit: &Edit, key: &Text) -> Result<Step, NoMemory>
-    ensures { (pairs : Pairs) → IfOk result (λ step. paths.edited edit.now pairs key.now ≡ stepped step pairs) }
+    ensures { (pairs : Pairs) → IfOk result (λ step. paths.after_edit edit.now pairs key.now ≡ after_step step pairs) }
 {
     match edit {
         Edit::Put(value) => Ok(Step::Puts(key.copy()?, value.copy()?)),
@@ -114,9 +114,9 @@ fn step_inwards(
     keys: &[Text],
 ) -> Result<Result<Step, Text>, NoMemory>
     ensures step { IfOk result (λ made. IfOk made (λ step.
-        paths.edited_at edit.now pairs.now key.now (next.now ∷ keys.now) ≡ Ok (stepped step pairs.now))) }
+        paths.after_edit_at edit.now pairs.now key.now (next.now ∷ keys.now) ≡ Ok (after_step step pairs.now))) }
     ensures bad { IfOk result (λ made. IfErr made (λ message.
-        paths.edited_at edit.now pairs.now key.now (next.now ∷ keys.now) ≡ Err message)) }
+        paths.after_edit_at edit.now pairs.now key.now (next.now ∷ keys.now) ≡ Err message)) }
 {
     let inner = match way_in(alloc, edit, pairs, key)? {
         Ok(inner) => inner,
@@ -136,7 +136,7 @@ fn edited_at(
     key: &Text,
     keys: &[Text],
 ) -> Result<Result<Dictionary, Text>, NoMemory>
-    ensures { IfOk result (λ made. made ≡ paths.edited_at edit.now inner key.now keys.now) }
+    ensures { IfOk result (λ made. made ≡ paths.after_edit_at edit.now inner key.now keys.now) }
 {
     let mut levels = Vec::new(alloc);
     let mut at = key;
@@ -184,7 +184,7 @@ fn way_without(alloc: Global, edit: &Edit, key: &Text) -> Result<Result<Dictiona
 }
 
 fn edit_last(edit: &Edit, pairs: &mut Dictionary, key: &Text) -> Result<(), NoMemory>
-    ensures { OnOk result (pairs.new ≡ paths.edited edit.now pairs.old key.now) }
+    ensures { OnOk result (pairs.new ≡ paths.after_edit edit.now pairs.old key.now) }
 {
     match edit {
         Edit::Put(value) => pairs.put(key.copy()?, value.copy()?),

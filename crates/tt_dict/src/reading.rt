@@ -1,6 +1,6 @@
 //! What the words of `dict` come to.
 ghost use Rattle.std.specs.Prelude.{◌≡◌, Option, IfOk};
-ghost use Rattle.tt_calls.specs.Outcomes.{failed};
+ghost use Rattle.tt_calls.specs.Outcomes.{error_outcome};
 ghost use Rattle.tt_calls.specs.Usages.{wrong_number};
 ghost use Rattle.tt_dict.specs.Table as table;
 
@@ -57,7 +57,7 @@ fn meaning(
     words: &[Value],
 ) -> Result<DictCall, NoMemory>
     ensures { IfOk result (λ call.
-        call ≡ (table.row_of subcommand).meaning (failed (wrong_number usage.now)) words.now) }
+        call ≡ (table.row_of subcommand).meaning (error_outcome (wrong_number usage.now)) words.now) }
 {
     let outcome = match subcommand {
         Subcommand::Create => create(alloc, usage, words)?,
@@ -80,7 +80,7 @@ fn meaning(
 }
 
 fn for_each(alloc: Global, usage: &[u8], words: &[Value]) -> Result<DictCall, NoMemory>
-    ensures { IfOk result (λ call. call ≡ table.for_each (failed (wrong_number usage.now)) words.now) }
+    ensures { IfOk result (λ call. call ≡ table.for_each (error_outcome (wrong_number usage.now)) words.now) }
 {
     match words {
         [names, dictionary, body] => {
@@ -98,7 +98,7 @@ fn for_each(alloc: Global, usage: &[u8], words: &[Value]) -> Result<DictCall, No
 }
 
 fn looped(found: Result<Looping, Text>) -> Result<DictCall, NoMemory>
-    ensures { IfOk result (λ call. call ≡ table.looped found) }
+    ensures { IfOk result (λ call. call ≡ table.pair_loop found) }
 {
     match found {
         Ok(looping) => Ok(DictCall::Loop(looping)),

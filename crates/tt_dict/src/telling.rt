@@ -2,7 +2,7 @@
 ghost use Rattle.std.specs.Prelude.{◌≡◌, [], IfOk, decimal, is_ok, length, map};
 ghost use Rattle.std.specs.Map.{keys_of, values_of};
 ghost use Rattle.std.specs.Option.{option_copied};
-ghost use Rattle.tt_calls.specs.Outcomes.{failed};
+ghost use Rattle.tt_calls.specs.Outcomes.{error_outcome};
 ghost use Rattle.tt_calls.specs.Usages.{wrong_number};
 ghost use Rattle.tt_dict.specs.Paths as paths;
 ghost use Rattle.tt_dict.specs.Rows.{reads};
@@ -21,7 +21,7 @@ use tt_value::{Value, texts_of};
 
 /// `dict create`.
 pub(crate) fn create(alloc: Global, usage: &[u8], words: &[Value]) -> Result<Outcome, NoMemory>
-    ensures { IfOk result (λ outcome. outcome ≡ telling.create (failed (wrong_number usage.now)) words.now) }
+    ensures { IfOk result (λ outcome. outcome ≡ telling.create (error_outcome (wrong_number usage.now)) words.now) }
 {
     let words = texts_of(alloc, words)?;
     match paired(alloc, words.as_slice())? {
@@ -32,7 +32,7 @@ pub(crate) fn create(alloc: Global, usage: &[u8], words: &[Value]) -> Result<Out
 
 /// `dict get`.
 pub(crate) fn get(alloc: Global, usage: &[u8], words: &[Value]) -> Result<Outcome, NoMemory>
-    ensures { IfOk result (λ outcome. outcome ≡ reads telling.get (failed (wrong_number usage.now)) words.now) }
+    ensures { IfOk result (λ outcome. outcome ≡ reads telling.get (error_outcome (wrong_number usage.now)) words.now) }
 {
     match words {
         [dictionary] => canonical(alloc, dictionary),
@@ -56,7 +56,7 @@ fn canonical(alloc: Global, dictionary: &Value) -> Result<Outcome, NoMemory>
 
 fn get_at(alloc: Global, dictionary: &Value, key: &Text, keys: &[Text]) -> Result<Outcome, NoMemory>
     ensures { IfOk result (λ outcome.
-        outcome ≡ telling.answered
+        outcome ≡ telling.text_outcome
         (paths.for_pairs (λ pairs. paths.value_at pairs key.now keys.now) (reading_of dictionary.now))) }
 {
     match dictionary.to_pairs(alloc)? {
@@ -67,7 +67,8 @@ fn get_at(alloc: Global, dictionary: &Value, key: &Text, keys: &[Text]) -> Resul
 
 /// `dict exists`.
 pub(crate) fn exists(alloc: Global, usage: &[u8], words: &[Value]) -> Result<Outcome, NoMemory>
-    ensures { IfOk result (λ outcome. outcome ≡ reads telling.exists (failed (wrong_number usage.now)) words.now) }
+    ensures { IfOk result (λ outcome.
+        outcome ≡ reads telling.exists (error_outcome (wrong_number usage.now)) words.now) }
 {
     match words {
         [dictionary, key, keys @ ..] => {
@@ -100,7 +101,7 @@ fn exists_at(
 
 /// `dict size`.
 pub(crate) fn size(alloc: Global, usage: &[u8], words: &[Value]) -> Result<Outcome, NoMemory>
-    ensures { IfOk result (λ outcome. outcome ≡ reads telling.size (failed (wrong_number usage.now)) words.now) }
+    ensures { IfOk result (λ outcome. outcome ≡ reads telling.size (error_outcome (wrong_number usage.now)) words.now) }
 {
     match words {
         [dictionary] => size_of(alloc, dictionary),
@@ -123,7 +124,7 @@ fn size_of(alloc: Global, dictionary: &Value) -> Result<Outcome, NoMemory>
 
 /// `dict keys`.
 pub(crate) fn keys(alloc: Global, usage: &[u8], words: &[Value]) -> Result<Outcome, NoMemory>
-    ensures { IfOk result (λ outcome. outcome ≡ reads telling.keys (failed (wrong_number usage.now)) words.now) }
+    ensures { IfOk result (λ outcome. outcome ≡ reads telling.keys (error_outcome (wrong_number usage.now)) words.now) }
 {
     match words {
         [dictionary] => keys_like(alloc, dictionary, None),
@@ -148,7 +149,8 @@ fn keys_like(alloc: Global, dictionary: &Value, pattern: Option<&Text>) -> Resul
 
 /// `dict values`.
 pub(crate) fn values(alloc: Global, usage: &[u8], words: &[Value]) -> Result<Outcome, NoMemory>
-    ensures { IfOk result (λ outcome. outcome ≡ reads telling.values (failed (wrong_number usage.now)) words.now) }
+    ensures { IfOk result (λ outcome.
+        outcome ≡ reads telling.values (error_outcome (wrong_number usage.now)) words.now) }
 {
     match words {
         [dictionary] => values_like(alloc, dictionary, None),
@@ -177,7 +179,8 @@ fn values_like(
 
 /// `dict remove`.
 pub(crate) fn remove(alloc: Global, usage: &[u8], words: &[Value]) -> Result<Outcome, NoMemory>
-    ensures { IfOk result (λ outcome. outcome ≡ reads telling.remove (failed (wrong_number usage.now)) words.now) }
+    ensures { IfOk result (λ outcome.
+        outcome ≡ reads telling.remove (error_outcome (wrong_number usage.now)) words.now) }
 {
     match words {
         [dictionary, keys @ ..] => {
@@ -213,7 +216,8 @@ fn remove_keys(pairs: &mut Dictionary, keys: &[Text])
 
 /// `dict replace`.
 pub(crate) fn replace(alloc: Global, usage: &[u8], words: &[Value]) -> Result<Outcome, NoMemory>
-    ensures { IfOk result (λ outcome. outcome ≡ reads telling.replace (failed (wrong_number usage.now)) words.now) }
+    ensures { IfOk result (λ outcome.
+        outcome ≡ reads telling.replace (error_outcome (wrong_number usage.now)) words.now) }
 {
     match words {
         [dictionary, words @ ..] => replace_in(alloc, usage, dictionary, words),
@@ -228,7 +232,7 @@ fn replace_in(
     words: &[Value],
 ) -> Result<Outcome, NoMemory>
     ensures { IfOk result (λ outcome.
-        outcome ≡ telling.replace (failed (wrong_number usage.now)) (reading_of dictionary.now) words.now) }
+        outcome ≡ telling.replace (error_outcome (wrong_number usage.now)) (reading_of dictionary.now) words.now) }
 {
     let words = texts_of(alloc, words)?;
     match paired(alloc, words.as_slice())? {
@@ -254,7 +258,7 @@ fn join_to(alloc: Global, dictionary: &Value, more: &Dictionary) -> Result<Outco
 /// `dict merge`.
 pub(crate) fn merge(alloc: Global, words: &[Value]) -> Result<Outcome, NoMemory>
     ensures { IfOk result (λ outcome.
-        outcome ≡ telling.text_answer text_of (telling.merged [] (map reading_of words.now))) }
+        outcome ≡ telling.text_answer text_of (telling.merge_of [] (map reading_of words.now))) }
 {
     let all = merged(alloc, words)?;
     whole_of(alloc, all)
@@ -262,7 +266,7 @@ pub(crate) fn merge(alloc: Global, words: &[Value]) -> Result<Outcome, NoMemory>
 
 #[tactic(auto, using(crate::proofs::Merging::merge_more, crate::proofs::Merging::merge_stops, crate::proofs::Merging::merge_last))]
 fn merged(alloc: Global, words: &[Value]) -> Result<Result<Dictionary, Text>, NoMemory>
-    ensures { IfOk result (λ all. all ≡ telling.merged [] (map reading_of words.now)) }
+    ensures { IfOk result (λ all. all ≡ telling.merge_of [] (map reading_of words.now)) }
 {
     let mut all = Dictionary::new(alloc);
     let mut rest = words;

@@ -1,6 +1,6 @@
 //! Subcommands that change a variable.
 ghost use Rattle.std.specs.Prelude.{◌≡◌, IfOk};
-ghost use Rattle.tt_calls.specs.Outcomes.{failed};
+ghost use Rattle.tt_calls.specs.Outcomes.{error_outcome};
 ghost use Rattle.tt_calls.specs.Usages.{wrong_number};
 ghost use Rattle.tt_dict.specs.Variables as variables;
 ghost use Rattle.tt_dict.specs.declared.call.DictCall.TheVariants.{Done, Variable};
@@ -13,7 +13,7 @@ use tt_number::read_whole;
 use tt_text::{NoMemory, Text, Texts};
 
 fn wrong(alloc: Global, usage: &[u8]) -> Result<DictCall, NoMemory>
-    ensures { IfOk result (λ call. call ≡ Done (failed (wrong_number usage.now))) }
+    ensures { IfOk result (λ call. call ≡ Done (error_outcome (wrong_number usage.now))) }
 {
     Ok(DictCall::Done(Outcome::wrong_number(alloc, usage)?))
 }
@@ -27,7 +27,7 @@ fn variable(name: &Text, change: Change) -> Result<DictCall, NoMemory>
 
 /// `dict set`.
 pub(crate) fn set(alloc: Global, usage: &[u8], words: &[Text]) -> Result<DictCall, NoMemory>
-    ensures { IfOk result (λ call. call ≡ variables.set (failed (wrong_number usage.now)) words.now) }
+    ensures { IfOk result (λ call. call ≡ variables.set_meaning (error_outcome (wrong_number usage.now)) words.now) }
 {
     match words {
         [name, _, _, ..] => set_last(alloc, name, &words[1..]),
@@ -54,7 +54,7 @@ fn last_of(alloc: Global, words: &[Text]) -> Result<Text, NoMemory>
 
 /// `dict unset`.
 pub(crate) fn unset(alloc: Global, usage: &[u8], words: &[Text]) -> Result<DictCall, NoMemory>
-    ensures { IfOk result (λ call. call ≡ variables.unset (failed (wrong_number usage.now)) words.now) }
+    ensures { IfOk result (λ call. call ≡ variables.unset_meaning (error_outcome (wrong_number usage.now)) words.now) }
 {
     match words {
         [name, _, ..] => unset_at(alloc, name, &words[1..]),
@@ -71,7 +71,7 @@ fn unset_at(alloc: Global, name: &Text, keys: &[Text]) -> Result<DictCall, NoMem
 
 /// `dict incr`.
 pub(crate) fn incr(alloc: Global, usage: &[u8], words: &[Text]) -> Result<DictCall, NoMemory>
-    ensures { IfOk result (λ call. call ≡ variables.incr (failed (wrong_number usage.now)) words.now) }
+    ensures { IfOk result (λ call. call ≡ variables.incr (error_outcome (wrong_number usage.now)) words.now) }
 {
     match words {
         [name, key] => incr_by(name, key, 1),
@@ -101,7 +101,7 @@ fn incr_step(alloc: Global, name: &Text, key: &Text, step: &Text) -> Result<Dict
 
 /// `dict append`.
 pub(crate) fn append(alloc: Global, usage: &[u8], words: &[Text]) -> Result<DictCall, NoMemory>
-    ensures { IfOk result (λ call. call ≡ variables.append (failed (wrong_number usage.now)) words.now) }
+    ensures { IfOk result (λ call. call ≡ variables.append (error_outcome (wrong_number usage.now)) words.now) }
 {
     match words {
         [name, key, pieces @ ..] => append_to(alloc, name, key, pieces),
@@ -119,7 +119,7 @@ fn append_to(alloc: Global, name: &Text, key: &Text, pieces: &[Text]) -> Result<
 
 /// `dict lappend`.
 pub(crate) fn lappend(alloc: Global, usage: &[u8], words: &[Text]) -> Result<DictCall, NoMemory>
-    ensures { IfOk result (λ call. call ≡ variables.lappend (failed (wrong_number usage.now)) words.now) }
+    ensures { IfOk result (λ call. call ≡ variables.lappend (error_outcome (wrong_number usage.now)) words.now) }
 {
     match words {
         [name, key, items @ ..] => lappend_to(alloc, name, key, items),

@@ -1,7 +1,7 @@
 -- dict(n), over what an interpreter keeps of variables.
 use Rattle.std.specs.Prelude.{◌≡◌, ℕ, Bool, true, false, not, ◌&&◌, bytes_eq, List, [], ◌∷◌, codes}
 use Rattle.tt_calls.specs.declared.outcome.Outcome.{Outcome}
-use Rattle.tt_dict.specs.Changing.{changed}
+use Rattle.tt_dict.specs.Changing.{change_answer}
 use Rattle.tt_dict.specs.Table.{call_of}
 use Rattle.tt_dict.specs.declared.call.DictCall.{DictCall}
 use Rattle.tt_dict.specs.declared.call.DictCall.TheVariants.{Done, Variable, Loop}
@@ -17,7 +17,7 @@ abbrev pub RunsCall : DictCall → (old : Held) → Answer → (new : Held) → 
 RunsCall (Done outcome) old answer new = (answer ≡ answers.Outcome outcome) × (new ≡ old)
 RunsCall (Variable name change) old answer new =
     (outcome : Outcome)
-    × Changes name [] (λ text. changed change (reading_of text)) old outcome new
+    × Changes name [] (λ text. change_answer change (reading_of text)) old outcome new
     × (answer ≡ answers.Outcome outcome)
 RunsCall (Loop looping) old answer new = (answer ≡ answers.Other) × (new ≡ old)
 

@@ -1,7 +1,7 @@
 -- No evaluation has more steps left than it had, and one that is known below some number of steps is known there.
 use Rattle.std.proofs.Common.{◌≡◌, ◌<◌, ◌≤◌, ℕ, zero, suc, List, [], ◌∷◌, Option, refl, ap, ◌∙◌, arith}
 use Rattle.std.specs.Prelude.{⊤}
-use Rattle.tt_evaluation.specs.Plans.{Plan, Ends, Asks, Calls, Goes, Course, Stop, Fin, Spent, Evaluation, Rest, then_do, served_by, follow}
+use Rattle.tt_evaluation.specs.Plans.{Plan, Ends, Asks, Calls, Goes, Course, Stop, Fin, Spent, Evaluation, Rest, then_do, course_with_post, follow}
 use Rattle.tt_evaluation.specs.Evaluation.{Meaning, eval_within}
 
 -- so many steps are left at most
@@ -20,7 +20,7 @@ leaves_more m n (Fin outcome state k answers) le h = omega arith
 leaves_more m n Spent le h = tt
 
 leaves_served : {Want Got Outcome State : Type 0} (n : ℕ) (serves : Option ℕ) (course : Course Want Got Outcome State) → Leaves n course →
-    Leaves n (served_by serves course)
+    Leaves n (course_with_post serves course)
 leaves_served n serves (Stop want serving) h = tt
 leaves_served n serves (Fin outcome state m answers) h = h
 leaves_served n serves Spent h = tt
@@ -39,7 +39,7 @@ leaves_follow evaluate all (Asks want state on) n (got ∷ answers) = leaves_fol
 leaves_follow evaluate all (Calls serves job state on) zero answers = tt
 leaves_follow {Job} {Want} {Got} {Outcome} {State} evaluate all (Calls serves job state on) (suc n) answers =
     let rest : Rest Want Got Outcome State = λ o st k more. follow evaluate (on o st) k more in
-    let course = served_by serves (evaluate job state n answers) in
+    let course = course_with_post serves (evaluate job state n answers) in
     leaves_more n (suc n) (then_do course rest) (omega arith)
     (leaves_then n course rest (leaves_served n serves (evaluate job state n answers) (all job state n answers))
     (λ o st k more. leaves_follow evaluate all (on o st) k more))
@@ -73,10 +73,10 @@ follow_agree first second bounded (Calls serves job state on) zero answers agree
 follow_agree {Job} {Want} {Got} {Outcome} {State} first second bounded (Calls serves job state on) (suc n) answers agree =
     let one : Rest Want Got Outcome State = λ o st k more. follow first (on o st) k more in
     let two : Rest Want Got Outcome State = λ o st k more. follow second (on o st) k more in
-    let course = served_by serves (first job state n answers) in
+    let course = course_with_post serves (first job state n answers) in
     then_agree n course one two (leaves_served n serves (first job state n answers) (bounded job state n answers))
     (λ o st k more le. follow_agree first second bounded (on o st) k more (λ j s i rs lt. agree j s i rs (omega arith)))
-    ∙ ap (λ (c : Course Want Got Outcome State). then_do (served_by serves c) two) (agree job state n answers (omega arith))
+    ∙ ap (λ (c : Course Want Got Outcome State). then_do (course_with_post serves c) two) (agree job state n answers (omega arith))
 follow_agree first second bounded (Goes job state) zero answers agree = refl
 follow_agree first second bounded (Goes job state) (suc n) answers agree = agree job state n answers (omega arith)
 

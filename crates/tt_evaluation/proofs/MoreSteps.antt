@@ -1,7 +1,7 @@
 -- More steps give the same.
 use Rattle.std.proofs.Common.{◌≡◌, ◌≤◌, ℕ, zero, suc, ◌+◌, ◌-◌, List, [], ◌∷◌, Option, refl, sym, ap, subst, arith}
 use Rattle.std.specs.Prelude.{⊤}
-use Rattle.tt_evaluation.specs.Plans.{Plan, Ends, Asks, Calls, Goes, Course, Stop, Fin, Spent, Evaluation, Rest, then_do, served_by, follow}
+use Rattle.tt_evaluation.specs.Plans.{Plan, Ends, Asks, Calls, Goes, Course, Stop, Fin, Spent, Evaluation, Rest, then_do, course_with_post, follow}
 use Rattle.tt_evaluation.specs.Evaluation.{Meaning, eval, eval_within}
 use Rattle.tt_evaluation.specs.EvaluationLaws.{OneWantLaw}
 
@@ -18,11 +18,11 @@ AllExtend {Job} {Want} {Got} {Outcome} {State} first second =
 then_goes_on : {Want Got Outcome State : Type 0} (serves : Option ℕ) (course other : Course Want Got Outcome State)
     (first second : Rest Want Got Outcome State) → Extends course other →
     ((outcome : Outcome) (state : State) (n : ℕ) (answers : List Got) → Extends (first outcome state n answers) (second outcome state (suc n) answers)) →
-    Extends (then_do (served_by serves course) first) (then_do (served_by serves other) second)
+    Extends (then_do (course_with_post serves course) first) (then_do (course_with_post serves other) second)
 then_goes_on {Want} {Got} {Outcome} {State} serves (Stop want serving) other first second h all =
-    ap (λ (c : Course Want Got Outcome State). then_do (served_by serves c) second) h
+    ap (λ (c : Course Want Got Outcome State). then_do (course_with_post serves c) second) h
 then_goes_on {Want} {Got} {Outcome} {State} serves (Fin outcome state n answers) other first second h all =
-    subst (λ (c : Course Want Got Outcome State). Extends (first outcome state n answers) (then_do (served_by serves c) second)) (sym h)
+    subst (λ (c : Course Want Got Outcome State). Extends (first outcome state n answers) (then_do (course_with_post serves c) second)) (sym h)
     (all outcome state n answers)
 then_goes_on serves Spent other first second h all = tt
 

@@ -3,7 +3,7 @@
 use Rattle.std.specs.Prelude.{ℕ, Bool, true, false, List, [], ◌∷◌, ◌++◌, Option, Some, None}
 use Rattle.std.specs.Prelude.{is_some}
 use Rattle.tt_evaluation.specs.Plans.{Plan, Ends, Asks, Calls, Goes, Course, Stop, Fin, Spent, Evaluation, then_do}
-use Rattle.tt_evaluation.specs.Plans.{posts_of, served_by, follow}
+use Rattle.tt_evaluation.specs.Plans.{posts_of, course_with_post, follow}
 use Rattle.tt_evaluation.specs.Evaluation.{Meaning, eval}
 use Rattle.tt_evaluation.specs.declared.language.Move.{Move}
 use Rattle.tt_evaluation.specs.declared.language.Move.TheVariants.{Done, Ask, Call, Goto}
@@ -36,7 +36,7 @@ abbrev pub within :
     → After Job Want Got Outcome State Frame → Pending Frame → Course Want Got Outcome State
     → Course Want Got Outcome State
 within evaluate after call course =
-    then_do (served_by call.serves course) (λ o st k rest. follow evaluate (after call.frame o st) k rest)
+    then_do (course_with_post call.serves course) (λ o st k rest. follow evaluate (after call.frame o st) k rest)
 
 -- a course within all the calls of a stack, the newest of which is the last
 abbrev pub finish :

@@ -22,10 +22,10 @@ abbrev pub waits : {Want Outcome State Frame Asking : Type 0} → Machine Want O
 waits machine = is_waiting machine.stack && wants machine.halt
 
 -- what a machine comes to that is at its end, with this outcome
-abbrev pub finished :
+abbrev pub end_of_machine :
     {Want Got Outcome State Frame Asking : Type 0} → Machine Want Outcome State Frame Asking → Outcome → List Got
     → Course Want Got Outcome State
-finished machine outcome answers = Fin outcome machine.stack.state machine.stack.steps answers
+end_of_machine machine outcome answers = Fin outcome machine.stack.state machine.stack.steps answers
 
 -- a machine is at its end
 abbrev pub has_ended : {Want Outcome State Frame Asking : Type 0} → Machine Want Outcome State Frame Asking → Bool

@@ -42,19 +42,19 @@ posts_of None = []
 posts_of (Some post) = post ∷ []
 
 -- a course while a post is served: a stop names it, behind those that are served further in
-abbrev pub served_by :
+abbrev pub course_with_post :
     {Want Got Outcome State : Type 0} → (serves : Option ℕ) → Course Want Got Outcome State
     → Course Want Got Outcome State
-served_by serves (Stop want serving) = Stop want (serving ++ posts_of serves)
-served_by serves (Fin outcome state n answers) = Fin outcome state n answers
-served_by serves Spent = Spent
+course_with_post serves (Stop want serving) = Stop want (serving ++ posts_of serves)
+course_with_post serves (Fin outcome state n answers) = Fin outcome state n answers
+course_with_post serves Spent = Spent
 
 -- the next answer, or a stop
-abbrev pub answered :
+abbrev pub next_answer :
     {Want Got Outcome State : Type 0} → Want → List Got → (Got → List Got → Course Want Got Outcome State)
     → Course Want Got Outcome State
-answered want [] go = Stop want []
-answered want (got ∷ answers) go = go got answers
+next_answer want [] go = Stop want []
+next_answer want (got ∷ answers) go = go got answers
 
 -- one step less
 abbrev pub spend :
@@ -68,8 +68,8 @@ abbrev pub follow :
     → Plan Job Want Got Outcome State → ℕ → List Got → Course Want Got Outcome State
 follow evaluate (Ends outcome state) n answers = Fin outcome state n answers
 follow evaluate (Asks want state on) n answers =
-    answered want answers (λ got rest. follow evaluate (on got state) n rest)
+    next_answer want answers (λ got rest. follow evaluate (on got state) n rest)
 follow evaluate (Calls serves job state on) n answers =
     spend n (λ m.
-    then_do (served_by serves (evaluate job state m answers)) (λ o st k rest. follow evaluate (on o st) k rest))
+    then_do (course_with_post serves (evaluate job state m answers)) (λ o st k rest. follow evaluate (on o st) k rest))
 follow evaluate (Goes job state) n answers = spend n (λ m. evaluate job state m answers)

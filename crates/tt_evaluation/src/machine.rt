@@ -1,6 +1,6 @@
 ghost use Rattle.std.specs.Prelude.{◌≡◌, List, [], ◌∷◌, IfOk, IfSome, IsTrue, OnOk, is_some};
 ghost use Rattle.tt_evaluation.specs.Evaluation.{eval};
-ghost use Rattle.tt_evaluation.specs.Machines.{finished, has_ended, later, serving, waits};
+ghost use Rattle.tt_evaluation.specs.Machines.{end_of_machine, has_ended, later, serving, waits};
 ghost use Rattle.tt_evaluation.specs.Plans.{Stop};
 
 use crate::{Halt, Language, STEPS, Stack, begin, is_waiting, turn};
@@ -72,7 +72,7 @@ pub fn outcome<L: Language>(
     ensures ended { is_some result ≡ has_ended machine.now }
     ensures finished { IfSome result (λ outcome. (answers : List L.Got)
         → later L.plan L.after L.on_got machine.now answers
-        ≡ finished machine.now outcome.now answers) }
+        ≡ end_of_machine machine.now outcome.now answers) }
 {
     match &machine.halt {
         Halt::Wants(_) => None,

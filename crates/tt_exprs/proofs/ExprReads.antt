@@ -5,11 +5,11 @@ use Rattle.std.proofs.lemmas.List.Sums.{fold-append}
 use Rattle.tt_exprs.specs.Trees.{PlainExpr, node, PlainExprs, none, more}
 use Rattle.tt_exprs.specs.Operators.{binding, level, left_level, takes_more}
 use Rattle.tt_exprs.specs.Tokens.{PlainToken, operator, function, opening, closing, comma, colon}
-use Rattle.tt_exprs.specs.Parsing.{PlainValue, nested, PlainRow, no_operands, followed_by, in_a_row, applied}
+use Rattle.tt_exprs.specs.Parsing.{PlainValue, nested, PlainRow, no_operands, followed_by, in_a_row, operator_value}
 use Rattle.tt_exprs.specs.Parsing.{PlainPending, unary, binary, test, branch, parenthesis, arguments, PlainWaiting}
-use Rattle.tt_exprs.specs.Parsing.{gathered, binds, reaches, PlainState, wants, has, as_prefix, prefixed, operated}
+use Rattle.tt_exprs.specs.Parsing.{gathered, binds, reaches, PlainState, wants, has, as_prefix, state_with_prefix, state_with_operator}
 use Rattle.tt_exprs.specs.Parsing.{wants_after, with_left, after_comma, after_closing, after_colon, step, outcome_of}
-use Rattle.tt_exprs.specs.Parsing.{finished, tree_of, level_of, left_level_of}
+use Rattle.tt_exprs.specs.Parsing.{final_outcome, tree_of, level_of, left_level_of}
 use Rattle.tt_exprs.specs.ExprGrammar.{IsOperand, token_operand, in_parentheses, function_call, after_prefix}
 use Rattle.tt_exprs.specs.ExprGrammar.{IsArguments, last_argument, next_argument, IsAtLevel, one_operand, from_left}
 use Rattle.tt_exprs.specs.ExprGrammar.{from_right, choice}
@@ -105,7 +105,7 @@ has_same a b e = ap has e
 operated-on : (op : Op) (k : ℕ) (w : PlainWaiting) (pending : List PlainPending) (value : PlainValue) → op ≢ Choose → left_level_of op ≡ Some k →
     gathered k w.pending w.value ≡ waiting pending value → step (has w) (operator op) ≡ wants (binary op value ∷ pending)
 operated-on op k w pending value h e g =
-    ap (λ l. operated op l w) e
+    ap (λ l. state_with_operator op l w) e
     ∙ ap (λ (x : PlainWaiting). wants_after (with_left op x.value) x.pending) g
     ∙ ap (λ p. wants (p ∷ pending)) (left_binary op value h)
 
@@ -169,7 +169,7 @@ comes_prefix : (bound : ℕ) (sign op : Op) (ts : List PlainToken) (pending : Li
     Comes bound (unary op ∷ pending) ts (worth a d) → Comes bound pending (operator sign ∷ ts) (worth (node op (more a none)) (suc d))
 comes_prefix bound sign op ts pending a d e one = record {
   w = one.w;
-  reached = ap (λ o. fold step (prefixed pending o) ts) e ∙ one.reached;
+  reached = ap (λ o. fold step (state_with_prefix pending o) ts) e ∙ one.reached;
   same = λ m i.
       one.same m i
       ∙ gathered-takes m (unary op) pending (worth a d) refl
@@ -209,7 +209,7 @@ called_last op pending before deepest inside a d one =
     fold-append step (wants (arguments op (row_worth before deepest) ∷ pending)) inside (closing ∷ [])
     ∙ ap (λ s. step s closing) one.reached
     ∙ ap (λ (x : PlainWaiting). after_closing x.value x.pending) (whole_argument op (row_worth before deepest) pending inside (worth a d) one)
-    ∙ ap (λ r. has (waiting pending (applied op r))) (followed-worth before a deepest d)
+    ∙ ap (λ r. has (waiting pending (operator_value op r))) (followed-worth before a deepest d)
     ∙ ap (λ v. has (waiting pending v)) (applied-worth op (before ++ a ∷ []) (max deepest d))
     ∙ ap (λ x. has (waiting pending (worth (node op x) (suc (max deepest d))))) (in_front-row before a)
 
@@ -306,5 +306,5 @@ mutual
 pub grammar_read : {ts : List PlainToken} {expr : PlainExpr} {depth : ℕ} → IsAtLevel 0 ts expr depth → tree_of ts ≡ outcome_of (worth expr depth) []
 grammar_read {expr = expr} {depth = depth} h =
     let one = level_comes h [] leaves_empty in
-    ap finished one.reached
+    ap final_outcome one.reached
     ∙ ap (λ (x : PlainWaiting). outcome_of x.value x.pending) (one.same 0 (omega arith) ∙ gathered-empty 0 (worth expr depth))

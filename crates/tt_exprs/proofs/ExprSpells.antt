@@ -6,9 +6,9 @@ use Rattle.tt_exprs.specs.Trees.{PlainExpr, node, PlainExprs, none, more}
 use Rattle.tt_exprs.specs.Operators.{binding, level, left_level, takes_more}
 use Rattle.tt_exprs.specs.Tokens.{PlainToken, operand, operator, function, opening, closing, comma, colon}
 use Rattle.tt_exprs.specs.Parsing.{PlainValue, nested, too_deep, PlainRow, PlainPending, unary, binary, test, branch}
-use Rattle.tt_exprs.specs.Parsing.{parenthesis, arguments, PlainWaiting, gathered, binds, reaches, closed, PlainState}
-use Rattle.tt_exprs.specs.Parsing.{wants, calls, has, wrong, as_prefix, prefixed, operated, wants_after, with_left}
-use Rattle.tt_exprs.specs.Parsing.{after_comma, after_closing, after_colon, step, malformed, outcome_of, finished}
+use Rattle.tt_exprs.specs.Parsing.{parenthesis, arguments, PlainWaiting, gathered, binds, reaches, value_of_pending, PlainState}
+use Rattle.tt_exprs.specs.Parsing.{wants, calls, has, wrong, as_prefix, state_with_prefix, state_with_operator, wants_after, with_left}
+use Rattle.tt_exprs.specs.Parsing.{after_comma, after_closing, after_colon, step, malformed, outcome_of, final_outcome}
 use Rattle.tt_exprs.specs.Parsing.{tree_of, level_of, left_level_of}
 use Rattle.tt_exprs.specs.ExprGrammar.{IsOperand, token_operand, in_parentheses, function_call, after_prefix}
 use Rattle.tt_exprs.specs.ExprGrammar.{IsArguments, last_argument, next_argument, IsAtLevel, one_operand, from_left}
@@ -129,7 +129,7 @@ gathers k h (waits {bound =
     go true holds next =
         let made = r inside fits in
         subst (λ w. Gathered k w ts) (sym (gathered-takes k first pending value holds))
-        (next (closed first value) (reads_less n k (own ++ inside) (f k h holds) made) (reads_less n bound (own ++ inside) j made)
+        (next (value_of_pending first value) (reads_less n k (own ++ inside) (f k h holds) made) (reads_less n bound (own ++ inside) j made)
         (e ∙ ap (λ x. x ++ inside) c ∙ append_assoc before own inside))
     go false never next =
         subst (λ w. Gathered k w ts) (sym (gathered-stops k first pending value never))
@@ -171,7 +171,7 @@ prefix_waits sign op bound pending ts e s =
     refl
 
 after_sign : (sign : Op) (bound : ℕ) (pending : List PlainPending) (ts : List PlainToken) → Spells bound pending ts → (o : Option Op) →
-    as_prefix sign ≡ o → Spelled (prefixed pending o) (ts ++ operator sign ∷ [])
+    as_prefix sign ≡ o → Spelled (state_with_prefix pending o) (ts ++ operator sign ∷ [])
 after_sign sign bound pending ts s (Some op) e = (tightest, prefix_waits sign op bound pending ts e s)
 after_sign sign bound pending ts s None e = tt
 
@@ -379,7 +379,7 @@ gathers_has : (k : ℕ) (w : PlainWaiting) (ts : List PlainToken) → k ≤ tigh
 gathers_has k w ts h s = gathers k h s.3 w.value s.2 ts (of_operand k s.2 s.4) (of_operand s.0 s.2 s.4) s.5
 
 after_operator : (op : Op) (w : PlainWaiting) (ts : List PlainToken) → Spelled (has w) ts → (o : Option ℕ) → left_level_of op ≡ o →
-    Spelled (operated op o w) (ts ++ operator op ∷ [])
+    Spelled (state_with_operator op o w) (ts ++ operator op ∷ [])
 after_operator op w ts s None e = tt
 after_operator op w ts s (Some k) e = operates op k (gathered k w.pending w.value) ts e (gathers_has k w ts (left_within op k e) s)
 
@@ -414,7 +414,7 @@ ends_well [] value ts g = inr (subst (Reads 0) (sym (g.whole ∙ ap (λ x. x ++ 
 ends_well (first ∷ pending) (nested expr depth) ts g = inl refl
 ends_well (first ∷ pending) too_deep ts g = inl refl
 
-ends : (s : PlainState) (ts : List PlainToken) → Spelled s ts → (finished s ≡ malformed) ⊎ Reads 0 ts
+ends : (s : PlainState) (ts : List PlainToken) → Spelled s ts → (final_outcome s ≡ malformed) ⊎ Reads 0 ts
 ends (wants pending) ts h = inl refl
 ends (calls op pending) ts h = inl refl
 ends (has w) ts h = ends_well (gathered 0 w.pending w.value).pending (gathered 0 w.pending w.value).value ts (gathers_has 0 w ts (omega arith) h)

@@ -5,8 +5,8 @@ use Rattle.std.proofs.lemmas.Bool.{ltb-true, ltb-false, lt-ltb, le-ltb}
 use Rattle.tt_exprs.specs.Trees.{PlainExpr, node, none, more}
 use Rattle.tt_exprs.specs.Operators.{binding, left_level}
 use Rattle.tt_exprs.specs.Parsing.{PlainValue, nested, too_deep, most_nested, around, parenthesized, PlainRow, row}
-use Rattle.tt_exprs.specs.Parsing.{too_deep_row, no_operands, followed_by, in_a_row, applied, unary, binary, branch}
-use Rattle.tt_exprs.specs.Parsing.{closed, left_level_of, reaches, with_left}
+use Rattle.tt_exprs.specs.Parsing.{too_deep_row, no_operands, followed_by, in_a_row, operator_value, unary, binary, branch}
+use Rattle.tt_exprs.specs.Parsing.{value_of_pending, left_level_of, reaches, with_left}
 use Rattle.tt_exprs.specs.declared.op.Op.{Op}
 use Rattle.tt_exprs.specs.declared.op.Op.TheVariants.{Neg, Plus, BitNot, Not, Pow, Mul, Div, Mod, Add, Sub, Shl, Shr}
 use Rattle.tt_exprs.specs.declared.op.Op.TheVariants.{Less, Greater, LessEqual, GreaterEqual, Equal, NotEqual}
@@ -154,12 +154,12 @@ parenthesized-worth expr depth = go (fits_or_not depth)
     go (inl h) = ap parenthesized (worth-in expr depth h) ∙ around-worth expr depth h
     go (inr h) = ap parenthesized (worth-out expr depth h) ∙ sym (worth-out expr (suc depth) (omega (arith, h)))
 
-pub applied-worth : (op : Op) (exprs : List PlainExpr) (depth : ℕ) → applied op (row_worth exprs depth) ≡ worth (node op (in_a_row exprs)) (suc depth)
+pub applied-worth : (op : Op) (exprs : List PlainExpr) (depth : ℕ) → operator_value op (row_worth exprs depth) ≡ worth (node op (in_a_row exprs)) (suc depth)
 applied-worth op exprs depth = go (fits_or_not depth)
   where
-    go : (depth ≤ most_nested) ⊎ (most_nested < depth) → applied op (row_worth exprs depth) ≡ worth (node op (in_a_row exprs)) (suc depth)
-    go (inl h) = ap (applied op) (row-in exprs depth h) ∙ around-worth (node op (in_a_row exprs)) depth h
-    go (inr h) = ap (applied op) (row-out exprs depth h) ∙ sym (worth-out (node op (in_a_row exprs)) (suc depth) (omega (arith, h)))
+    go : (depth ≤ most_nested) ⊎ (most_nested < depth) → operator_value op (row_worth exprs depth) ≡ worth (node op (in_a_row exprs)) (suc depth)
+    go (inl h) = ap (operator_value op) (row-in exprs depth h) ∙ around-worth (node op (in_a_row exprs)) depth h
+    go (inr h) = ap (operator_value op) (row-out exprs depth h) ∙ sym (worth-out (node op (in_a_row exprs)) (suc depth) (omega (arith, h)))
 
 pub followed-worth : (exprs : List PlainExpr) (expr : PlainExpr) (d e : ℕ) →
     followed_by (row_worth exprs d) (worth expr e) ≡ row_worth (exprs ++ expr ∷ []) (max d e)
@@ -181,17 +181,17 @@ no-operands = refl
 first-worth : (expr : PlainExpr) (d : ℕ) → followed_by no_operands (worth expr d) ≡ row_worth (expr ∷ []) d
 first-worth expr d = ap (λ r. followed_by r (worth expr d)) no-operands ∙ followed-worth [] expr 0 d ∙ ap (row_worth (expr ∷ [])) (omega arith)
 
-pub unary-worth : (op : Op) (a : PlainExpr) (d : ℕ) → closed (unary op) (worth a d) ≡ worth (node op (more a none)) (suc d)
-unary-worth op a d = ap (applied op) (first-worth a d) ∙ applied-worth op (a ∷ []) d
+pub unary-worth : (op : Op) (a : PlainExpr) (d : ℕ) → value_of_pending (unary op) (worth a d) ≡ worth (node op (more a none)) (suc d)
+unary-worth op a d = ap (operator_value op) (first-worth a d) ∙ applied-worth op (a ∷ []) d
 
 second-worth : (a b : PlainExpr) (d e : ℕ) → followed_by (followed_by no_operands (worth a d)) (worth b e) ≡ row_worth (a ∷ b ∷ []) (max d e)
 second-worth a b d e = ap (λ r. followed_by r (worth b e)) (first-worth a d) ∙ followed-worth (a ∷ []) b d e
 
-pub binary-worth : (op : Op) (a b : PlainExpr) (d e : ℕ) → closed (binary op (worth a d)) (worth b e) ≡ worth (node op (more a (more b none))) (suc (max d e))
-binary-worth op a b d e = ap (applied op) (second-worth a b d e) ∙ applied-worth op (a ∷ b ∷ []) (max d e)
+pub binary-worth : (op : Op) (a b : PlainExpr) (d e : ℕ) → value_of_pending (binary op (worth a d)) (worth b e) ≡ worth (node op (more a (more b none))) (suc (max d e))
+binary-worth op a b d e = ap (operator_value op) (second-worth a b d e) ∙ applied-worth op (a ∷ b ∷ []) (max d e)
 
 pub branch-worth : (a b c : PlainExpr) (d e f : ℕ) →
-    closed (branch (worth a d) (worth b e)) (worth c f) ≡ worth (node Choose (more a (more b (more c none)))) (suc (max (max d e) f))
+    value_of_pending (branch (worth a d) (worth b e)) (worth c f) ≡ worth (node Choose (more a (more b (more c none)))) (suc (max (max d e) f))
 branch-worth a b c d e f =
-    ap (λ r. applied Choose (followed_by r (worth c f))) (second-worth a b d e) ∙ ap (applied Choose) (followed-worth (a ∷ b ∷ []) c (max d e) f)
+    ap (λ r. operator_value Choose (followed_by r (worth c f))) (second-worth a b d e) ∙ ap (operator_value Choose) (followed-worth (a ∷ b ∷ []) c (max d e) f)
     ∙ applied-worth Choose (a ∷ b ∷ c ∷ []) (max (max d e) f)

@@ -2,27 +2,27 @@
 use Rattle.std.proofs.Common.{◌≡◌, ℕ, suc, ◌+◌, ◌-◌, ◌<◌, ◌≤◌, ℤ, List, [], ◌∷◌, length, drop, take, get_or, refl, sym}
 use Rattle.std.proofs.Common.{ap, ◌∙◌, fold, Result, Ok, Err, arith, take_all}
 use Rattle.std.proofs.lemmas.List.{at_drop_more}
-use Rattle.tt_exprs.specs.Apply.{extreme_of, picked, with_whole, whole_operand, wholes}
+use Rattle.tt_exprs.specs.Apply.{extreme_of, extreme_number, with_whole, whole_operand, wholes}
 use Rattle.tt_exprs.specs.declared.applying.refusal.Refusal.{Refusal}
 use Rattle.tt_exprs.specs.declared.op.Op.{Op}
 
 -- the best of this number and of those that follow, or what is wrong with one of these
 abbrev pub with_best : Op → ℤ → Result (List ℤ) Refusal → Result ℤ Refusal
 with_best op best (Err refusal) = Err refusal
-with_best op best (Ok numbers) = Ok (fold (picked op) best numbers)
+with_best op best (Ok numbers) = Ok (fold (extreme_number op) best numbers)
 
 pub extreme_first : (op : Op) (n : ℤ) (later : Result (List ℤ) Refusal) → extreme_of op (with_whole (Ok n) later) ≡ with_best op n later
 extreme_first op n (Ok numbers) = refl
 extreme_first op n (Err refusal) = refl
 
 pub best_of_next : (op : Op) (best n : ℤ) (later : Result (List ℤ) Refusal) →
-    with_best op best (with_whole (Ok n) later) ≡ with_best op (picked op best n) later
+    with_best op best (with_whole (Ok n) later) ≡ with_best op (extreme_number op best n) later
 best_of_next op best n (Ok numbers) = refl
 best_of_next op best n (Err refusal) = refl
 
 -- one operand more, which is whole or not
 pub one_more : (op : Op) (later : List (List ℕ)) (i : ℕ) (best n : ℤ) (text : List ℕ) → i < length later → text ≡ get_or later i text →
-    whole_operand op text ≡ Ok n → with_best op best (wholes op (drop i later)) ≡ with_best op (picked op best n) (wholes op (drop (i + 1) later))
+    whole_operand op text ≡ Ok n → with_best op best (wholes op (drop i later)) ≡ with_best op (extreme_number op best n) (wholes op (drop (i + 1) later))
 one_more op later i best n text within is whole =
     at_drop_more (λ texts. with_best op best (wholes op texts)) later i text within
     ∙ ap (λ r. with_best op best (with_whole r (wholes op (drop (i + 1) later)))) (ap (whole_operand op) (sym is) ∙ whole)

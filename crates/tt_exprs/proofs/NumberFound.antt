@@ -12,22 +12,22 @@ use Rattle.tt_number.specs.Numerals.{is_exponent_mark, is_hexadecimal_mark, is_o
 use Rattle.tt_number.specs.Numerals.IsUnsigned.{hexadecimal, octal, binary, leading_zero, decimal as decimal_digits}
 use Rattle.tt_number.specs.Numerals.IsFloat.{pointed, scaled as scaled_float}
 use Rattle.tt_number.specs.Numerals.IsSign.{none, plus, minus}
-use Rattle.tt_exprs.specs.Tokens.{run, with_digits, exponent_digits, exponent, fraction, decimal, longer, scaled, unmarked, marked, number_length}
+use Rattle.tt_exprs.specs.Tokens.{digit_count, with_digits, exponent_digits, exponent, fraction, decimal, longer, scaled_length, unmarked_length, marked_length, number_length}
 use Rattle.tt_exprs.proofs.Runs.{run-kind}
 use Rattle.tt_exprs.proofs.NumberForms.{IsNumeral, whole_numeral, float_numeral}
 use Rattle.tt_exprs.proofs.NumberLength.{digit_of, with_digits-some, scaled-on, longer-end, longer-digits, number-marked, number-zero, number-other, appended}
 
 -- the digits at the front are a numeral, if there are any
-run-numeral : (base : ℕ) (text : List ℕ) → 0 < run base text → is_numeral base (take (run base text) text) ≡ true
+run-numeral : (base : ℕ) (text : List ℕ) → 0 < digit_count base text → is_numeral base (take (digit_count base text) text) ≡ true
 run-numeral base text h =
-    and_from (nat_lt 0 (length (take (run base text) text))) (all_digits base (take (run base text) text))
-    (lt-ltb 0 (length (take (run base text) text)) (omega (arith, h, length-prefix_len (digit_of base) text)))
+    and_from (nat_lt 0 (length (take (digit_count base text) text))) (all_digits base (take (digit_count base text) text))
+    (lt-ltb 0 (length (take (digit_count base text) text)) (omega (arith, h, length-prefix_len (digit_of base) text)))
     (run-kind (digit_of base) text)
 
-cut_run : (base : ℕ) (text : List ℕ) → text ≡ take (run base text) text ++ drop (run base text) text
-cut_run base text = sym (take-append-drop (run base text) text)
+cut_run : (base : ℕ) (text : List ℕ) → text ≡ take (digit_count base text) text ++ drop (digit_count base text) text
+cut_run base text = sym (take-append-drop (digit_count base text) text)
 
-run-length : (base : ℕ) (text : List ℕ) → length (take (run base text) text) ≡ run base text
+run-length : (base : ℕ) (text : List ℕ) → length (take (digit_count base text) text) ≡ digit_count base text
 run-length base text = length-prefix_len (digit_of base) text
 
 -- a number that stands at the front and takes so many bytes
@@ -55,21 +55,21 @@ marked_unsigned mark base digits is h = go (cases_Bool (is_hexadecimal_mark mark
     go (inr p) (inr q) (inl r) = let same : Some 2 ≡ Some base = rw (p, q, r) at is in let value : 2 ≡ base = cc in subst (λ b. IsUnsigned (48 ∷ mark ∷ digits) b digits) value (binary r (subst (λ b. is_numeral b digits ≡ true) (sym value) h))
     go (inr p) (inr q) (inr r) = let same : None ≡ Some base = rw (p, q, r) at is in let wrong : ⊥ = cc in absurd wrong
 
-taken_marked : (text : List ℕ) → 0 < marked text → Taken (48 ∷ text) (1 + marked text)
+taken_marked : (text : List ℕ) → 0 < marked_length text → Taken (48 ∷ text) (1 + marked_length text)
 taken_marked [] h = absurd (omega (arith, h))
 taken_marked (mark ∷ text) h = go (base_of_mark mark) refl h
   where
-    go : (o : Option ℕ) → base_of_mark mark ≡ o → 0 < marked (mark ∷ text) → Taken (48 ∷ mark ∷ text) (1 + marked (mark ∷ text))
-    go None e h = let nothing : marked (mark ∷ text) ≡ 0 = rw (e, marked) refl in absurd (omega (arith, h, nothing))
+    go : (o : Option ℕ) → base_of_mark mark ≡ o → 0 < marked_length (mark ∷ text) → Taken (48 ∷ mark ∷ text) (1 + marked_length (mark ∷ text))
+    go None e h = let nothing : marked_length (mark ∷ text) ≡ 0 = rw (e, marked_length) refl in absurd (omega (arith, h, nothing))
     go (Some base) e h =
-        let is : marked (mark ∷ text) ≡ with_digits 1 (run base text) = rw (e, marked) refl in
-        let back = with_digits-back 1 (run base text) (omega (arith, h, is)) in
+        let is : marked_length (mark ∷ text) ≡ with_digits 1 (digit_count base text) = rw (e, marked_length) refl in
+        let back = with_digits-back 1 (digit_count base text) (omega (arith, h, is)) in
         record {
-          number = 48 ∷ mark ∷ take (run base text) text;
-          rest = drop (run base text) text;
+          number = 48 ∷ mark ∷ take (digit_count base text) text;
+          rest = drop (digit_count base text) text;
           cut = ap (λ t. 48 ∷ mark ∷ t) (cut_run base text);
           size = omega (arith, is, back.1, run-length base text);
-          numeral = whole_numeral (marked_unsigned mark base (take (run base text) text) e (run-numeral base text back.0));
+          numeral = whole_numeral (marked_unsigned mark base (take (digit_count base text) text) e (run-numeral base text back.0));
         }
 
 -- ---- a point and digits
@@ -84,20 +84,20 @@ pub record FractionParts (n : ℕ) (text : List ℕ) : Type 0 where
 
 fraction-parts : (n : ℕ) (text : List ℕ) → 0 < fraction n text → FractionParts n text
 fraction-parts n [] h = absurd (omega (arith, h))
-fraction-parts n (b ∷ text) h = go (cases_Bool (b == 46)) (cases_Bool (nat_lt 0 (n + run 10 text)))
+fraction-parts n (b ∷ text) h = go (cases_Bool (b == 46)) (cases_Bool (nat_lt 0 (n + digit_count 10 text)))
   where
-    go : ((b == 46) ≡ true) ⊎ ((b == 46) ≡ false) → (nat_lt 0 (n + run 10 text) ≡ true) ⊎ (nat_lt 0 (n + run 10 text) ≡ false) → FractionParts n (b ∷ text)
+    go : ((b == 46) ≡ true) ⊎ ((b == 46) ≡ false) → (nat_lt 0 (n + digit_count 10 text) ≡ true) ⊎ (nat_lt 0 (n + digit_count 10 text) ≡ false) → FractionParts n (b ∷ text)
     go (inr e) some = let nothing : fraction n (b ∷ text) ≡ 0 = rw (e, fraction) refl in absurd (omega (arith, h, nothing))
     go (inl e) (inr g) = let nothing : fraction n (b ∷ text) ≡ 0 = rw (e, fraction, g) refl in absurd (omega (arith, h, nothing))
     go (inl e) (inl g) =
-        let is : fraction n (b ∷ text) ≡ 1 + run 10 text = rw (e, fraction, g) refl in
+        let is : fraction n (b ∷ text) ≡ 1 + digit_count 10 text = rw (e, fraction, g) refl in
         record {
-          back = take (run 10 text) text;
-          after = drop (run 10 text) text;
+          back = take (digit_count 10 text) text;
+          after = drop (digit_count 10 text) text;
           cut = ap (λ c. c ∷ text) (eqb-true b 46 e) ∙ ap (λ t. 46 ∷ t) (cut_run 10 text);
           digits = run-kind (digit_of 10) text;
           size = omega (arith, is, run-length 10 text);
-          some = omega (arith, ltb-true 0 (n + run 10 text) g, run-length 10 text);
+          some = omega (arith, ltb-true 0 (n + digit_count 10 text) g, run-length 10 text);
         }
 
 -- ---- an exponent
@@ -115,31 +115,31 @@ pub record ExponentParts (text : List ℕ) : Type 0 where
   pub size : exponent text ≡ 1 + (length sign + length digits)
 
 signed-digits : {sign : List ℕ} {signed : ℕ → ℤ} (mark b : ℕ) (text : List ℕ) → is_exponent_mark mark ≡ true → IsSign sign signed → sign ≡ b ∷ [] →
-    exponent (mark ∷ b ∷ text) ≡ with_digits 2 (run 10 text) → 0 < exponent (mark ∷ b ∷ text) → ExponentParts (mark ∷ b ∷ text)
+    exponent (mark ∷ b ∷ text) ≡ with_digits 2 (digit_count 10 text) → 0 < exponent (mark ∷ b ∷ text) → ExponentParts (mark ∷ b ∷ text)
 signed-digits {sign} {signed} mark b text m s e is h =
-    let back = with_digits-back 2 (run 10 text) (omega (arith, h, is)) in
+    let back = with_digits-back 2 (digit_count 10 text) (omega (arith, h, is)) in
     record {
       mark = mark;
       sign = sign;
-      digits = take (run 10 text) text;
-      after = drop (run 10 text) text;
+      digits = take (digit_count 10 text) text;
+      after = drop (digit_count 10 text) text;
       signed = signed;
-      cut = ap (λ t. mark ∷ b ∷ t) (cut_run 10 text) ∙ ap (λ t. mark ∷ (t ++ (take (run 10 text) text ++ drop (run 10 text) text))) (sym e);
+      cut = ap (λ t. mark ∷ b ∷ t) (cut_run 10 text) ∙ ap (λ t. mark ∷ (t ++ (take (digit_count 10 text) text ++ drop (digit_count 10 text) text))) (sym e);
       is_mark = m;
       has_sign = s;
       numeral = run-numeral 10 text back.0;
       size = omega (arith, is, back.1, run-length 10 text, ap length e);
     }
 
-plain-digits : (mark : ℕ) (text : List ℕ) → is_exponent_mark mark ≡ true → exponent (mark ∷ text) ≡ with_digits 1 (run 10 text) →
+plain-digits : (mark : ℕ) (text : List ℕ) → is_exponent_mark mark ≡ true → exponent (mark ∷ text) ≡ with_digits 1 (digit_count 10 text) →
     0 < exponent (mark ∷ text) → ExponentParts (mark ∷ text)
 plain-digits mark text m is h =
-    let back = with_digits-back 1 (run 10 text) (omega (arith, h, is)) in
+    let back = with_digits-back 1 (digit_count 10 text) (omega (arith, h, is)) in
     record {
       mark = mark;
       sign = [];
-      digits = take (run 10 text) text;
-      after = drop (run 10 text) text;
+      digits = take (digit_count 10 text) text;
+      after = drop (digit_count 10 text) text;
       signed = pos;
       cut = ap (λ t. mark ∷ t) (cut_run 10 text);
       is_mark = m;
@@ -185,7 +185,7 @@ taken_scaled text front after m cut size form some =
     }
 
 -- digits, a point and digits
-taken_pointed : (text : List ℕ) (n : ℕ) → (f : FractionParts n (drop n text)) → run 10 text ≡ n → (IsPointed (take n text ++ (46 ∷ f.back)))
+taken_pointed : (text : List ℕ) (n : ℕ) → (f : FractionParts n (drop n text)) → digit_count 10 text ≡ n → (IsPointed (take n text ++ (46 ∷ f.back)))
     × (text ≡ (take n text ++ (46 ∷ f.back)) ++ f.after) × (length (take n text ++ (46 ∷ f.back)) ≡ n + fraction n (drop n text))
 taken_pointed text n f count =
     let front = take n text in
@@ -206,21 +206,21 @@ taken_pointed text n f count =
     )
 
 -- digits alone: after a first 0 the octal ones
-taken_octal : (text : List ℕ) → Taken (48 ∷ text) (run 8 (48 ∷ text))
+taken_octal : (text : List ℕ) → Taken (48 ∷ text) (digit_count 8 (48 ∷ text))
 taken_octal text =
-    elim (cases_Bool (nat_lt 0 (run 8 text))) [
+    elim (cases_Bool (nat_lt 0 (digit_count 8 text))) [
       | inl e ↦ record {
-        number = 48 ∷ take (run 8 text) text;
-        rest = drop (run 8 text) text;
+        number = 48 ∷ take (digit_count 8 text) text;
+        rest = drop (digit_count 8 text) text;
         cut = ap (λ t. 48 ∷ t) (cut_run 8 text);
         size = omega (arith, run-length 8 text);
-        numeral = whole_numeral (leading_zero (run-numeral 8 text (ltb-true 0 (run 8 text) e)));
+        numeral = whole_numeral (leading_zero (run-numeral 8 text (ltb-true 0 (digit_count 8 text) e)));
       }
       | inr e ↦ record {
         number = 48 ∷ [];
         rest = text;
         cut = refl;
-        size = omega (arith, ltb-false 0 (run 8 text) e);
+        size = omega (arith, ltb-false 0 (digit_count 8 text) e);
         numeral = whole_numeral (decimal_digits refl (λ zero. refl));
       }
     ]
@@ -230,20 +230,20 @@ numeral_first digit digits h all =
     and_from (nat_lt 0 (length (digit ∷ digits))) (all_digits 10 (digit ∷ digits)) (lt-ltb 0 (length (digit ∷ digits)) (omega arith))
     (and_from (is_digit digit 10) (all_digits 10 digits) h all)
 
-taken_decimal : (digit : ℕ) (text : List ℕ) → digit ≢ 48 → 0 < run 10 (digit ∷ text) → Taken (digit ∷ text) (run 10 (digit ∷ text))
+taken_decimal : (digit : ℕ) (text : List ℕ) → digit ≢ 48 → 0 < digit_count 10 (digit ∷ text) → Taken (digit ∷ text) (digit_count 10 (digit ∷ text))
 taken_decimal digit text other some =
     elim (cases_Bool (is_digit digit 10)) [
-      | inl e ↦ (let count : run 10 (digit ∷ text) ≡ 1 + run 10 text = rw e refl in record {
-        number = digit ∷ take (run 10 text) text;
-        rest = drop (run 10 text) text;
+      | inl e ↦ (let count : digit_count 10 (digit ∷ text) ≡ 1 + digit_count 10 text = rw e refl in record {
+        number = digit ∷ take (digit_count 10 text) text;
+        rest = drop (digit_count 10 text) text;
         cut = ap (λ t. digit ∷ t) (cut_run 10 text);
         size = omega (arith, count, run-length 10 text);
-        numeral = whole_numeral (decimal_digits (numeral_first digit (take (run 10 text) text) e (run-kind (digit_of 10) text)) (λ zero. absurd (other zero)));
+        numeral = whole_numeral (decimal_digits (numeral_first digit (take (digit_count 10 text) text) e (run-kind (digit_of 10) text)) (λ zero. absurd (other zero)));
       })
-      | inr e ↦ (let count : run 10 (digit ∷ text) ≡ 0 = rw e refl in absurd (omega (arith, some, count)))
+      | inr e ↦ (let count : digit_count 10 (digit ∷ text) ≡ 0 = rw e refl in absurd (omega (arith, some, count)))
     ]
 
-taken_digits : (text : List ℕ) (n : ℕ) → run 10 text ≡ n → 0 < n → Taken text (decimal n text)
+taken_digits : (text : List ℕ) (n : ℕ) → digit_count 10 text ≡ n → 0 < n → Taken text (decimal n text)
 taken_digits [] n count some = absurd (omega (arith, count, some))
 taken_digits (digit ∷ text) n count some =
     elim (cases_Bool (digit == 48)) [
@@ -251,7 +251,7 @@ taken_digits (digit ∷ text) n count some =
       | inr e ↦ rw (e, decimal) (subst (Taken (digit ∷ text)) count (taken_decimal digit text (eqb-false digit 48 e) (omega (arith, count, some))))
     ]
 
-taken_end : (text : List ℕ) (n m : ℕ) → run 10 text ≡ n → n + fraction n (drop n text) ≡ m → 0 < m → Taken text (longer n (m + exponent (drop m text)) text)
+taken_end : (text : List ℕ) (n m : ℕ) → digit_count 10 text ≡ n → n + fraction n (drop n text) ≡ m → 0 < m → Taken text (longer n (m + exponent (drop m text)) text)
 taken_end text n m count size some =
     go (cases_Bool (nat_lt n (m + exponent (drop m text)))) (cases_Bool (nat_lt 0 (fraction n (drop n text)))) (cases_Bool (nat_lt 0 (exponent (drop m text))))
   where
@@ -286,12 +286,12 @@ taken_end text n m count size some =
         subst (Taken text) (sym (longer-end n (m + exponent (drop m text)) text beyond))
         (taken_scaled text (take m text) (drop m text) m (sym (take-append-drop m text)) width (inl front) (omega (arith, beyond, same)))
 
-taken_unmarked : (text : List ℕ) → 0 < unmarked text → Taken text (unmarked text)
+taken_unmarked : (text : List ℕ) → 0 < unmarked_length text → Taken text (unmarked_length text)
 taken_unmarked text h =
-    let n = run 10 text in
+    let n = digit_count 10 text in
     let m = n + fraction n (drop n text) in
     elim (cases_Bool (m == 0)) [
-      | inl e ↦ (let nothing : unmarked text ≡ 0 = rw (e, scaled) refl in absurd (omega (arith, h, nothing)))
+      | inl e ↦ (let nothing : unmarked_length text ≡ 0 = rw (e, scaled_length) refl in absurd (omega (arith, h, nothing)))
       | inr e ↦
           (let some : 0 < m = omega (arith, eqb-false m 0 e) in
           subst (Taken text) (sym (scaled-on n m text some)) (taken_end text n m refl refl some))
@@ -299,19 +299,19 @@ taken_unmarked text h =
 
 pub taken : (text : List ℕ) → 0 < number_length text → Taken text (number_length text)
 taken [] h = absurd (omega (arith, h))
-taken (b ∷ text) h = go (cases_Bool (b == 48)) (cases_Bool (nat_lt 0 (marked text)))
+taken (b ∷ text) h = go (cases_Bool (b == 48)) (cases_Bool (nat_lt 0 (marked_length text)))
   where
-    go : ((b == 48) ≡ true) ⊎ ((b == 48) ≡ false) → (nat_lt 0 (marked text) ≡ true) ⊎ (nat_lt 0 (marked text) ≡ false) →
+    go : ((b == 48) ≡ true) ⊎ ((b == 48) ≡ false) → (nat_lt 0 (marked_length text) ≡ true) ⊎ (nat_lt 0 (marked_length text) ≡ false) →
         Taken (b ∷ text) (number_length (b ∷ text))
     go (inr e) m =
         let is = number-other b text (eqb-false b 48 e) in
         subst (Taken (b ∷ text)) (sym is) (taken_unmarked (b ∷ text) (omega (arith, h, is)))
     go (inl e) (inl m) =
-        let some = ltb-true 0 (marked text) m in
+        let some = ltb-true 0 (marked_length text) m in
         subst (λ c. Taken (c ∷ text) (number_length (c ∷ text))) (sym (eqb-true b 48 e))
         (subst (Taken (48 ∷ text)) (sym (number-marked text some)) (taken_marked text some))
     go (inl e) (inr m) =
-        let nothing : marked text ≡ 0 = omega (arith, ltb-false 0 (marked text) m) in
+        let nothing : marked_length text ≡ 0 = omega (arith, ltb-false 0 (marked_length text) m) in
         let is = number-zero text nothing in
         let some : 0 < number_length (48 ∷ text) = subst (λ c. 0 < number_length (c ∷ text)) (eqb-true b 48 e) h in
         subst (λ c. Taken (c ∷ text) (number_length (c ∷ text))) (sym (eqb-true b 48 e))

@@ -14,7 +14,7 @@ use Rattle.tt_number.specs.Numerals.IsFloat.{pointed, scaled as scaled_float}
 use Rattle.tt_number.specs.Numerals.IsSign.{none, plus, minus}
 use Rattle.tt_number.proofs.Reading.Trimming.{all_parts, all_from}
 use Rattle.tt_number.proofs.Reading.Numbers.{numeral_digits, digit_no_mark, digit_no_sign}
-use Rattle.tt_exprs.specs.Tokens.{run, with_digits, exponent_digits, exponent, fraction, decimal, longer, scaled, unmarked, marked, number_length}
+use Rattle.tt_exprs.specs.Tokens.{digit_count, with_digits, exponent_digits, exponent, fraction, decimal, longer, scaled_length, unmarked_length, marked_length, number_length}
 use Rattle.tt_exprs.proofs.Runs.{run-front}
 use Rattle.tt_exprs.proofs.NumberForms.{IsNumeral, whole_numeral, float_numeral}
 
@@ -26,7 +26,7 @@ digit_of base b = is_digit b base
 pub numeral_some : (base : ℕ) (digits : List ℕ) → is_numeral base digits ≡ true → 0 < length digits
 numeral_some base digits h = ltb-true 0 (length digits) (and_parts (nat_lt 0 (length digits)) (all_digits base digits) h).0
 
-run-digits : (base : ℕ) (xs ys : List ℕ) → all_digits base xs ≡ true → run base (xs ++ ys) ≡ length xs + run base ys
+run-digits : (base : ℕ) (xs ys : List ℕ) → all_digits base xs ≡ true → digit_count base (xs ++ ys) ≡ length xs + digit_count base ys
 run-digits base xs ys h = run-front (digit_of base) xs ys h
 
 octal_digit : (b : ℕ) → is_digit b 8 ≡ true → is_digit b 10 ≡ true
@@ -62,8 +62,8 @@ with_digits-some n digits h = rw (lt-ltb 0 digits h, with_digits) refl
 
 -- ---- how the function decides
 
-pub scaled-on : (n m : ℕ) (text : List ℕ) → 0 < m → scaled n m text ≡ longer n (m + exponent (drop m text)) text
-scaled-on n m text h = let other : (m == 0) ≡ false = ne_eqb m 0 (λ e. absurd (omega (arith, h, e))) in rw (other, scaled) refl
+pub scaled-on : (n m : ℕ) (text : List ℕ) → 0 < m → scaled_length n m text ≡ longer n (m + exponent (drop m text)) text
+scaled-on n m text h = let other : (m == 0) ≡ false = ne_eqb m 0 (λ e. absurd (omega (arith, h, e))) in rw (other, scaled_length) refl
 
 pub longer-end : (n end : ℕ) (text : List ℕ) → n < end → longer n end text ≡ end
 longer-end n end text h = rw (lt-ltb n end h, longer) refl
@@ -72,15 +72,15 @@ pub longer-digits : (n end : ℕ) (text : List ℕ) → end ≤ n → longer n e
 longer-digits n end text h = rw (le-ltb n end h, longer) refl
 
 -- a number after a 0 with a mark, or else
-pub number-marked : (text : List ℕ) → 0 < marked text → number_length (48 ∷ text) ≡ 1 + marked text
-number-marked text h = rw (lt-ltb 0 (marked text) h, number_length) refl
+pub number-marked : (text : List ℕ) → 0 < marked_length text → number_length (48 ∷ text) ≡ 1 + marked_length text
+number-marked text h = rw (lt-ltb 0 (marked_length text) h, number_length) refl
 
-pub number-zero : (text : List ℕ) → marked text ≡ 0 → number_length (48 ∷ text) ≡ unmarked (48 ∷ text)
+pub number-zero : (text : List ℕ) → marked_length text ≡ 0 → number_length (48 ∷ text) ≡ unmarked_length (48 ∷ text)
 number-zero text h =
-    let nothing : nat_lt 0 (marked text) ≡ false = ap (nat_lt 0) h in
+    let nothing : nat_lt 0 (marked_length text) ≡ false = ap (nat_lt 0) h in
     rw (nothing, number_length) refl
 
-pub number-other : (b : ℕ) (text : List ℕ) → b ≢ 48 → number_length (b ∷ text) ≡ unmarked (b ∷ text)
+pub number-other : (b : ℕ) (text : List ℕ) → b ≢ 48 → number_length (b ∷ text) ≡ unmarked_length (b ∷ text)
 number-other b text h = rw (ne_eqb b 48 h, number_length) refl
 
 -- ---- no number is longer
@@ -91,35 +91,35 @@ NoMark [] = ⊥
 NoMark (b ∷ []) = Unit {0}
 NoMark (b ∷ mark ∷ text) = base_of_mark mark ≡ None
 
-unmarked_longest : (xs ys : List ℕ) → NoMark xs → length xs ≤ unmarked (xs ++ ys) → length xs ≤ number_length (xs ++ ys)
+unmarked_longest : (xs ys : List ℕ) → NoMark xs → length xs ≤ unmarked_length (xs ++ ys) → length xs ≤ number_length (xs ++ ys)
 unmarked_longest [] ys m h = absurd m
 unmarked_longest (b ∷ mark ∷ xs) ys m h =
-    let zero_marked : marked (mark ∷ (xs ++ ys)) ≡ 0 = rw (m, marked) refl in
+    let zero_marked : marked_length (mark ∷ (xs ++ ys)) ≡ 0 = rw (m, marked_length) refl in
     elim (cases_Bool (b == 48)) [
       | inl e ↦ rw (eqb-true b 48 e)
-          (rw (number-zero (mark ∷ (xs ++ ys)) zero_marked) (subst (λ c. length (c ∷ mark ∷ xs) ≤ unmarked (c ∷ mark ∷ (xs ++ ys))) (eqb-true b 48 e) h))
+          (rw (number-zero (mark ∷ (xs ++ ys)) zero_marked) (subst (λ c. length (c ∷ mark ∷ xs) ≤ unmarked_length (c ∷ mark ∷ (xs ++ ys))) (eqb-true b 48 e) h))
       | inr e ↦ rw (number-other b (mark ∷ (xs ++ ys)) (eqb-false b 48 e)) h
     ]
 unmarked_longest (b ∷ []) ys m h =
     elim (cases_Bool (b == 48)) [
       | inl e ↦
           (let zero : b ≡ 48 = eqb-true b 48 e in
-          let plain : 1 ≤ unmarked (48 ∷ ys) = subst (λ c. 1 ≤ unmarked (c ∷ ys)) zero h in
-          rw zero (elim (cases_Bool (nat_lt 0 (marked ys))) [
-            | inl e2 ↦ (let some = ltb-true 0 (marked ys) e2 in omega (arith, number-marked ys some))
-            | inr e2 ↦ (let nothing : marked ys ≡ 0 = omega (arith, ltb-false 0 (marked ys) e2) in omega (arith, number-zero ys nothing, plain))
+          let plain : 1 ≤ unmarked_length (48 ∷ ys) = subst (λ c. 1 ≤ unmarked_length (c ∷ ys)) zero h in
+          rw zero (elim (cases_Bool (nat_lt 0 (marked_length ys))) [
+            | inl e2 ↦ (let some = ltb-true 0 (marked_length ys) e2 in omega (arith, number-marked ys some))
+            | inr e2 ↦ (let nothing : marked_length ys ≡ 0 = omega (arith, ltb-false 0 (marked_length ys) e2) in omega (arith, number-zero ys nothing, plain))
           ]))
       | inr e ↦ rw (number-other b ys (eqb-false b 48 e)) h
     ]
 
 -- digits alone
-pub digits_longest : (xs ys : List ℕ) → all_digits 10 xs ≡ true → 0 < length xs → length xs ≤ decimal (run 10 (xs ++ ys)) (xs ++ ys) →
-    length xs ≤ unmarked (xs ++ ys)
+pub digits_longest : (xs ys : List ℕ) → all_digits 10 xs ≡ true → 0 < length xs → length xs ≤ decimal (digit_count 10 (xs ++ ys)) (xs ++ ys) →
+    length xs ≤ unmarked_length (xs ++ ys)
 digits_longest xs ys all some h =
     let text = xs ++ ys in
-    let n = run 10 text in
+    let n = digit_count 10 text in
     let m = n + fraction n (drop n text) in
-    let count : n ≡ length xs + run 10 ys = run-digits 10 xs ys all in
+    let count : n ≡ length xs + digit_count 10 ys = run-digits 10 xs ys all in
     let room : 0 < m = omega (arith, count, some) in
     rw (scaled-on n m text room) (elim (cases_Bool (nat_lt n (m + exponent (drop m text)))) [
       | inl more ↦ (let far = ltb-true n (m + exponent (drop m text)) more in rw (longer-end n (m + exponent (drop m text)) text far) (omega (arith, far, count)))
@@ -127,58 +127,58 @@ digits_longest xs ys all some h =
     ])
 
 -- digits with a point among them
-fraction-point : (front back ys : List ℕ) → is_numeral 10 (front ++ back) ≡ true → (run 10 (front ++ (46 ∷ (back ++ ys))) ≡ length front)
-    × (fraction (length front) (drop (length front) (front ++ (46 ∷ (back ++ ys)))) ≡ 1 + (length back + run 10 ys))
+fraction-point : (front back ys : List ℕ) → is_numeral 10 (front ++ back) ≡ true → (digit_count 10 (front ++ (46 ∷ (back ++ ys))) ≡ length front)
+    × (fraction (length front) (drop (length front) (front ++ (46 ∷ (back ++ ys)))) ≡ 1 + (length back + digit_count 10 ys))
 fraction-point front back ys h =
     let all = numeral_digits 10 (front ++ back) h in
     let some : 0 < length front + length back = omega (arith, numeral_some 10 (front ++ back) h, length-append front back) in
-    let later : run 10 (back ++ ys) ≡ length back + run 10 ys = run-digits 10 back ys (digits_back 10 front back all) in
-    let room : nat_lt 0 (length front + run 10 (back ++ ys)) ≡ true = lt-ltb 0 (length front + run 10 (back ++ ys)) (omega (arith, some, later)) in
-    let here : fraction (length front) (46 ∷ (back ++ ys)) ≡ 1 + run 10 (back ++ ys) = rw (room, fraction) refl in (
+    let later : digit_count 10 (back ++ ys) ≡ length back + digit_count 10 ys = run-digits 10 back ys (digits_back 10 front back all) in
+    let room : nat_lt 0 (length front + digit_count 10 (back ++ ys)) ≡ true = lt-ltb 0 (length front + digit_count 10 (back ++ ys)) (omega (arith, some, later)) in
+    let here : fraction (length front) (46 ∷ (back ++ ys)) ≡ 1 + digit_count 10 (back ++ ys) = rw (room, fraction) refl in (
       run-digits 10 front (46 ∷ (back ++ ys)) (digits_front 10 front back all) ∙ omega arith,
       ap (fraction (length front)) (drop_at front (46 ∷ (back ++ ys)) (length front) refl) ∙ here ∙ omega (arith, later),
     )
 
 -- the mark of an exponent, a sign or none, and digits
 exponent-read : {sign : List ℕ} {signed : ℕ → ℤ} (mark : ℕ) (digits ys : List ℕ) → is_exponent_mark mark ≡ true → IsSign sign signed →
-    is_numeral 10 digits ≡ true → exponent (mark ∷ (sign ++ (digits ++ ys))) ≡ 1 + (length sign + (length digits + run 10 ys))
+    is_numeral 10 digits ≡ true → exponent (mark ∷ (sign ++ (digits ++ ys))) ≡ 1 + (length sign + (length digits + digit_count 10 ys))
 exponent-read mark digits ys m s h = rw (m, exponent) (go s digits h (run-digits 10 digits ys (numeral_digits 10 digits h)) (numeral_some 10 digits h))
   where
     go : {sign : List ℕ} {signed : ℕ → ℤ} → IsSign sign signed → (digits : List ℕ) → is_numeral 10 digits ≡ true →
-        run 10 (digits ++ ys) ≡ length digits + run 10 ys → 0 < length digits →
-        exponent_digits (sign ++ (digits ++ ys)) ≡ 1 + (length sign + (length digits + run 10 ys))
+        digit_count 10 (digits ++ ys) ≡ length digits + digit_count 10 ys → 0 < length digits →
+        exponent_digits (sign ++ (digits ++ ys)) ≡ 1 + (length sign + (length digits + digit_count 10 ys))
     go none [] h count some = absurd (omega (arith, some))
     go none (d ∷ ds) h count some =
         let no_sign = digit_no_sign d 10 (omega arith) (all_parts (digit_of 10) d ds (numeral_digits 10 (d ∷ ds) h)).0 in
-        rw (no_sign, exponent_digits) (with_digits-some 1 (run 10 (d ∷ (ds ++ ys))) (omega (arith, count, some)) ∙ omega (arith, count))
-    go plus digits h count some = with_digits-some 2 (run 10 (digits ++ ys)) (omega (arith, count, some)) ∙ omega (arith, count)
-    go minus digits h count some = with_digits-some 2 (run 10 (digits ++ ys)) (omega (arith, count, some)) ∙ omega (arith, count)
+        rw (no_sign, exponent_digits) (with_digits-some 1 (digit_count 10 (d ∷ (ds ++ ys))) (omega (arith, count, some)) ∙ omega (arith, count))
+    go plus digits h count some = with_digits-some 2 (digit_count 10 (digits ++ ys)) (omega (arith, count, some)) ∙ omega (arith, count)
+    go minus digits h count some = with_digits-some 2 (digit_count 10 (digits ++ ys)) (omega (arith, count, some)) ∙ omega (arith, count)
 
 -- if the digits and the fraction take m bytes, the number goes on to the end of its exponent
-past_digits : (text : List ℕ) (n m : ℕ) → run 10 text ≡ n → n + fraction n (drop n text) ≡ m → 0 < m → n < m + exponent (drop m text) →
-    unmarked text ≡ m + exponent (drop m text)
+past_digits : (text : List ℕ) (n m : ℕ) → digit_count 10 text ≡ n → n + fraction n (drop n text) ≡ m → 0 < m → n < m + exponent (drop m text) →
+    unmarked_length text ≡ m + exponent (drop m text)
 past_digits text n m count size some far =
-    ap (λ k. scaled k (k + fraction k (drop k text)) text) count
-    ∙ ap (λ k. scaled n k text) size
+    ap (λ k. scaled_length k (k + fraction k (drop k text)) text) count
+    ∙ ap (λ k. scaled_length n k text) size
     ∙ scaled-on n m text some
     ∙ longer-end n (m + exponent (drop m text)) text far
 
-pointed_longest : (front back ys : List ℕ) → is_numeral 10 (front ++ back) ≡ true → length (front ++ (46 ∷ back)) ≤ unmarked (front ++ (46 ∷ (back ++ ys)))
+pointed_longest : (front back ys : List ℕ) → is_numeral 10 (front ++ back) ≡ true → length (front ++ (46 ∷ back)) ≤ unmarked_length (front ++ (46 ∷ (back ++ ys)))
 pointed_longest front back ys h =
     let text = front ++ (46 ∷ (back ++ ys)) in
     let f = fraction-point front back ys h in
     let n = length front in
-    let m = length front + (1 + (length back + run 10 ys)) in
+    let m = length front + (1 + (length back + digit_count 10 ys)) in
     omega (arith, length-append front (46 ∷ back), past_digits text n m f.0 (ap (λ k. n + k) f.1) (omega arith) (omega arith))
 
 scaled_longest : {sign : List ℕ} {signed : ℕ → ℤ} (front : List ℕ) (mark : ℕ) (digits ys : List ℕ) → is_exponent_mark mark ≡ true → IsSign sign signed →
-    is_numeral 10 digits ≡ true → (n : ℕ) → run 10 (front ++ (mark ∷ (sign ++ (digits ++ ys)))) ≡ n →
+    is_numeral 10 digits ≡ true → (n : ℕ) → digit_count 10 (front ++ (mark ∷ (sign ++ (digits ++ ys)))) ≡ n →
     n + fraction n (drop n (front ++ (mark ∷ (sign ++ (digits ++ ys))))) ≡ length front → n ≤ length front → 0 < length front →
-    length (front ++ (mark ∷ (sign ++ digits))) ≤ unmarked (front ++ (mark ∷ (sign ++ (digits ++ ys))))
+    length (front ++ (mark ∷ (sign ++ digits))) ≤ unmarked_length (front ++ (mark ∷ (sign ++ (digits ++ ys))))
 scaled_longest {sign} front mark digits ys m s h n count size low some =
     let text = front ++ (mark ∷ (sign ++ (digits ++ ys))) in
     let rest : drop (length front) text ≡ mark ∷ (sign ++ (digits ++ ys)) = drop_at front (mark ∷ (sign ++ (digits ++ ys))) (length front) refl in
-    let e : exponent (drop (length front) text) ≡ 1 + (length sign + (length digits + run 10 ys)) = ap exponent rest ∙ exponent-read mark digits ys m s h in
+    let e : exponent (drop (length front) text) ≡ 1 + (length sign + (length digits + digit_count 10 ys)) = ap exponent rest ∙ exponent-read mark digits ys m s h in
     let end = past_digits text n (length front) count size some (omega (arith, e, low)) in
     omega (arith, end, e, length-append front (mark ∷ (sign ++ digits)), length-append sign digits)
 
@@ -207,10 +207,10 @@ no_mark_more (x ∷ y ∷ xs) ys c m h = m
 marked_longest : (mark base : ℕ) (digits ys : List ℕ) → base_of_mark mark ≡ Some base → is_numeral base digits ≡ true →
     suc (suc (length digits)) ≤ number_length (48 ∷ mark ∷ (digits ++ ys))
 marked_longest mark base digits ys is h =
-    let count : run base (digits ++ ys) ≡ length digits + run base ys = run-digits base digits ys (numeral_digits base digits h) in
+    let count : digit_count base (digits ++ ys) ≡ length digits + digit_count base ys = run-digits base digits ys (numeral_digits base digits h) in
     let some = numeral_some base digits h in
-    let size : marked (mark ∷ (digits ++ ys)) ≡ 1 + run base (digits ++ ys) =
-    rw (is, marked) (with_digits-some 1 (run base (digits ++ ys)) (omega (arith, count, some))) in
+    let size : marked_length (mark ∷ (digits ++ ys)) ≡ 1 + digit_count base (digits ++ ys) =
+    rw (is, marked_length) (with_digits-some 1 (digit_count base (digits ++ ys)) (omega (arith, count, some))) in
     omega (arith, number-marked (mark ∷ (digits ++ ys)) (omega (arith, size)), size, count)
 
 pub hexadecimal_base : (mark : ℕ) → is_hexadecimal_mark mark ≡ true → base_of_mark mark ≡ Some 16
@@ -227,7 +227,7 @@ zero_longest [] ys h = absurd (omega (arith, numeral_some 8 [] h))
 zero_longest (d ∷ ds) ys h =
     let octal_all = numeral_digits 8 (d ∷ ds) h in
     let no_mark = digit_no_mark d 8 (omega arith) (all_parts (digit_of 8) d ds octal_all).0 in
-    let count : run 8 (48 ∷ d ∷ (ds ++ ys)) ≡ suc (suc (length ds)) + run 8 ys = run-digits 8 (48 ∷ d ∷ ds) ys octal_all in
+    let count : digit_count 8 (48 ∷ d ∷ (ds ++ ys)) ≡ suc (suc (length ds)) + digit_count 8 ys = run-digits 8 (48 ∷ d ∷ ds) ys octal_all in
     let all = octal_digits (48 ∷ d ∷ ds) octal_all in
     unmarked_longest (48 ∷ d ∷ ds) ys no_mark (digits_longest (48 ∷ d ∷ ds) ys all (omega arith) (omega (arith, count)))
 
@@ -235,18 +235,18 @@ decimal_longest : (digit : ℕ) (digits ys : List ℕ) → is_numeral 10 (digit 
     suc (length digits) ≤ number_length (digit ∷ (digits ++ ys))
 decimal_longest digit digits ys h first =
     let all = numeral_digits 10 (digit ∷ digits) h in
-    let count : run 10 (digit ∷ (digits ++ ys)) ≡ suc (length digits) + run 10 ys = run-digits 10 (digit ∷ digits) ys all in
+    let count : digit_count 10 (digit ∷ (digits ++ ys)) ≡ suc (length digits) + digit_count 10 ys = run-digits 10 (digit ∷ digits) ys all in
     unmarked_longest (digit ∷ digits) ys (no_mark_digits (digit ∷ digits) all (omega arith)) (digits_longest (digit ∷ digits) ys all (omega arith)
     (elim (cases_Bool (digit == 48)) [
       | inl e ↦ at_zero (eqb-true digit 48 e)
       | inr e ↦ rw (e, decimal) (omega (arith, count))
     ]))
   where
-    at_zero : digit ≡ 48 → suc (length digits) ≤ decimal (run 10 (digit ∷ (digits ++ ys))) (digit ∷ (digits ++ ys))
+    at_zero : digit ≡ 48 → suc (length digits) ≤ decimal (digit_count 10 (digit ∷ (digits ++ ys))) (digit ∷ (digits ++ ys))
     at_zero e = rw (first e, e) (omega arith)
 
 -- no digit begins what an exponent's mark begins
-run-mark : (mark : ℕ) (rest : List ℕ) → is_exponent_mark mark ≡ true → run 10 (mark ∷ rest) ≡ 0
+run-mark : (mark : ℕ) (rest : List ℕ) → is_exponent_mark mark ≡ true → digit_count 10 (mark ∷ rest) ≡ 0
 run-mark mark rest m = rw (mark_no_digit mark m) refl
 
 fraction-mark : (n mark : ℕ) (rest : List ℕ) → is_exponent_mark mark ≡ true → fraction n (mark ∷ rest) ≡ 0
@@ -256,12 +256,12 @@ module _ (mark : ℕ) (sign digits ys : List ℕ) (signed : ℕ → ℤ) (m : is
   behind : (front : List ℕ) → (front ++ (mark ∷ (sign ++ digits))) ++ ys ≡ front ++ (mark ∷ (sign ++ (digits ++ ys)))
   behind front = appended front (sign ++ digits) ys mark ∙ ap (λ t. front ++ (mark ∷ t)) (append_assoc sign digits ys)
 
-  scaled_number : (front : List ℕ) (n : ℕ) → NoMark front → run 10 (front ++ (mark ∷ (sign ++ (digits ++ ys)))) ≡ n →
+  scaled_number : (front : List ℕ) (n : ℕ) → NoMark front → digit_count 10 (front ++ (mark ∷ (sign ++ (digits ++ ys)))) ≡ n →
       n + fraction n (drop n (front ++ (mark ∷ (sign ++ (digits ++ ys))))) ≡ length front → n ≤ length front → 0 < length front →
       length (front ++ (mark ∷ (sign ++ digits))) ≤ number_length ((front ++ (mark ∷ (sign ++ digits))) ++ ys)
   scaled_number front n no_mark count size low some =
       unmarked_longest (front ++ (mark ∷ (sign ++ digits))) ys (no_mark_more front (sign ++ digits) mark no_mark (mark_no_base mark m))
-      (subst (λ t. length (front ++ (mark ∷ (sign ++ digits))) ≤ unmarked t) (sym (behind front))
+      (subst (λ t. length (front ++ (mark ∷ (sign ++ digits))) ≤ unmarked_length t) (sym (behind front))
       (scaled_longest front mark digits ys m s h n count size low some))
 
   scaled_digits : (front : List ℕ) → is_numeral 10 front ≡ true →
@@ -283,16 +283,16 @@ module _ (mark : ℕ) (sign digits ys : List ℕ) (signed : ℕ → ℤ) (m : is
       let p = fraction-point front back rest f in
       let none_more = run-mark mark (sign ++ (digits ++ ys)) m in
       let size = length-append front (46 ∷ back) in
-      let place : fraction (length front) (drop (length front) ((front ++ (46 ∷ back)) ++ rest)) ≡ 1 + (length back + run 10 rest) =
+      let place : fraction (length front) (drop (length front) ((front ++ (46 ∷ back)) ++ rest)) ≡ 1 + (length back + digit_count 10 rest) =
       ap (λ t. fraction (length front) (drop (length front) t)) cut ∙ p.1 in
-      scaled_number (front ++ (46 ∷ back)) (length front) (no_mark_point front back (numeral_digits 10 (front ++ back) f)) (ap (run 10) cut ∙ p.0)
+      scaled_number (front ++ (46 ∷ back)) (length front) (no_mark_point front back (numeral_digits 10 (front ++ back) f)) (ap (digit_count 10) cut ∙ p.0)
       (omega (arith, place, none_more, size)) (omega (arith, size)) (omega (arith, size))
 
 float_longest : (xs ys : List ℕ) → IsFloat xs → length xs ≤ number_length (xs ++ ys)
 float_longest xs ys (pointed p) =
     rw p.spelled
     (unmarked_longest (p.front ++ (46 ∷ p.back)) ys (no_mark_point p.front p.back (numeral_digits 10 (p.front ++ p.back) p.digits))
-    (subst (λ t. length (p.front ++ (46 ∷ p.back)) ≤ unmarked t) (sym (appended p.front p.back ys 46)) (pointed_longest p.front p.back ys p.digits)))
+    (subst (λ t. length (p.front ++ (46 ∷ p.back)) ≤ unmarked_length t) (sym (appended p.front p.back ys 46)) (pointed_longest p.front p.back ys p.digits)))
 float_longest xs ys (scaled_float front sign digits mark signed e f is s h) =
     elim f [
       | inl n ↦ rw e (scaled_digits mark sign digits ys signed is s h front n)

@@ -15,9 +15,9 @@ use Rattle.tt_number.specs.declared.operators.OneOp.{OneOp}
 use Rattle.tt_number.specs.declared.operators.OneOp.TheVariants as one
 use Rattle.tt_number.proofs.Reading.Decimal.{decimal_law}
 use Rattle.tt_exprs.specs.Operators.{takes}
-use Rattle.tt_exprs.specs.Apply.{needed, whole_operand, arithmetic, with_one, with_two, on_one_of, on_two_of}
-use Rattle.tt_exprs.specs.Apply.{with_whole, wholes, extreme_of, truth_number, compared, comparand, order_with}
-use Rattle.tt_exprs.specs.Apply.{order_of, test_order, boolean_by, boolean_of, negated, negation_of, answer_of}
+use Rattle.tt_exprs.specs.Apply.{number_operand, whole_operand, arithmetic, with_one, with_two, on_one_of, on_two_of}
+use Rattle.tt_exprs.specs.Apply.{with_whole, wholes, extreme_of, truth_number, comparison_operand, comparand, order_with}
+use Rattle.tt_exprs.specs.Apply.{order_of, test_order, boolean_by, boolean_of, negation, negation_of, answer_of}
 use Rattle.tt_exprs.specs.Apply.{takes_numbers, numbers_answer, AllFit, NumbersLaw}
 use Rattle.tt_exprs.specs.declared.op.Op.{Op}
 use Rattle.tt_exprs.specs.declared.op.Op.TheVariants.{Neg, Plus, BitNot, Not, Pow, Mul, Div, Mod, Add, Sub, Shl, Shr}
@@ -27,11 +27,11 @@ use Rattle.tt_exprs.specs.declared.op.Op.TheVariants.{BitXor, BitOr, And, Or, Ch
 -- a number's text is read as it
 operand : (op : Op) (n : ℤ) → FitsSigned w64 n → whole_operand op (signed_decimal n) ≡ Ok n
 unfolding whole_operand
-operand op n fits = ap (needed op) (decimal_law n fits)
+operand op n fits = ap (number_operand op) (decimal_law n fits)
 
 compared_number : (n : ℤ) → FitsSigned w64 n → comparand (signed_decimal n) ≡ Ok (Some n)
 unfolding comparand
-compared_number n fits = ap compared (decimal_law n fits)
+compared_number n fits = ap comparison_operand (decimal_law n fits)
 
 number_truth : (n : ℤ) → FitsSigned w64 n → boolean_of (signed_decimal n) ≡ Some (not (unsigned_abs n == 0))
 unfolding boolean_of
@@ -45,7 +45,7 @@ twice_not true = refl
 twice_not false = refl
 
 on_not : (a : ℤ) → FitsSigned w64 a → negation_of (signed_decimal a ∷ []) ≡ Ok (truth_number (unsigned_abs a == 0))
-on_not a f = ap (negated (signed_decimal a)) (number_truth a f) ∙ ap (λ b. Ok (truth_number b)) (twice_not (unsigned_abs a == 0))
+on_not a f = ap (negation (signed_decimal a)) (number_truth a f) ∙ ap (λ b. Ok (truth_number b)) (twice_not (unsigned_abs a == 0))
 
 module _ (a b : ℤ) (f : FitsSigned w64 a) (g : FitsSigned w64 b) where
   on_two : (op : Op) (o : NumOp) → on_two_of op o (signed_decimal a ∷ signed_decimal b ∷ []) ≡ arithmetic (binary_of o a b)

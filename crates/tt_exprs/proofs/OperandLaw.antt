@@ -9,7 +9,7 @@ use Rattle.tt_script.specs.Operands.{quoted_text, outer_part, IsQuotedText, IsOu
 use Rattle.tt_script.proofs.FromGrammar.{part_read, parts_read}
 use Rattle.tt_script.proofs.IntoGrammar.{sound, part_is, parts_is, parts_closed, byte_at}
 use Rattle.tt_exprs.specs.Trees.{leaf, words}
-use Rattle.tt_exprs.specs.Tokens.{PlainToken, operand, Cut, one, refused, none_here, quoted, of_quoted, in_braces, substituted, of_part, of_one_part, token}
+use Rattle.tt_exprs.specs.Tokens.{PlainToken, operand, Cut, one, refused, none_here, quote_cut, of_quoted, in_braces, substitution_cut, of_part, of_one_part, token}
 use Rattle.tt_exprs.specs.TokenGrammar.{is_substituted, IsToken, quoted_token, braced_token, substituted_token}
 
 -- a cut that is the text's first token, or that says that no token is here
@@ -33,7 +33,7 @@ drop_past_two n b text = let same : n + 2 ≡ (n + 1) + 1 = omega arith in ap (�
 
 -- ---- quotes
 
-pub quoted_is : (text : List ℕ) → TokenIs (34 ∷ text) (quoted text)
+pub quoted_is : (text : List ℕ) → TokenIs (34 ∷ text) (quote_cut text)
 quoted_is text = go (quoted_text text) refl
   where
     go : (r : Read PlainParts) → quoted_text text ≡ r → TokenIs (34 ∷ text) (of_quoted r)
@@ -44,7 +44,7 @@ quoted_is text = go (quoted_text text) refl
         let rest : drop n text ≡ 34 ∷ drop (n + 1) text = last.2 ∙ ap (λ c. c ∷ drop (n + 1) text) last.1 in
         (drop (n + 1) text, omega arith, drop_past_two n 34 text, quoted_token refl (rw rest at parts))
 
-pub quoted_read : (text rest : List ℕ) (parts : PlainParts) → IsQuotedText text parts rest → CutsOff (quoted text) (34 ∷ text) (operand (words parts)) rest
+pub quoted_read : (text rest : List ℕ) (parts : PlainParts) → IsQuotedText text parts rest → CutsOff (quote_cut text) (34 ∷ text) (operand (words parts)) rest
 quoted_read text rest parts h =
     let r = parts_read h in
     record {
@@ -96,7 +96,7 @@ part_token b n text (variable name) first h = (drop n text, omega arith, drop_pa
 part_token b n text (element name index) first h = (drop n text, omega arith, drop_past n b text, substituted_token first refl h)
 part_token b n text (script inside) first h = (drop n text, omega arith, drop_past n b text, substituted_token first refl h)
 
-pub substituted_is : (b : ℕ) (text : List ℕ) → (b ≡ 36) ⊎ (b ≡ 91) → TokenIs (b ∷ text) (substituted b text)
+pub substituted_is : (b : ℕ) (text : List ℕ) → (b ≡ 36) ⊎ (b ≡ 91) → TokenIs (b ∷ text) (substitution_cut b text)
 substituted_is b text first = go (outer_part b text) refl
   where
     go : (r : Read PlainPart) → outer_part b text ≡ r → TokenIs (b ∷ text) (of_part r)
@@ -110,7 +110,7 @@ one_part (element name index) n h = refl
 one_part (script inside) n h = refl
 
 pub substituted_read : (b : ℕ) (text rest : List ℕ) (p : PlainPart) → is_substituted p ≡ true → IsOuterPart (b ∷ text) p rest →
-    CutsOff (substituted b text) (b ∷ text) (operand (words (more p none))) rest
+    CutsOff (substitution_cut b text) (b ∷ text) (operand (words (more p none))) rest
 substituted_read b text rest p sub h =
     let r = part_read h in
     record {

@@ -2,7 +2,7 @@
 use Rattle.std.proofs.Common.{◌≡◌, ℕ, true, false, List, [], ◌∷◌, ◌++◌, map, reverse, length, Option, Some, refl, ap, ◌∙◌, arith}
 use Rattle.std.specs.Option.{option_to_list}
 use Rattle.std.proofs.lemmas.List.{map-append, reverse-append}
-use Rattle.tt_exprs.specs.Parsing.{PlainValue, PlainPending, binds, closed, gathered}
+use Rattle.tt_exprs.specs.Parsing.{PlainValue, PlainPending, binds, value_of_pending, gathered}
 use Rattle.tt_exprs.specs.inside.Stacks.{plain_pending, plain_stack}
 use Rattle.tt_exprs.specs.declared.pending.Pending.{Pending}
 
@@ -25,7 +25,7 @@ unfolding gathered
 gathered-empty bound value = refl
 
 pub gathered-takes : (bound : ℕ) (first : PlainPending) (pending : List PlainPending) (value : PlainValue) → binds bound first ≡ true →
-    gathered bound (first ∷ pending) value ≡ gathered bound pending (closed first value)
+    gathered bound (first ∷ pending) value ≡ gathered bound pending (value_of_pending first value)
 unfolding gathered
 gathered-takes bound first pending value e = rw (e, gathered)
 

@@ -14,7 +14,7 @@ use Rattle.tt_number.proofs.Reading.Numbers.{read_unsigned}
 use Rattle.tt_number.proofs.Reading.Floats.{read_float}
 use Rattle.tt_exprs.specs.Trees.{leaf, words}
 use Rattle.tt_exprs.specs.Tokens.{PlainToken, operand, Cut, one, refused, none_here, begins_word, is_word_byte}
-use Rattle.tt_exprs.specs.Tokens.{number_length, number, other, quoted, in_braces, substituted, sign, bare_word, token}
+use Rattle.tt_exprs.specs.Tokens.{number_length, number, other, quote_cut, in_braces, substitution_cut, sign, bare_word, token}
 use Rattle.tt_exprs.specs.Tokens.{Tokens, read, refused_word, stopped, with_token, tokens}
 use Rattle.tt_exprs.specs.TokenGrammar.{first_is, IsNumber, IsLongestNumber, IsBareWord, SpellsWord, IsLongestSign}
 use Rattle.tt_exprs.specs.TokenGrammar.{IsToken, number_token, word_token, sign_token, quoted_token, braced_token}
@@ -115,7 +115,7 @@ reads_sign text spelled rest first h =
       black = r.1.black;
     }
 
-quoted_here : (text : List ℕ) → (token_of (34 ∷ text) ≡ quoted text) × (first_is is_white_space (34 ∷ text) ≡ false)
+quoted_here : (text : List ℕ) → (token_of (34 ∷ text) ≡ quote_cut text) × (first_is is_white_space (34 ∷ text) ≡ false)
 unfolding token
 quoted_here text = (refl, refl)
 
@@ -123,11 +123,11 @@ braces_here : (text : List ℕ) → (token_of (123 ∷ text) ≡ in_braces text)
 unfolding token
 braces_here text = (refl, refl)
 
-dollar_here : (text : List ℕ) → (token_of (36 ∷ text) ≡ substituted 36 text) × (first_is is_white_space (36 ∷ text) ≡ false)
+dollar_here : (text : List ℕ) → (token_of (36 ∷ text) ≡ substitution_cut 36 text) × (first_is is_white_space (36 ∷ text) ≡ false)
 unfolding token
 dollar_here text = (refl, refl)
 
-bracket_here : (text : List ℕ) → (token_of (91 ∷ text) ≡ substituted 91 text) × (first_is is_white_space (91 ∷ text) ≡ false)
+bracket_here : (text : List ℕ) → (token_of (91 ∷ text) ≡ substitution_cut 91 text) × (first_is is_white_space (91 ∷ text) ≡ false)
 unfolding token
 bracket_here text = (refl, refl)
 
@@ -137,7 +137,7 @@ token_reads (word_token {text} {word = spelled} {rest} {token = first} h says) =
 token_reads (sign_token {text} {sign = spelled} {rest} {token = first} h) = reads_sign text spelled rest first h
 token_reads (quoted_token {b} {text} {rest} {parts} e h) =
     subst (λ c. Reads (c ∷ text) (operand (words parts)) rest) (sym e)
-    (reads_by (quoted text) (34 ∷ text) (operand (words parts)) rest (quoted_here text).0 (quoted_read text rest parts h) (quoted_here text).1)
+    (reads_by (quote_cut text) (34 ∷ text) (operand (words parts)) rest (quoted_here text).0 (quoted_read text rest parts h) (quoted_here text).1)
 token_reads (braced_token {b} {c} {text} {rest} inside e f cut balanced) =
     subst (λ d. Reads (d ∷ text) (operand (leaf (joined_lines 0 inside))) rest) (sym e)
     (reads_by (in_braces text) (123 ∷ text) (operand (leaf (joined_lines 0 inside))) rest (braces_here text).0
@@ -147,11 +147,11 @@ token_reads (substituted_token {b} {text} {rest} {part} first sub h) = go first
     go : (b ≡ 36) ⊎ (b ≡ 91) → Reads (b ∷ text) (operand (words (more part none))) rest
     go (inl e) =
         subst (λ c. Reads (c ∷ text) (operand (words (more part none))) rest) (sym e)
-        (reads_by (substituted 36 text) (36 ∷ text) (operand (words (more part none))) rest (dollar_here text).0
+        (reads_by (substitution_cut 36 text) (36 ∷ text) (operand (words (more part none))) rest (dollar_here text).0
         (substituted_read 36 text rest part sub (subst (λ c. IsOuterPart (c ∷ text) part rest) e h)) (dollar_here text).1)
     go (inr e) =
         subst (λ c. Reads (c ∷ text) (operand (words (more part none))) rest) (sym e)
-        (reads_by (substituted 91 text) (91 ∷ text) (operand (words (more part none))) rest (bracket_here text).0
+        (reads_by (substitution_cut 91 text) (91 ∷ text) (operand (words (more part none))) rest (bracket_here text).0
         (substituted_read 91 text rest part sub (subst (λ c. IsOuterPart (c ∷ text) part rest) e h)) (bracket_here text).1)
 
 -- ---- from the function to the relation
@@ -204,11 +204,11 @@ other_is b text = go (cases_Bool (b == 34)) (cases_Bool (b == 123)) (cases_Bool 
     go : ((b == 34) ≡ true) ⊎ ((b == 34) ≡ false) → ((b == 123) ≡ true) ⊎ ((b == 123) ≡ false) →
         ((b == 36 || b == 91) ≡ true) ⊎ ((b == 36 || b == 91) ≡ false) → FrontIs (b ∷ text) (other (b ∷ text))
     go (inl e) f g =
-        rw (e, other) (front_operand (b ∷ text) (quoted text) (subst (λ c. TokenIs (c ∷ text) (quoted text)) (sym (eqb-true b 34 e)) (quoted_is text)))
+        rw (e, other) (front_operand (b ∷ text) (quote_cut text) (subst (λ c. TokenIs (c ∷ text) (quote_cut text)) (sym (eqb-true b 34 e)) (quoted_is text)))
     go (inr e) (inl f) g =
         rw (e, other, f)
         (front_operand (b ∷ text) (in_braces text) (subst (λ c. TokenIs (c ∷ text) (in_braces text)) (sym (eqb-true b 123 f)) (braces_is text)))
-    go (inr e) (inr f) (inl g) = rw (e, other, f, g) (front_operand (b ∷ text) (substituted b text) (substituted_is b text (either g)))
+    go (inr e) (inr f) (inl g) = rw (e, other, f, g) (front_operand (b ∷ text) (substitution_cut b text) (substituted_is b text (either g)))
       where
         either : (b == 36 || b == 91) ≡ true → (b ≡ 36) ⊎ (b ≡ 91)
         either h = elim (or_cases (b == 36) (b == 91) h) [ inl p ↦ inl (eqb-true b 36 p) | inr p ↦ inr (eqb-true b 91 p) ]

@@ -11,7 +11,7 @@ use Rattle.tt_text.specs.Characters.{is_white_space}
 use Rattle.tt_exprs.specs.Trees.{leaf}
 use Rattle.tt_exprs.specs.Operators.{spelling, word_operators, functions, spelled_so, boolean_word}
 use Rattle.tt_exprs.specs.Tokens.{PlainToken, operand, operator, function, Cut, one, refused, none_here, begins_word}
-use Rattle.tt_exprs.specs.Tokens.{is_word_byte, bare_word, word, run, fraction, scaled, number_length}
+use Rattle.tt_exprs.specs.Tokens.{is_word_byte, bare_word, word, digit_count, fraction, scaled_length, number_length}
 use Rattle.tt_exprs.specs.TokenGrammar.{first_is, IsBareWord, SpellsWord, truth_word, operator_word, function_word}
 use Rattle.tt_exprs.specs.declared.op.Op.{Op}
 use Rattle.tt_exprs.proofs.Runs.{run-front, run-none, run-kind, run-end}
@@ -38,10 +38,10 @@ word_goes_on b h = grind (arith, nat_tests)
 -- no number begins with such a byte
 pub word_no_number : (b : ℕ) (text : List ℕ) → begins_word b ≡ true → number_length (b ∷ text) ≡ 0
 word_no_number b text h =
-    let none : run 10 (b ∷ text) ≡ 0 = rw (word_no_digit b h) refl in
+    let none : digit_count 10 (b ∷ text) ≡ 0 = rw (word_no_digit b h) refl in
     let no_fraction : fraction 0 (b ∷ text) ≡ 0 = rw (word_no_point b h, fraction) refl in
     let nothing : 0 + fraction 0 (drop 0 (b ∷ text)) ≡ 0 = omega (arith, no_fraction) in
-    rw (word_no_zero b h, number_length) (ap (λ n. scaled n (n + fraction n (drop n (b ∷ text))) (b ∷ text)) none ∙ ap (λ m. scaled 0 m (b ∷ text)) nothing)
+    rw (word_no_zero b h, number_length) (ap (λ n. scaled_length n (n + fraction n (drop n (b ∷ text))) (b ∷ text)) none ∙ ap (λ m. scaled_length 0 m (b ∷ text)) nothing)
 
 -- ---- the word
 

@@ -8,7 +8,7 @@ use Rattle.std.specs.Int.RustNames.{unsigned_abs}
 use Rattle.std.specs.List.{list_any}
 use Rattle.std.specs.Ordering.{int_cmp, nat_cmp, is_eq, is_ne, is_lt, is_gt, is_le, is_ge, ord_max, ord_min}
 use Rattle.std.specs.declared.cmp.Ordering.{Ordering}
-use Rattle.tt_calls.specs.Outcomes.{fine, failed}
+use Rattle.tt_calls.specs.Outcomes.{fine, error_outcome}
 use Rattle.tt_calls.specs.declared.outcome.Outcome.{Outcome}
 use Rattle.tt_lists.specs.Reading.{split_of}
 use Rattle.tt_lists.specs.declared.items.Split.{Split}
@@ -57,15 +57,15 @@ second (a ∷ b ∷ operands) = b
 -- ---- arithmetic
 
 -- an operand that has to be a whole number, or why it is none
-abbrev pub needed : Op → Result ℤ NumberFault → Result ℤ Refusal
-needed op (Ok n) = Ok n
-needed op (Err number.NotWhole) = Err (NotNumeric op)
-needed op (Err number.TooLarge) = Err TooLarge
-needed op (Err number.Float) = Err Float
+abbrev pub number_operand : Op → Result ℤ NumberFault → Result ℤ Refusal
+number_operand op (Ok n) = Ok n
+number_operand op (Err number.NotWhole) = Err (NotNumeric op)
+number_operand op (Err number.TooLarge) = Err TooLarge
+number_operand op (Err number.Float) = Err Float
 
 -- what an operand is read as, if it has to be a whole number (expr(n), Operands)
 unfoldable pub whole_operand : Op → List ℕ → Result ℤ Refusal
-whole_operand op text = needed op (whole_of text)
+whole_operand op text = number_operand op (whole_of text)
 
 -- what an operator on numbers gives
 abbrev pub arithmetic : Result ℤ ArithFault → Result ℤ Refusal
@@ -106,15 +106,15 @@ wholes op [] = Ok []
 wholes op (a ∷ operands) = with_whole (whole_operand op a) (wholes op operands)
 
 -- which of two numbers `min` or `max` gives
-abbrev pub picked : Op → ℤ → ℤ → ℤ
-picked Min a b = ord_min int_cmp a b
-picked op a b = ord_max int_cmp a b
+abbrev pub extreme_number : Op → ℤ → ℤ → ℤ
+extreme_number Min a b = ord_min int_cmp a b
+extreme_number op a b = ord_max int_cmp a b
 
 -- the least of the numbers for `min`, and the greatest for `max`; there is one at least
 abbrev pub extreme_of : Op → Result (List ℤ) Refusal → Result ℤ Refusal
 extreme_of op (Err refusal) = Err refusal
 extreme_of op (Ok []) = Ok (pos 0)
-extreme_of op (Ok (n ∷ numbers)) = Ok (fold (picked op) n numbers)
+extreme_of op (Ok (n ∷ numbers)) = Ok (fold (extreme_number op) n numbers)
 
 -- ---- tests
 
@@ -134,15 +134,15 @@ opposite_answer (Ok truth) = Ok (truth_number (not truth))
 opposite_answer (Err refusal) = Err refusal
 
 -- what an operand of a comparison is: a whole number, or a text alone
-abbrev pub compared : Result ℤ NumberFault → Result (Option ℤ) Refusal
-compared (Ok n) = Ok (Some n)
-compared (Err number.NotWhole) = Ok None
-compared (Err number.TooLarge) = Err TooLarge
-compared (Err number.Float) = Err Float
+abbrev pub comparison_operand : Result ℤ NumberFault → Result (Option ℤ) Refusal
+comparison_operand (Ok n) = Ok (Some n)
+comparison_operand (Err number.NotWhole) = Ok None
+comparison_operand (Err number.TooLarge) = Err TooLarge
+comparison_operand (Err number.Float) = Err Float
 
 -- what an operand of a comparison is read as
 unfoldable pub comparand : List ℕ → Result (Option ℤ) Refusal
-comparand text = compared (whole_of text)
+comparand text = comparison_operand (whole_of text)
 
 -- as numbers if both are whole, else as texts
 abbrev pub order_by : Option ℤ → Option ℤ → Ordering → Ordering
@@ -198,13 +198,13 @@ unfoldable pub boolean_of : List ℕ → Option Bool
 boolean_of text = boolean_by text (whole_of text)
 
 -- the operator `!`, by the boolean value of its operand
-abbrev pub negated : List ℕ → Option Bool → Result ℤ Refusal
-negated text (Some truth) = Ok (truth_number (not truth))
-negated text None = Err (NotBoolean text)
+abbrev pub negation : List ℕ → Option Bool → Result ℤ Refusal
+negation text (Some truth) = Ok (truth_number (not truth))
+negation text None = Err (NotBoolean text)
 
 -- the operator `!` (expr(n), Operators)
 abbrev pub negation_of : List (List ℕ) → Result ℤ Refusal
-negation_of operands = negated (first operands) (boolean_of (first operands))
+negation_of operands = negation (first operands) (boolean_of (first operands))
 
 -- ---- operators
 
@@ -245,11 +245,11 @@ answer_of op t = Ok (pos 0)
 -- a number in decimal, or the message of the error
 abbrev pub outcome_of : Result ℤ Refusal → Outcome
 outcome_of (Ok n) = fine (signed_decimal n)
-outcome_of (Err refusal) = failed (message_of refusal)
+outcome_of (Err refusal) = error_outcome (message_of refusal)
 
 -- what an operator comes to
-abbrev pub applied : Op → List (List ℕ) → Outcome
-applied op operands = outcome_of (answer_of op operands)
+abbrev pub operator_outcome : Op → List (List ℕ) → Outcome
+operator_outcome op operands = outcome_of (answer_of op operands)
 
 -- ---- conditions and whole expressions
 
@@ -266,8 +266,8 @@ truth_of text = truth_by text (boolean_of text)
 abbrev pub result_by : List ℕ → Result ℤ NumberFault → Outcome
 result_by value (Ok n) = fine (signed_decimal n)
 result_by value (Err number.NotWhole) = fine value
-result_by value (Err number.TooLarge) = failed (number_message number.TooLarge value)
-result_by value (Err number.Float) = failed (number_message number.Float value)
+result_by value (Err number.TooLarge) = error_outcome (number_message number.TooLarge value)
+result_by value (Err number.Float) = error_outcome (number_message number.Float value)
 
 -- the result of a whole expression that has this value: a whole number in decimal, a text that is none as it stands;
 -- a number past 64 bits and a float are errors
@@ -318,8 +318,8 @@ on_numbers op a b = Ok a
 -- what it gives on its numbers, of which there are as many as it takes
 abbrev pub numbers_answer : Op → List ℤ → Result ℤ ArithFault
 numbers_answer op [] = Ok (pos 0)
-numbers_answer Max (n ∷ numbers) = Ok (fold (picked Max) n numbers)
-numbers_answer Min (n ∷ numbers) = Ok (fold (picked Min) n numbers)
+numbers_answer Max (n ∷ numbers) = Ok (fold (extreme_number Max) n numbers)
+numbers_answer Min (n ∷ numbers) = Ok (fold (extreme_number Min) n numbers)
 numbers_answer op (a ∷ []) = on_numbers op a a
 numbers_answer op (a ∷ b ∷ numbers) = on_numbers op a b
 

@@ -48,9 +48,9 @@ in_a_row [] = none
 in_a_row (expr ∷ exprs) = more expr (in_a_row exprs)
 
 -- an operator or a function with its operands
-abbrev pub applied : Op → PlainRow → PlainValue
-applied op (row exprs deepest) = around (node op (in_a_row exprs)) deepest
-applied op too_deep_row = too_deep
+abbrev pub operator_value : Op → PlainRow → PlainValue
+operator_value op (row exprs deepest) = around (node op (in_a_row exprs)) deepest
+operator_value op too_deep_row = too_deep
 
 -- ---- what waits for an operand ----
 
@@ -84,14 +84,14 @@ binds bound parenthesis = false
 binds bound (arguments op operands) = false
 
 -- what an operator makes with its last operand
-abbrev pub closed : PlainPending → PlainValue → PlainValue
-closed (unary op) value = applied op (followed_by no_operands value)
-closed (binary op left) value = applied op (followed_by (followed_by no_operands left) value)
-closed (branch condition chosen) value =
-    applied Choose (followed_by (followed_by (followed_by no_operands condition) chosen) value)
-closed (test condition) value = value
-closed parenthesis value = value
-closed (arguments op operands) value = value
+abbrev pub value_of_pending : PlainPending → PlainValue → PlainValue
+value_of_pending (unary op) value = operator_value op (followed_by no_operands value)
+value_of_pending (binary op left) value = operator_value op (followed_by (followed_by no_operands left) value)
+value_of_pending (branch condition chosen) value =
+    operator_value Choose (followed_by (followed_by (followed_by no_operands condition) chosen) value)
+value_of_pending (test condition) value = value
+value_of_pending parenthesis value = value
+value_of_pending (arguments op operands) value = value
 
 -- an operand with what waits before it, the innermost first
 pub record PlainWaiting : Type 0 where
@@ -103,7 +103,7 @@ unfoldable pub gathered : ℕ → List PlainPending → PlainValue → PlainWait
 gathered bound [] value = record { pending = []; value = value }
 gathered bound (first ∷ pending) value =
     elim (binds bound first) [
-      | true ↦ gathered bound pending (closed first value)
+      | true ↦ gathered bound pending (value_of_pending first value)
       | false ↦ record { pending = first ∷ pending; value = value }
     ]
 
@@ -128,14 +128,14 @@ as_prefix BitNot = Some BitNot
 as_prefix Not = Some Not
 as_prefix op = None
 
-abbrev pub prefixed : List PlainPending → Option Op → PlainState
-prefixed pending (Some op) = wants_after (unary op) pending
-prefixed pending None = wrong
+abbrev pub state_with_prefix : List PlainPending → Option Op → PlainState
+state_with_prefix pending (Some op) = wants_after (unary op) pending
+state_with_prefix pending None = wrong
 
 -- a token if an operand is wanted
 abbrev pub at_operand : List PlainPending → PlainToken → PlainState
 at_operand pending (operand expr) = has (record { pending = pending; value = nested expr 0 })
-at_operand pending (operator op) = prefixed pending (as_prefix op)
+at_operand pending (operator op) = state_with_prefix pending (as_prefix op)
 at_operand pending (function op) = calls op pending
 at_operand pending opening = wants_after parenthesis pending
 at_operand pending closing = wrong
@@ -156,9 +156,9 @@ abbrev pub wants_right : Op → PlainWaiting → PlainState
 wants_right op left = wants_after (with_left op left.value) left.pending
 
 -- an operator after an operand, if its left operand binds at this level at least
-abbrev pub operated : Op → Option ℕ → PlainWaiting → PlainState
-operated op None waiting = wrong
-operated op (Some bound) waiting = wants_right op (gathered bound waiting.pending waiting.value)
+abbrev pub state_with_operator : Op → Option ℕ → PlainWaiting → PlainState
+state_with_operator op None waiting = wrong
+state_with_operator op (Some bound) waiting = wants_right op (gathered bound waiting.pending waiting.value)
 
 -- a `:` after an operand that is whole
 abbrev pub after_colon : PlainValue → List PlainPending → PlainState
@@ -169,7 +169,7 @@ after_colon value pending = wrong
 abbrev pub after_closing : PlainValue → List PlainPending → PlainState
 after_closing value (parenthesis ∷ pending) = has (record { pending = pending; value = parenthesized value })
 after_closing value (arguments op operands ∷ pending) =
-    has (record { pending = pending; value = applied op (followed_by operands value) })
+    has (record { pending = pending; value = operator_value op (followed_by operands value) })
 after_closing value pending = wrong
 
 -- a `,`
@@ -184,7 +184,7 @@ after_comma value pending = wrong
 -- a token after an operand
 abbrev pub at_operator : PlainWaiting → PlainToken → PlainState
 at_operator waiting (operand expr) = wrong
-at_operator waiting (operator op) = operated op (left_level_of op) waiting
+at_operator waiting (operator op) = state_with_operator op (left_level_of op) waiting
 at_operator waiting (function op) = wrong
 at_operator waiting opening = wrong
 at_operator waiting closing =
@@ -214,15 +214,16 @@ outcome_of too_deep [] = nested_too_deeply
 outcome_of value (first ∷ pending) = malformed
 
 -- what the tokens have come to at their end
-abbrev pub finished : PlainState → PlainOutcome
-finished (has waiting) = let whole = gathered 0 waiting.pending waiting.value in outcome_of whole.value whole.pending
-finished (wants pending) = malformed
-finished (calls op pending) = malformed
-finished wrong = malformed
+abbrev pub final_outcome : PlainState → PlainOutcome
+final_outcome (has waiting) =
+    let whole = gathered 0 waiting.pending waiting.value in outcome_of whole.value whole.pending
+final_outcome (wants pending) = malformed
+final_outcome (calls op pending) = malformed
+final_outcome wrong = malformed
 
 -- the tree of these tokens
 abbrev pub tree_of : List PlainToken → PlainOutcome
-tree_of ts = finished (fold step (wants []) ts)
+tree_of ts = final_outcome (fold step (wants []) ts)
 
 -- the messages
 abbrev pub bareword_error : List ℕ → List ℕ
@@ -234,17 +235,17 @@ syntax_error text = codes "syntax error in expression \"" ++ (text ++ codes "\""
 abbrev pub depth_error : List ℕ
 depth_error = codes "expression nested too deeply"
 
-abbrev pub answered : List ℕ → PlainOutcome → PlainParsed
-answered text (good expr) = tree expr
-answered text malformed = bad (syntax_error text)
-answered text nested_too_deeply = bad depth_error
+abbrev pub parse_answer : List ℕ → PlainOutcome → PlainParsed
+parse_answer text (good expr) = tree expr
+parse_answer text malformed = bad (syntax_error text)
+parse_answer text nested_too_deeply = bad depth_error
 
 -- the first refused bare word, then a fault of form, then the depth
-abbrev pub parsed : List ℕ → Tokens → PlainParsed
-parsed text (read ts) = answered text (tree_of ts)
-parsed text (refused_word word) = bad (bareword_error word)
-parsed text stopped = bad (syntax_error text)
+abbrev pub parse_of_tokens : List ℕ → Tokens → PlainParsed
+parse_of_tokens text (read ts) = parse_answer text (tree_of ts)
+parse_of_tokens text (refused_word word) = bad (bareword_error word)
+parse_of_tokens text stopped = bad (syntax_error text)
 
 -- what a text is read as
 unfoldable pub parse : List ℕ → PlainParsed
-parse text = parsed text (tokens 0 text)
+parse text = parse_of_tokens text (tokens 0 text)

@@ -74,8 +74,8 @@ bare_word word n =
 -- ---- numbers ----
 
 -- how many digits of this base are at the front
-abbrev pub run : ℕ → List ℕ → ℕ
-run base text = prefix_len (λ b. is_digit b base) text
+abbrev pub digit_count : ℕ → List ℕ → ℕ
+digit_count base text = prefix_len (λ b. is_digit b base) text
 
 -- how many bytes these digits take with what is before them, or 0 if there are none
 abbrev pub with_digits : ℕ → ℕ → ℕ
@@ -86,8 +86,8 @@ abbrev pub exponent_digits : List ℕ → ℕ
 exponent_digits [] = 0
 exponent_digits (b ∷ text) =
     elim (b == 43 || b == 45) [
-      | true ↦ with_digits 2 (run 10 text)
-      | false ↦ with_digits 1 (run 10 (b ∷ text))
+      | true ↦ with_digits 2 (digit_count 10 text)
+      | false ↦ with_digits 1 (digit_count 10 (b ∷ text))
     ]
 
 -- how many bytes an exponent takes that is at the front, or 0
@@ -101,42 +101,44 @@ fraction n text =
     elim (begins 46 text) [
       | false ↦ 0
       | true ↦
-          let digits = run 10 (drop 1 text) in
+          let digits = digit_count 10 (drop 1 text) in
           elim (nat_lt 0 (n + digits)) [ true ↦ 1 + digits | false ↦ 0 ]
     ]
 
 -- how many of n decimal digits write a whole number: after a first 0 the octal ones
 abbrev pub decimal : ℕ → List ℕ → ℕ
-decimal n text = elim (begins 48 text) [ true ↦ run 8 text | false ↦ n ]
+decimal n text = elim (begins 48 text) [ true ↦ digit_count 8 text | false ↦ n ]
 
 -- how many bytes a number takes that has n digits and ends there, or goes on to the end of an exponent or a fraction
 abbrev pub longer : ℕ → ℕ → List ℕ → ℕ
 longer n end text = elim (nat_lt n end) [ true ↦ end | false ↦ decimal n text ]
 
 -- the same, if its digits and its fraction take m bytes
-abbrev pub scaled : ℕ → ℕ → List ℕ → ℕ
-scaled n m text =
+abbrev pub scaled_length : ℕ → ℕ → List ℕ → ℕ
+scaled_length n m text =
     elim (m == 0) [
       | true ↦ 0
       | false ↦ longer n (m + exponent (drop m text)) text
     ]
 
 -- how many bytes a number takes that begins with no mark of its base, or 0
-abbrev pub unmarked : List ℕ → ℕ
-unmarked text = scaled (run 10 text) (run 10 text + fraction (run 10 text) (drop (run 10 text) text)) text
+abbrev pub unmarked_length : List ℕ → ℕ
+unmarked_length text =
+    scaled_length (digit_count 10 text)
+    (digit_count 10 text + fraction (digit_count 10 text) (drop (digit_count 10 text) text)) text
 
 -- how many bytes a mark of a base and the digits after it take, or 0
-abbrev pub marked : List ℕ → ℕ
-marked [] = 0
-marked (mark ∷ text) = elim (base_of_mark mark) [ Some base ↦ with_digits 1 (run base text) | None ↦ 0 ]
+abbrev pub marked_length : List ℕ → ℕ
+marked_length [] = 0
+marked_length (mark ∷ text) = elim (base_of_mark mark) [ Some base ↦ with_digits 1 (digit_count base text) | None ↦ 0 ]
 
 -- how many bytes the longest number at the front takes, or 0
 abbrev pub number_length : List ℕ → ℕ
 number_length [] = 0
 number_length (b ∷ text) =
-    elim (b == 48 && nat_lt 0 (marked text)) [
-      | true ↦ 1 + marked text
-      | false ↦ unmarked (b ∷ text)
+    elim (b == 48 && nat_lt 0 (marked_length text)) [
+      | true ↦ 1 + marked_length text
+      | false ↦ unmarked_length (b ∷ text)
     ]
 
 -- ---- operands that are read as a script reads them ----
@@ -158,12 +160,12 @@ of_part (takes part n) = of_one_part part n
 of_part (fails fault) = none_here
 
 -- what stands in quotes, with the text after the first one
-abbrev pub quoted : List ℕ → Cut
-quoted text = of_quoted (quoted_text text)
+abbrev pub quote_cut : List ℕ → Cut
+quote_cut text = of_quoted (quoted_text text)
 
 -- what a `$` or a `[` begins, with the text after it
-abbrev pub substituted : ℕ → List ℕ → Cut
-substituted b text = of_part (outer_part b text)
+abbrev pub substitution_cut : ℕ → List ℕ → Cut
+substitution_cut b text = of_part (outer_part b text)
 
 -- a text in braces, with the text after the brace
 abbrev pub in_braces : List ℕ → Cut
@@ -180,12 +182,12 @@ abbrev pub other : List ℕ → Cut
 other [] = none_here
 other (b ∷ text) =
     elim (b == 34) [
-      | true ↦ quoted text
+      | true ↦ quote_cut text
       | false ↦
           elim (b == 123) [
             | true ↦ in_braces text
             | false ↦
-                elim (b == 36 || b == 91) [ true ↦ substituted b text | false ↦ sign (b ∷ text) ]
+                elim (b == 36 || b == 91) [ true ↦ substitution_cut b text | false ↦ sign (b ∷ text) ]
           ]
     ]
 

@@ -1,5 +1,5 @@
 ghost use Rattle.std.specs.Prelude.{◌≡◌, length, IfOk, IsFalse, IsTrue};
-ghost use Rattle.tt_exprs.specs.Apply.{answer_of, applied, is_lazy};
+ghost use Rattle.tt_exprs.specs.Apply.{answer_of, operator_outcome, is_lazy};
 ghost use Rattle.tt_exprs.specs.Operators.{takes};
 
 mod booleans;
@@ -39,7 +39,7 @@ use tt_text::{NoMemory, Text};
 pub fn apply(alloc: Global, op: Op, operands: &[Text]) -> Result<Outcome, NoMemory>
     requires eager { IsFalse (is_lazy op) }
     requires count { IsTrue (takes op (length operands.now)) }
-    ensures answer { IfOk result (λ outcome. outcome ≡ applied op operands.now) }
+    ensures answer { IfOk result (λ outcome. outcome ≡ operator_outcome op operands.now) }
 {
     match answer(alloc, op, operands)? {
         Ok(number) => Ok(Outcome::fine(alloc, whole_text(alloc, number)?)),

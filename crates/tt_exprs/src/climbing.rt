@@ -135,7 +135,7 @@ fn with_left(op: Op, value: Value) -> Pending
 fn operated(alloc: Global, op: Op, state: &mut State, value: Value) -> Result<(), NoMemory>
     ensures { OnOk result
         (plain_state state.new
-        ≡ parsing.operated op (parsing.left_level_of op) (plain_waiting state.old.pending.items value)) }
+        ≡ parsing.state_with_operator op (parsing.left_level_of op) (plain_waiting state.old.pending.items value)) }
 {
     match left_level(op) {
         Some(bound) => {
@@ -229,7 +229,7 @@ pub(crate) fn step(alloc: Global, state: &mut State, token: Token) -> Result<(),
 
 /// What the tokens have come to at their end.
 pub(crate) fn finished(alloc: Global, state: State) -> Result<Outcome, NoMemory>
-    ensures { IfOk result (λ outcome. plain_outcome outcome ≡ parsing.finished (plain_state state)) }
+    ensures { IfOk result (λ outcome. plain_outcome outcome ≡ parsing.final_outcome (plain_state state)) }
 {
     let State { mut pending, phase } = state;
     let Phase::Has(value) = phase else {

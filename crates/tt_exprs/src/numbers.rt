@@ -7,7 +7,7 @@ ghost use Rattle.tt_number.specs.Numerals as numerals;
 fn run(base: u32, text: &[u8]) -> usize
     requires least { 2 ≤ base }
     requires most { base ≤ 16 }
-    ensures count { result ≡ tokens.run base text.now }
+    ensures count { result ≡ tokens.digit_count base text.now }
     ensures within { result ≤ length text.now }
 {
     let mut n = 0;
@@ -82,7 +82,7 @@ fn decimal(digits: usize, text: &[u8]) -> usize
 
 /// How many bytes a number takes that begins with no mark of its base, or 0.
 fn unmarked(text: &[u8]) -> usize
-    ensures count { result ≡ tokens.unmarked text.now }
+    ensures count { result ≡ tokens.unmarked_length text.now }
     ensures within { result ≤ length text.now }
 {
     let digits = run(10, text);
@@ -113,7 +113,7 @@ fn base_of_mark(mark: u8) -> Option<u32>
 
 /// How many bytes a mark of a base and the digits after it take, or 0.
 fn marked(text: &[u8]) -> usize
-    ensures count { result ≡ tokens.marked text.now }
+    ensures count { result ≡ tokens.marked_length text.now }
     ensures within { result ≤ length text.now }
 {
     let [mark, digits @ ..] = text else {

@@ -33,7 +33,7 @@ fn syntax_error(alloc: Global, text: &[u8]) -> Result<Text, NoMemory>
 
 /// What tokens that have come to this make of the text.
 fn answered(alloc: Global, text: &[u8], outcome: Outcome) -> Result<Parsed, NoMemory>
-    ensures { IfOk result (λ parsed. plain_parsed parsed ≡ parsing.answered text.now (plain_outcome outcome)) }
+    ensures { IfOk result (λ parsed. plain_parsed parsed ≡ parsing.parse_answer text.now (plain_outcome outcome)) }
 {
     match outcome {
         Outcome::Good(expr) => Ok(Parsed::Tree(expr)),

@@ -52,7 +52,8 @@ fn binds(bound: u8, pending: &Pending) -> bool
 /// What an operator makes with its last operand.
 #[inline(always)]
 fn closed(alloc: Global, pending: Pending, value: Value) -> Result<Value, NoMemory>
-    ensures { IfOk result (λ whole. plain_value whole ≡ parsing.closed (plain_pending pending) (plain_value value)) }
+    ensures { IfOk result
+        (λ whole. plain_value whole ≡ parsing.value_of_pending (plain_pending pending) (plain_value value)) }
 {
     match pending {
         Pending::Unary(op) => {

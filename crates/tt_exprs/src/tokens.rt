@@ -51,7 +51,7 @@ pub(crate) fn is_white_space(byte: u8) -> bool
 /// What stands in quotes, with the text after the first one.
 fn quoted(alloc: Global, text: &[u8]) -> Result<Cut, NoMemory>
     requires { length text.now < usize.MAX }
-    ensures read { IfOk result (λ cut. plain_cut cut ≡ tokens.quoted text.now) }
+    ensures read { IfOk result (λ cut. plain_cut cut ≡ tokens.quote_cut text.now) }
     ensures within { IfOk result (λ cut. TakesWithin cut (length text.now + 1)) }
 {
     match quoted_parts(alloc, text)? {
@@ -88,7 +88,7 @@ fn one_part(alloc: Global, part: Part, n: usize) -> Result<Cut, NoMemory>
 /// What a `$` begins, with the text after it.
 fn variable(alloc: Global, text: &[u8]) -> Result<Cut, NoMemory>
     requires { length text.now < usize.MAX }
-    ensures read { IfOk result (λ cut. plain_cut cut ≡ tokens.substituted 36 text.now) }
+    ensures read { IfOk result (λ cut. plain_cut cut ≡ tokens.substitution_cut 36 text.now) }
     ensures within { IfOk result (λ cut. TakesWithin cut (length text.now + 1)) }
 {
     match variable_part(alloc, text)? {
@@ -100,7 +100,7 @@ fn variable(alloc: Global, text: &[u8]) -> Result<Cut, NoMemory>
 /// What a `[` begins, with the text after it.
 fn script(alloc: Global, text: &[u8]) -> Result<Cut, NoMemory>
     requires { length text.now < usize.MAX }
-    ensures read { IfOk result (λ cut. plain_cut cut ≡ tokens.substituted 91 text.now) }
+    ensures read { IfOk result (λ cut. plain_cut cut ≡ tokens.substitution_cut 91 text.now) }
     ensures within { IfOk result (λ cut. TakesWithin cut (length text.now + 1)) }
 {
     match script_part(alloc, text)? {

@@ -96,7 +96,7 @@ pub(crate) fn parenthesized(value: Value) -> Value
 /// An operator or a function with its operands.
 #[inline(always)]
 pub(crate) fn applied(op: Op, operands: Row) -> Value
-    ensures { plain_value result ≡ parsing.applied op (plain_row operands) }
+    ensures { plain_value result ≡ parsing.operator_value op (plain_row operands) }
 {
     match operands {
         Row::Operands(exprs, deepest) => around(Expr::Node(op, exprs), deepest),

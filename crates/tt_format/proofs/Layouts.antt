@@ -6,7 +6,7 @@ use Rattle.tt_strings.proofs.Ranges.{no_more_characters}
 use Rattle.tt_format.specs.Fields.{is_letter, letters}
 use Rattle.tt_format.specs.Formatting.{longest}
 use Rattle.tt_format.specs.Printing.{layout, missing}
-use Rattle.tt_format.specs.inside.Reading.{IsField, IsPrinted, capped}
+use Rattle.tt_format.specs.inside.Reading.{IsField, IsPrinted, at_most_greatest}
 use Rattle.tt_format.specs.declared.layout.Field.{Field}
 use Rattle.tt_format.specs.declared.layout.Fill.{Fill}
 use Rattle.tt_format.specs.declared.layout.Fill.TheVariants.{SpacesAfter, Zeros, SpacesBefore}
@@ -40,19 +40,19 @@ layout_length SpacesBefore width sign body =
     )
 
 -- a width that fits was not cut
-width_kept : (fill : Fill) (width : ℕ) (before sign body : List ℕ) → length (before ++ layout fill (capped width) sign body) ≤ longest → capped width ≡ width
+width_kept : (fill : Fill) (width : ℕ) (before sign body : List ℕ) → length (before ++ layout fill (at_most_greatest width) sign body) ≤ longest → at_most_greatest width ≡ width
 width_kept fill width before sign body short =
-    omega (arith, short, length-append before (layout fill (capped width) sign body), layout_length fill (capped width) sign body, no_more_characters body)
+    omega (arith, short, length-append before (layout fill (at_most_greatest width) sign body), layout_length fill (at_most_greatest width) sign body, no_more_characters body)
 
 -- a field that was printed is the field
 pub field_printed : (field : Field) (bytes before after : List ℕ) → IsField field bytes →
     IsPrinted true before after (layout field.fill field.width field.sign.now field.body)
     → (after ≡ before ++ bytes) × (length (before ++ bytes) ≤ longest)
 field_printed field bytes before after f h =
-    let cut : layout field.fill field.width field.sign.now field.body ≡ layout field.fill (capped f.width) field.sign.now field.body =
+    let cut : layout field.fill field.width field.sign.now field.body ≡ layout field.fill (at_most_greatest f.width) field.sign.now field.body =
     ap (λ w. layout field.fill w field.sign.now field.body) f.width_is in
     let P : List ℕ → Type 0 = λ l. length l ≤ longest in
-    let short : length (before ++ layout field.fill (capped f.width) field.sign.now field.body) ≤ longest = subst P (h.0 ∙ ap (λ l. before ++ l) cut) h.1 in
+    let short : length (before ++ layout field.fill (at_most_greatest f.width) field.sign.now field.body) ≤ longest = subst P (h.0 ∙ ap (λ l. before ++ l) cut) h.1 in
     let same : layout field.fill field.width field.sign.now field.body ≡ bytes =
     cut ∙ ap (λ w. layout field.fill w field.sign.now field.body) (width_kept field.fill f.width before field.sign.now field.body short) ∙ sym f.prints in
     (h.0 ∙ ap (λ l. before ++ l) same, subst P (h.0 ∙ ap (λ l. before ++ l) same) h.1)

@@ -7,10 +7,10 @@ use Rattle.tt_text.specs.Characters.{characters}
 use Rattle.tt_strings.specs.Places.{bytes_of}
 use Rattle.tt_strings.proofs.Ranges.{no_more_characters}
 use Rattle.tt_format.specs.Fields.{at_most}
-use Rattle.tt_format.specs.inside.Reading.{capped}
+use Rattle.tt_format.specs.inside.Reading.{at_most_greatest}
 
 -- a limit that was cut at the length limits alike
-pub limited : (limit : Option ℕ) (count n : ℕ) (value result : List ℕ) → Some count ≡ option_map capped limit → n ≡ min count (length value) →
+pub limited : (limit : Option ℕ) (count n : ℕ) (value result : List ℕ) → Some count ≡ option_map at_most_greatest limit → n ≡ min count (length value) →
     length value < 2 ^ 64
     → result ≡ bytes_of (take n (characters value)) → result ≡ at_most limit value
 limited None count n value result e f short g = absurd (false≢true (sym (ap is_some e)))

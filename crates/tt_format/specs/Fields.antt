@@ -71,16 +71,17 @@ abbrev pub is_out_of_place : Option ℕ → ℕ → Bool
 is_out_of_place most letter = is_some most && not (letter == 115)
 
 -- a letter is looked up, and is refused if no field has it
-abbrev pub looked_up : Option Kind → List ℕ → Specifier → (left : Bool) (width : ℕ) → List ℕ → List (List ℕ) → Piece
-looked_up (Some kind) text s left width rest values = of_kind kind s left width rest values
-looked_up None text s left width rest values = Refused (bad_specifier (slice_index_or (characters text) 0 []))
+abbrev pub piece_of_letter :
+    Option Kind → List ℕ → Specifier → (left : Bool) (width : ℕ) → List ℕ → List (List ℕ) → Piece
+piece_of_letter (Some kind) text s left width rest values = of_kind kind s left width rest values
+piece_of_letter None text s left width rest values = Refused (bad_specifier (slice_index_or (characters text) 0 []))
 
 -- a field by the letter at the front of a template
 abbrev pub by_letter : List ℕ → Specifier → (left : Bool) (width : ℕ) → List (List ℕ) → Piece
 by_letter [] s left width values = Refused (bad_specifier [])
 by_letter (b ∷ rest) s left width values =
     if is_out_of_place s.most b then Refused (bad_specifier (codes "."))
-    else looked_up (kind_of b) (b ∷ rest) s left width rest values
+    else piece_of_letter (kind_of b) (b ∷ rest) s left width rest values
 
 abbrev pub is_negative : ℤ → Bool
 is_negative (pos n) = false

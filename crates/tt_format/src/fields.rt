@@ -6,7 +6,7 @@ ghost use Rattle.tt_format.specs.Fields.{field, is_out_of_place, letters, not_en
 ghost use Rattle.tt_format.specs.Fields.{percent_piece, piece, text_piece};
 ghost use Rattle.tt_format.specs.inside.Reading.{IsAsked, IsGiven, IsNoLonger, IsPart, IsRead, IsShorter};
 ghost use Rattle.tt_format.specs.inside.Reading.{LeavesTemplate};
-ghost use Rattle.tt_format.specs.inside.Reading.{capped};
+ghost use Rattle.tt_format.specs.inside.Reading.{at_most_greatest};
 ghost use Rattle.tt_format.specs.Specifiers as spec;
 
 use crate::kind::{Base, Kind, kind_of};
@@ -89,7 +89,7 @@ fn number_field<'a>(
     values: &'a [Text],
 ) -> Result<Part<'a>, NoMemory>
     ensures part { IfOk result (λ part.
-        (width : ℕ) → asked.entry.width ≡ capped width →
+        (width : ℕ) → asked.entry.width ≡ at_most_greatest width →
         IsPart part (number_piece base asked.entry.flags.now asked.entry.left width rest.now values.now)) }
     ensures kept { IfOk result (λ part. LeavesTemplate part rest.now) }
 {
@@ -115,7 +115,7 @@ fn code_field<'a>(
     values: &'a [Text],
 ) -> Result<Part<'a>, NoMemory>
     ensures part { IfOk result (λ part.
-        (width : ℕ) → asked.entry.width ≡ capped width →
+        (width : ℕ) → asked.entry.width ≡ at_most_greatest width →
         IsPart part (code_piece asked.entry.left width rest.now values.now)) }
     ensures kept { IfOk result (λ part. LeavesTemplate part rest.now) }
 {
@@ -141,8 +141,8 @@ fn text_field<'a>(
     values: &'a [Text],
 ) -> Result<Part<'a>, NoMemory>
     ensures part { IfOk result (λ part.
-        (width : ℕ) (most : Option ℕ) → asked.entry.width ≡ capped width →
-        asked.entry.most ≡ option_map capped most →
+        (width : ℕ) (most : Option ℕ) → asked.entry.width ≡ at_most_greatest width →
+        asked.entry.most ≡ option_map at_most_greatest most →
         IsPart part (text_piece asked.entry.left width most rest.now values.now)) }
     ensures kept { IfOk result (λ part. LeavesTemplate part rest.now) }
 {
@@ -160,7 +160,7 @@ fn text_field<'a>(
 
 // The first characters of a value, if their number is limited.
 fn at_most(value: &[u8], most: Option<u64>) -> &[u8]
-    ensures { (limit : Option ℕ) → most ≡ option_map capped limit → result.now ≡ at_most limit value.now }
+    ensures { (limit : Option ℕ) → most ≡ option_map at_most_greatest limit → result.now ≡ at_most limit value.now }
 {
     match most {
         Some(count) => leading(value, (count as usize).min(value.len())),
@@ -176,7 +176,7 @@ fn percent_field<'a>(
     values: &'a [Text],
 ) -> Result<Part<'a>, NoMemory>
     ensures part { IfOk result (λ part.
-        (width : ℕ) → asked.entry.width ≡ capped width →
+        (width : ℕ) → asked.entry.width ≡ at_most_greatest width →
         IsPart part (percent_piece asked.entry.left width rest.now values.now)) }
     ensures kept { IfOk result (λ part. LeavesTemplate part rest.now) }
 {
@@ -254,7 +254,7 @@ fn by_letter<'a>(
 
 // A limit is followed by `s` alone.
 fn is_out_of_place(most: Option<u64>, letter: u8) -> bool
-    ensures { (limit : Option ℕ) → most ≡ option_map capped limit → result ≡ is_out_of_place limit letter }
+    ensures { (limit : Option ℕ) → most ≡ option_map at_most_greatest limit → result ≡ is_out_of_place limit letter }
 {
     most.is_some() && letter != b's'
 }
@@ -267,7 +267,7 @@ fn by_width<'a>(
     values: &'a [Text],
 ) -> Result<Part<'a>, NoMemory>
     ensures part { IfOk result (λ part.
-        (s : spec.Specifier) (wide : ℕ) → IsRead read.entry s → width ≡ capped wide →
+        (s : spec.Specifier) (wide : ℕ) → IsRead read.entry s → width ≡ at_most_greatest wide →
         IsPart part (by_width (Some wide) s values.now)) }
     ensures no_longer { IfOk result (λ part. IsNoLonger part read.entry.rest.now) }
 {

@@ -2,7 +2,7 @@
 ghost use Rattle.std.specs.Prelude.{◌≡◌, ◌≤◌, ◌-◌, ◌^◌, min, true, length};
 ghost use Rattle.std.specs.Option.{option_map};
 ghost use Rattle.tt_number.specs.Numerals.{all_digits, digit_sum};
-ghost use Rattle.tt_format.specs.inside.Reading.{IsRead, capped};
+ghost use Rattle.tt_format.specs.inside.Reading.{IsRead, at_most_greatest};
 ghost use Rattle.tt_format.specs.Specifiers.{after_digits, after_most, after_size, after_width, decimal_digits};
 ghost use Rattle.tt_format.specs.Specifiers.{flags, is_flag, is_size, most, specifier, width};
 
@@ -51,7 +51,7 @@ fn is_flag(byte: u8) -> bool
 
 // A width, and the text after it.
 fn read_width(text: &[u8]) -> (Option<u64>, &[u8])
-    ensures width { result.0 ≡ option_map capped (width text.now) }
+    ensures width { result.0 ≡ option_map at_most_greatest (width text.now) }
     ensures after { result.1.now ≡ after_width text.now }
     ensures no_longer { length result.1.now ≤ length text.now }
 {
@@ -66,7 +66,7 @@ fn read_width(text: &[u8]) -> (Option<u64>, &[u8])
 
 // A limit of characters, and the text after it.
 fn read_most(text: &[u8]) -> (Option<u64>, &[u8])
-    ensures most { result.0 ≡ option_map capped (most text.now) }
+    ensures most { result.0 ≡ option_map at_most_greatest (most text.now) }
     ensures after { result.1.now ≡ after_most text.now }
     ensures no_longer { length result.1.now ≤ length text.now }
 {
@@ -82,7 +82,7 @@ fn read_most(text: &[u8]) -> (Option<u64>, &[u8])
 // The number that the digits at the front write, 0 without any, and the text after them.
 #[tactic(auto, using(crate::proofs::DigitRuns::front_is))]
 fn read_number(text: &[u8]) -> (u64, &[u8])
-    ensures number { result.0 ≡ capped (digit_sum 10 (decimal_digits text.now)) }
+    ensures number { result.0 ≡ at_most_greatest (digit_sum 10 (decimal_digits text.now)) }
     ensures after { result.1.now ≡ after_digits text.now }
     ensures no_longer { length result.1.now ≤ length text.now }
 {
@@ -101,7 +101,7 @@ fn digit_count(text: &[u8]) -> usize
 
 fn number_of(digits: &[u8]) -> u64
     requires { all_digits 10 digits.now ≡ true }
-    ensures { result ≡ capped (digit_sum 10 digits.now) }
+    ensures { result ≡ at_most_greatest (digit_sum 10 digits.now) }
 {
     digits_of(10, digits).unwrap_or(0)
 }

@@ -6,9 +6,9 @@ use Rattle.std.proofs.lemmas.List.{drop_all, length-map}
 use Rattle.std.proofs.lemmas.Option.{slice_get_read}
 use Rattle.std.specs.Slice.{IsItemAt}
 use Rattle.tt_code.specs.Needs.{Needs}
-use Rattle.tt_outcomes.specs.Endings.{failed}
+use Rattle.tt_outcomes.specs.Endings.{error_ending}
 use Rattle.tt_frames.specs.Programs.{PlainStep, Does, end_of, from_front, start_of}
-use Rattle.tt_frames.specs.Scripts.{command, commands, ended}
+use Rattle.tt_frames.specs.Scripts.{command, commands, command_end}
 use Rattle.tt_frames.specs.Units.{past_limit, spending}
 use Rattle.tt_frames.specs.declared.state.Counts.{Counts}
 
@@ -38,11 +38,11 @@ pub begun :
     → steps ≡ Does words start end ∷ tail
     → commands text steps last state
     ≡ spending
-    (command (ended text (start_of steps) (end_of steps) (commands text tail)) words)
-    (ended text (start_of steps) (end_of steps) (commands text tail) (failed past_limit)) state
+    (command (command_end text (start_of steps) (end_of steps) (commands text tail)) words)
+    (command_end text (start_of steps) (end_of steps) (commands text tail) (error_ending past_limit)) state
 begun text steps tail words start end last state is =
     subst (λ (rest : List PlainStep). commands text rest last state
     ≡ spending
-    (command (ended text (start_of rest) (end_of rest) (commands text tail)) words)
-    (ended text (start_of rest) (end_of rest) (commands text tail) (failed past_limit)) state)
+    (command (command_end text (start_of rest) (end_of rest) (commands text tail)) words)
+    (command_end text (start_of rest) (end_of rest) (commands text tail) (error_ending past_limit)) state)
     (sym is) refl

@@ -3,13 +3,13 @@ use Rattle.std.proofs.Common.{rules, ◌≡◌, ℕ, List, true, refl}
 use Rattle.tt_commands.specs.Calls.{call_of}
 use Rattle.tt_control.specs.declared.control.Control.{Control}
 use Rattle.tt_control.specs.declared.control.Control.TheVariants as control
-use Rattle.tt_frames.specs.Asking.{called}
-use Rattle.tt_frames.specs.Control.{controlled, is_other}
+use Rattle.tt_frames.specs.Asking.{call_then}
+use Rattle.tt_frames.specs.Control.{control_then, is_other}
 use Rattle.tt_frames.specs.declared.state.Counts.{Counts}
 
 pub asked :
     (words : List (List ℕ)) (command : Control) (state : Counts) → is_other command ≡ true
-    → controlled words command state ≡ called (call_of words state.me) words state
+    → control_then words command state ≡ call_then (call_of words state.me) words state
 asked words control.Other state other = refl
 asked words (control.Bad message) state other = search rules
 asked words control.Break state other = search rules

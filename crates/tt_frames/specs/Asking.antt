@@ -16,14 +16,14 @@ use Rattle.tt_command_tables.specs.declared.call.Goal.TheVariants as goal
 use Rattle.tt_command_tables.specs.declared.call.Here.TheVariants as here
 use Rattle.tt_command_tables.specs.declared.call.Then.{Then as After}
 use Rattle.tt_command_tables.specs.declared.call.Then.TheVariants as after
-use Rattle.tt_outcomes.specs.Endings.{code_of, failed, fine, number_of, of_outcome, text_of}
+use Rattle.tt_outcomes.specs.Endings.{code_of, error_ending, fine, number_of, of_outcome, text_of}
 use Rattle.tt_outcomes.specs.declared.ending.Ending.{Ending}
 use Rattle.tt_evaluation.specs.Plans.{Asks, Calls, Goes}
 use Rattle.tt_text.specs.Characters.{characters}
 use Rattle.tt_outcomes.specs.declared.got.Got.{Got}
 use Rattle.tt_outcomes.specs.declared.got.Got.TheVariants as got
 use Rattle.tt_outcomes.specs.declared.want.Want.TheVariants.{Ask, Watch}
-use Rattle.tt_frames.specs.Vocabulary.{OnEnding, Then, passed, variable_result}
+use Rattle.tt_frames.specs.Vocabulary.{OnEnding, Then, same_ending, variable_result}
 use Rattle.tt_frames.specs.declared.job.Awaits.{Awaits}
 use Rattle.tt_frames.specs.declared.job.Awaits.TheVariants as awaits
 use Rattle.tt_frames.specs.declared.job.Hold.TheVariants as hold
@@ -34,37 +34,37 @@ use Rattle.tt_frames.specs.declared.job.Until.TheVariants as until
 -- ---- replies ----
 
 -- the error of a script's target that has ended (thread(n), thread::send)
-abbrev pub died : List ℕ
-died = codes "target thread died"
+abbrev pub end_message : List ℕ
+end_message = codes "target thread died"
 
 -- the answer that a reply is: of tpool::cancel the jobs that are removed
 abbrev pub answer : Reply → Ending
-answer (reply.Refused message) = failed message
+answer (reply.Refused message) = error_ending message
 answer (reply.Value value) = fine value
 answer (reply.Line line) = fine line
 answer (reply.Answer outcome) = of_outcome outcome
 answer (reply.Lists removed left) = fine removed
-answer reply.Died = failed died
+answer reply.Died = error_ending end_message
 answer reply = fine []
 
 -- a reply that a variable gets, with the command's answer: of gets(n) how many characters, or -1 at the end; of
 -- tsv::get whether there is one; of tpool::cancel the jobs that are removed
-abbrev pub kept_in : (name : List ℕ) → Reply → Then
-kept_in name (reply.Line line) = variable_result (Some name) line (decimal (length (characters line)))
-kept_in name reply.LineEnd = variable_result (Some name) [] (codes "-1")
-kept_in name (reply.Found true value) = variable_result (Some name) value (codes "1")
-kept_in name (reply.Found false value) = passed (fine (codes "0"))
-kept_in name (reply.Lists removed left) = variable_result (Some name) left removed
-kept_in name reply = passed (answer reply)
+abbrev pub reply_in_variable : (name : List ℕ) → Reply → Then
+reply_in_variable name (reply.Line line) = variable_result (Some name) line (decimal (length (characters line)))
+reply_in_variable name reply.LineEnd = variable_result (Some name) [] (codes "-1")
+reply_in_variable name (reply.Found true value) = variable_result (Some name) value (codes "1")
+reply_in_variable name (reply.Found false value) = same_ending (fine (codes "0"))
+reply_in_variable name (reply.Lists removed left) = variable_result (Some name) left removed
+reply_in_variable name reply = same_ending (answer reply)
 
 -- the outcome of a post: a variable gets its value, and the answer is its code
 abbrev pub outcome_in : Option (List ℕ) → Reply → Then
 outcome_in (Some name) (reply.Answer outcome) = variable_result (Some name) outcome.value (number_of outcome.code)
-outcome_in variable reply = passed (answer reply)
+outcome_in variable reply = same_ending (answer reply)
 
 -- an answer, if it isn't refused
 abbrev pub unless_refused : (value : List ℕ) → Reply → Ending
-unless_refused value (reply.Refused message) = failed message
+unless_refused value (reply.Refused message) = error_ending message
 unless_refused value reply = fine value
 
 -- ---- requests ----
@@ -72,7 +72,7 @@ unless_refused value reply = fine value
 -- what follows a reply
 abbrev pub on_reply : (go : Reply → Then) → Got → Then
 on_reply go (got.Reply reply) = go reply
-on_reply go got = passed (fine [])
+on_reply go got = same_ending (fine [])
 
 -- a request, and what follows its reply
 abbrev pub asking : Request → (go : Reply → Then) → Then
@@ -80,17 +80,17 @@ asking request go state = Asks (Ask request) state (on_reply go)
 
 -- the reply is the answer
 abbrev pub answering : Reply → Then
-answering reply = passed (answer reply)
+answering reply = same_ending (answer reply)
 
 -- what follows the first reply to a command: its answer, or a wait
 abbrev pub following : Awaits → Reply → Then
 following awaits.Value reply = answering reply
-following (awaits.Store name) reply = kept_in name reply
+following (awaits.Store name) reply = reply_in_variable name reply
 following (awaits.Outcome variable) reply = outcome_in variable reply
-following (awaits.Answers value) reply = passed (unless_refused value reply)
+following (awaits.Answers value) reply = same_ending (unless_refused value reply)
 following (awaits.Result variable) (reply.Posted n) = asking (ask.Await n) (outcome_in variable)
 following (awaits.End thread) (reply.Value count) =
-    asking (ask.AwaitEnd thread) (λ reply. passed (unless_refused count reply))
+    asking (ask.AwaitEnd thread) (λ reply. same_ending (unless_refused count reply))
 following awaits.NamedEnd (reply.Waits thread) = asking (ask.AwaitEnd thread) answering
 following (awaits.Move name) reply.Go = asking (ask.Chan (chan.AwaitMove name)) answering
 following (awaits.Retake condition mutex) reply.Go = asking (ask.Lock (lock.CondTake condition mutex)) answering
@@ -142,9 +142,9 @@ serving request goal.Stopped state = Goes (job.Serve until.Stopped) state
 serving request (goal.Pool variable) state = waiting request variable state
 
 -- a command that asks
-abbrev pub requested : Request → After → Then
-requested request (after.Serve goal) = serving request goal
-requested request after = asking request (following (awaits_of request after))
+abbrev pub request_then : Request → After → Then
+request_then request (after.Serve goal) = serving request goal
+request_then request after = asking request (following (awaits_of request after))
 
 -- ---- commands ----
 
@@ -154,18 +154,18 @@ invalid_name name = codes "invalid command name \"" ++ (name ++ codes "\"")
 
 abbrev pub unknown : (words : List (List ℕ)) → Ending
 unknown [] = fine []
-unknown (name ∷ words) = failed (invalid_name name)
+unknown (name ∷ words) = error_ending (invalid_name name)
 
 -- a send to oneself: without a variable its script's ending is the command's (thread(n), thread::send)
-abbrev pub sent : Option (List ℕ) → OnEnding
-sent None ending = passed ending
-sent (Some name) ending = variable_result (Some name) (text_of ending) (number_of (code_of ending))
+abbrev pub own_send : Option (List ℕ) → OnEnding
+own_send None ending = same_ending ending
+own_send (Some name) ending = variable_result (Some name) (text_of ending) (number_of (code_of ending))
 
 -- what the words of a command do by the tables
-abbrev pub called : Call → (words : List (List ℕ)) → Then
-called call.Other words = passed (unknown words)
-called (call.Bad message) words = passed (failed message)
-called (call.Here (here.Local value)) words = passed (fine value)
-called (call.Here (here.Direct script variable)) words = λ state.
-    Calls None (job.Global script) state (sent variable)
-called (call.Ask request after) words = requested request after
+abbrev pub call_then : Call → (words : List (List ℕ)) → Then
+call_then call.Other words = same_ending (unknown words)
+call_then (call.Bad message) words = same_ending (error_ending message)
+call_then (call.Here (here.Local value)) words = same_ending (fine value)
+call_then (call.Here (here.Direct script variable)) words = λ state.
+    Calls None (job.Global script) state (own_send variable)
+call_then (call.Ask request after) words = request_then request after

@@ -4,13 +4,13 @@ use Rattle.std.specs.Arc.{arc_value}
 use Rattle.tt_code.specs.Code.{needs_of}
 use Rattle.tt_code.specs.Expressions.{value_needs}
 use Rattle.tt_code.specs.Needs.{Needs, Refused, bit}
-use Rattle.tt_outcomes.specs.Endings.{failed, fine}
+use Rattle.tt_outcomes.specs.Endings.{error_ending, fine}
 use Rattle.tt_outcomes.specs.declared.ending.Ending.{Ending}
 use Rattle.tt_exprs.specs.Apply.{truth_of}
 use Rattle.tt_exprs.specs.Parsing.{parse}
 use Rattle.tt_exprs.specs.Trees.{PlainParsed, tree, bad}
 use Rattle.tt_frames.specs.Scripts.{OnValues, needing}
-use Rattle.tt_frames.specs.Vocabulary.{Then, passed}
+use Rattle.tt_frames.specs.Vocabulary.{Then, same_ending}
 use Rattle.tt_frames.specs.declared.job.Purpose.{Purpose}
 use Rattle.tt_frames.specs.declared.job.Purpose.TheVariants.{Value, Condition}
 use Rattle.tt_frames.specs.declared.kept.Made.{Made}
@@ -36,7 +36,7 @@ first_of (value ∷ values) = value
 -- a value as a condition: 1 or 0 (if(n), while(n))
 abbrev pub truth_ending : Result Bool (List ℕ) → Ending
 truth_ending (Ok truth) = fine (bit truth)
-truth_ending (Err message) = failed message
+truth_ending (Err message) = error_ending message
 
 -- what an expression comes to, by what it is evaluated for
 abbrev pub ending_for : Purpose → (value : List ℕ) → Ending
@@ -44,11 +44,11 @@ ending_for Value value = fine value
 ending_for Condition value = truth_ending (truth_of value)
 
 abbrev pub came_to : Purpose → OnValues
-came_to purpose values = passed (ending_for purpose (first_of values))
+came_to purpose values = same_ending (ending_for purpose (first_of values))
 
 -- what is needed, up to a value or another ending
-abbrev pub computed : Purpose → Needs → Then
-computed purpose needs = needing (came_to purpose) passed needs
+abbrev pub needs_then : Purpose → Needs → Then
+needs_then purpose needs = needing (came_to purpose) same_ending needs
 
 abbrev pub expression : Purpose → (text : List ℕ) → Then
-expression purpose text = computed purpose (text_needs text)
+expression purpose text = needs_then purpose (text_needs text)

@@ -1,11 +1,11 @@
 -- Loops (while(n), for(n), foreach(n), break(n), continue(n)).
 use Rattle.std.specs.Prelude.{ℕ, Bool, false, if◌then◌else◌, List, [], ◌∷◌, None}
-use Rattle.tt_outcomes.specs.Endings.{failed, fine}
+use Rattle.tt_outcomes.specs.Endings.{error_ending, fine}
 use Rattle.tt_outcomes.specs.declared.ending.Ending.TheVariants.{Fine, Broke, Continued}
 use Rattle.tt_evaluation.specs.Plans.{Asks, Calls, Goes}
 use Rattle.tt_frames.specs.Rests.{is_empty}
 use Rattle.tt_frames.specs.Units.{past_limit, spending}
-use Rattle.tt_frames.specs.Vocabulary.{OnEnding, Then, ending_of, on_fine, on_truth, passed, setting}
+use Rattle.tt_frames.specs.Vocabulary.{OnEnding, Then, ending_of, on_fine, on_truth, same_ending, setting}
 use Rattle.tt_frames.specs.declared.job.Job.TheVariants as job
 use Rattle.tt_frames.specs.declared.job.Purpose.TheVariants.{Condition}
 use Rattle.tt_frames.specs.declared.job.Loop.{Loop}
@@ -13,11 +13,11 @@ use Rattle.tt_frames.specs.declared.job.Loop.TheVariants.{While, For, Foreach}
 
 -- the result of a loop
 abbrev pub done : Then
-done = passed (fine [])
+done = same_ending (fine [])
 
 -- a unit, and then a turn
 abbrev pub next_turn : Loop → Then
-next_turn loop = spending (Goes (job.Turn loop)) (passed (failed past_limit))
+next_turn loop = spending (Goes (job.Turn loop)) (same_ending (error_ending past_limit))
 
 -- no turn is left
 abbrev pub is_over : Loop → Bool
@@ -34,13 +34,13 @@ abbrev pub after_body : (again : Then) → OnEnding
 after_body again (Fine value) state = again state
 after_body again (Continued value line) state = again state
 after_body again (Broke value line) state = done state
-after_body again ending state = passed ending state
+after_body again ending state = same_ending ending state
 
 -- how the script after a body ended: a break ends the loop
 abbrev pub after_next : (again : Then) → OnEnding
 after_next again (Fine value) state = again state
 after_next again (Broke value line) state = done state
-after_next again ending state = passed ending state
+after_next again ending state = same_ending ending state
 
 -- what follows a body: in for(n) a script, and then the next turn
 abbrev pub following : Loop → Then
@@ -64,7 +64,7 @@ assigning names [] values body state = bodily (Foreach names values body) state
 assigning names (name ∷ left) [] body state = bodily (Foreach names [] body) state
 assigning names (name ∷ left) (value ∷ values) body state =
     Asks (setting name value) state
-    (λ got. on_fine (λ old. assigning names left values body) passed (ending_of got))
+    (λ got. on_fine (λ old. assigning names left values body) same_ending (ending_of got))
 
 -- a turn
 abbrev pub turning : Loop → Then

@@ -4,7 +4,7 @@ use Rattle.std.specs.Arc.{arc_value}
 use Rattle.tt_code.specs.Code.{needs_of}
 use Rattle.tt_code.specs.Needs.{Needs}
 use Rattle.tt_code.specs.Substitution.{words_needs}
-use Rattle.tt_script.specs.Reading.{first, moved}
+use Rattle.tt_script.specs.Reading.{first, first_after}
 use Rattle.tt_script.specs.Words.{PlainCommand, PlainFirst, nothing, bad, command}
 use Rattle.tt_script.specs.declared.command.ParseFault.{ParseFault}
 use Rattle.tt_frames.specs.declared.program.Step.{Step}
@@ -32,18 +32,18 @@ with_first steps (bad fault start) = record { steps = steps ++ Wrong fault start
 with_first steps (command c) =
     record { steps = steps ++ does c ∷ []; next = Some c.next }
 
-abbrev pub read_from : (text : List ℕ) → List PlainStep → Option ℕ → Read
-read_from text steps None = record { steps = steps; next = None }
-read_from text steps (Some from) = with_first steps (moved from (first (drop from text)))
+abbrev pub program_from : (text : List ℕ) → List PlainStep → Option ℕ → Read
+program_from text steps None = record { steps = steps; next = None }
+program_from text steps (Some from) = with_first steps (first_after from (first (drop from text)))
 
 -- the first so many commands of a script
-abbrev pub read : (text : List ℕ) → (count : ℕ) → Read
-read text zero = record { steps = []; next = Some 0 }
-read text (suc count) = read_from text (read text count).steps (read text count).next
+abbrev pub program_of : (text : List ℕ) → (count : ℕ) → Read
+program_of text zero = record { steps = []; next = Some 0 }
+program_of text (suc count) = program_from text (program_of text count).steps (program_of text count).next
 
 -- the commands of a script, which are no more than its bytes
 unfoldable pub steps_of : (text : List ℕ) → List PlainStep
-steps_of text = (read text (length text + 1)).steps
+steps_of text = (program_of text (length text + 1)).steps
 
 -- ---- the code of a script ----
 

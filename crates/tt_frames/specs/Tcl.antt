@@ -6,9 +6,9 @@ use Rattle.tt_outcomes.specs.declared.want.Want.{Want}
 use Rattle.tt_frames.specs.Control.{own}
 use Rattle.tt_frames.specs.Events.{happens, round, taking}
 use Rattle.tt_frames.specs.Expressions.{expression}
-use Rattle.tt_frames.specs.Held.{held}
+use Rattle.tt_frames.specs.Held.{script_in_hold}
 use Rattle.tt_frames.specs.Loops.{looping, turning}
-use Rattle.tt_frames.specs.Nesting.{global, nested}
+use Rattle.tt_frames.specs.Nesting.{global, body_then}
 use Rattle.tt_frames.specs.Scripts.{script}
 use Rattle.tt_frames.specs.Starts.{starting}
 use Rattle.tt_frames.specs.Workers.{working}
@@ -21,12 +21,12 @@ plan (job.Start start) = starting start
 plan (job.Script text) = script text
 plan (job.Expression purpose text) = expression purpose text
 plan (job.Own words) = own words
-plan (job.Nested body text) = nested body text
+plan (job.Nested body text) = body_then body text
 plan (job.Global text) = global text
 plan (job.Loop loop) = looping loop
 plan (job.Turn loop) = turning loop
 plan (job.Serve goal) = round goal
 plan (job.Take goal) = taking goal
 plan (job.Event event) = happens event
-plan (job.Held hold text) = held hold text
+plan (job.Held hold text) = script_in_hold hold text
 plan (job.Work work) = working work

@@ -21,8 +21,8 @@ unit_of state =
     if (state.units + 1) % STRETCH == 0 then Pauses else Spent
 
 -- the state after it; past the limit the count stays
-abbrev pub spent : Counts → Counts
-spent state =
+abbrev pub counts_after_unit : Counts → Counts
+counts_after_unit state =
     if nat_le state.limit state.units then state else record state { units = state.units + 1 }
 
 -- the error past the limit
@@ -36,4 +36,4 @@ by_unit Pauses state go past = Asks (Ask Pause) state (λ got st. go st)
 by_unit Spent state go past = go state
 
 abbrev pub spending : (go past : Then) → Then
-spending go past state = by_unit (unit_of state) (spent state) go past
+spending go past state = by_unit (unit_of state) (counts_after_unit state) go past

@@ -38,12 +38,12 @@ on_fine go quit (Fine value) state = go value state
 on_fine go quit ending state = quit ending state
 
 -- an ending as it is
-abbrev pub passed : OnEnding
-passed ending state = Ends ending state
+abbrev pub same_ending : OnEnding
+same_ending ending state = Ends ending state
 
 -- on with one of two, by the result of a condition
 abbrev pub on_truth : (holds fails : Then) → OnEnding
-on_truth holds fails = on_fine (λ value st. (if bytes_eq value (codes "1") then holds else fails) st) passed
+on_truth holds fails = on_fine (λ value st. (if bytes_eq value (codes "1") then holds else fails) st) same_ending
 
 -- a variable or an element is set, by a name as commands are given it (set(n))
 abbrev pub set_name : Option (List ℕ × List ℕ) → (name value : List ℕ) → Want
@@ -54,14 +54,14 @@ abbrev pub setting : (name value : List ℕ) → Want
 setting name value = set_name (element_of name) name value
 
 -- a variable is set, and then that is the result
-abbrev pub stored_in : (name value result : List ℕ) → Then
-stored_in name value result state =
-    Asks (setting name value) state (λ got. on_fine (λ old. passed (Fine result)) passed (ending_of got))
+abbrev pub variable_then : (name value result : List ℕ) → Then
+variable_then name value result state =
+    Asks (setting name value) state (λ got. on_fine (λ old. same_ending (Fine result)) same_ending (ending_of got))
 
 -- likewise, if there is a variable
 abbrev pub variable_result : Option (List ℕ) → (value result : List ℕ) → Then
-variable_result None value result = passed (Fine result)
-variable_result (Some name) value result = stored_in name value result
+variable_result None value result = same_ending (Fine result)
+variable_result (Some name) value result = variable_then name value result
 
 -- errorInfo gets a trace; if it can't be written nothing changes (tclvars(n))
 abbrev pub with_error_info : (trace : List ℕ) → (go : Then) → Then

@@ -13,6 +13,6 @@ abbrev pub look_of : JobsWait → Request
 look_of wait = ask.Pool (Look wait.pool wait.jobs)
 
 -- the jobs that are done are the answer, and the variable gets those that are pending
-abbrev pub known : JobsWait → Reply → Then
-known wait (Lists done pending) = variable_result wait.variable pending done
-known wait reply = answering reply
+abbrev pub jobs_answer : JobsWait → Reply → Then
+jobs_answer wait (Lists done pending) = variable_result wait.variable pending done
+jobs_answer wait reply = answering reply

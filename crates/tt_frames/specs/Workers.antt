@@ -11,7 +11,7 @@ use Rattle.tt_evaluation.specs.Plans.{Asks, Calls, Goes}
 use Rattle.tt_outcomes.specs.declared.got.Got.{Got}
 use Rattle.tt_outcomes.specs.declared.got.Got.TheVariants as got
 use Rattle.tt_outcomes.specs.declared.want.Want.TheVariants.{Ask}
-use Rattle.tt_frames.specs.Vocabulary.{OnEnding, Then, passed, with_error_info}
+use Rattle.tt_frames.specs.Vocabulary.{OnEnding, Then, same_ending, with_error_info}
 use Rattle.tt_frames.specs.declared.job.BegunJob.{BegunJob}
 use Rattle.tt_frames.specs.declared.job.Job.TheVariants as job
 use Rattle.tt_frames.specs.declared.job.Work.{Work}
@@ -25,12 +25,12 @@ reporting trace next state = Asks (Ask (ask.Report trace false)) state (λ got. 
 -- ---- the scripts of the pool ----
 
 -- how the script for new workers, or the one for those that end, came out: an error is recorded and reported
-abbrev pub mentioned : Work → OnEnding
-mentioned next (Failed fault) = with_error_info fault.trace.text (reporting fault.trace.text next)
-mentioned next ending = Goes (job.Work next)
+abbrev pub work_after_report : Work → OnEnding
+work_after_report next (Failed fault) = with_error_info fault.trace.text (reporting fault.trace.text next)
+work_after_report next ending = Goes (job.Work next)
 
 abbrev pub aside : Work → OnEnding
-aside next ending = mentioned next (of_script ending)
+aside next ending = work_after_report next (of_script ending)
 
 -- a worker begins with the script for new ones
 abbrev pub begins : (init : List ℕ) → Worker → Then
@@ -61,21 +61,21 @@ handing_in begun ending state =
     (λ got. after_job begun.worker (reported_trace begun.detached ending))
 
 -- how the script of a job came out: an error is recorded
-abbrev pub came_out : BegunJob → OnEnding
-came_out begun (Failed fault) = with_error_info fault.trace.text (handing_in begun (Failed fault))
-came_out begun ending = handing_in begun ending
+abbrev pub end_of_job : BegunJob → OnEnding
+end_of_job begun (Failed fault) = with_error_info fault.trace.text (handing_in begun (Failed fault))
+end_of_job begun ending = handing_in begun ending
 
 abbrev pub job_ended : BegunJob → OnEnding
-job_ended begun ending = came_out begun (of_script ending)
+job_ended begun ending = end_of_job begun (of_script ending)
 
 -- ---- what a worker does next ----
 
 -- it has a job, or there is none: then comes the script for workers that end
-abbrev pub given : Worker → Got → Then
-given worker (got.Reply (reply.Job number script detached)) state =
+abbrev pub job_then : Worker → Got → Then
+job_then worker (got.Reply (reply.Job number script detached)) state =
     Calls None (job.Script script) state (job_ended (begun_job worker number detached))
-given worker other state = Calls None (job.Script worker.exit) state (aside Over)
+job_then worker other state = Calls None (job.Script worker.exit) state (aside Over)
 
 abbrev pub working : Work → Then
-working (Takes worker) state = Asks (Ask (ask.Pool (JobTake worker.pool))) state (given worker)
-working Over state = passed (fine []) state
+working (Takes worker) state = Asks (Ask (ask.Pool (JobTake worker.pool))) state (job_then worker)
+working Over state = same_ending (fine []) state

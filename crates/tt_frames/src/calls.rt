@@ -26,7 +26,7 @@ use tt_value::{Value, Values};
 /// A command begins that asks, or whose name is unknown.
 pub(crate) fn begin_call(alloc: Global, words: &Values, me: u32) -> Result<Next, NoMemory>
     ensures { IfOk result (λ move. (state : Counts)
-        → table.called (call_of words.now me) words.now state ≡ plan_of after on_got move state) }
+        → table.call_then (call_of words.now me) words.now state ≡ plan_of after on_got move state) }
 {
     let words = words.to_texts(alloc)?;
     match read_call(alloc, words.as_slice(), me)? {
@@ -48,7 +48,7 @@ pub(crate) fn begin_call(alloc: Global, words: &Values, me: u32) -> Result<Next,
 // A command begins that asks.
 fn begin_request(alloc: Global, request: Boxed<Request>, then: Then) -> Result<Next, NoMemory>
     ensures { IfOk result (λ move. (state : Counts)
-        → table.requested request then state ≡ plan_of after on_got move state) }
+        → table.request_then request then state ≡ plan_of after on_got move state) }
 {
     match then {
         Then::Serve(goal) => {
@@ -307,7 +307,7 @@ pub(crate) fn answer(alloc: Global, reply: Reply) -> Result<Ending, NoMemory>
 // A variable gets what is in a reply.
 fn keep(alloc: Global, name: Text, reply: Reply) -> Result<Next, NoMemory>
     ensures { IfOk result (λ move. (state : Counts)
-        → table.kept_in name reply state ≡ plan_of after on_got move state) }
+        → table.reply_in_variable name reply state ≡ plan_of after on_got move state) }
 {
     let (value, answer) = match reply {
         Reply::Line(line) => {
@@ -376,7 +376,7 @@ pub(crate) fn after_sent(
     ending: Ending,
 ) -> Result<Next, NoMemory>
     ensures { IfOk result (λ move. (state : Counts)
-        → table.sent variable ending state ≡ plan_of after on_got move state) }
+        → table.own_send variable ending state ≡ plan_of after on_got move state) }
 {
     match variable {
         None => Ok(Next::Done(ending)),

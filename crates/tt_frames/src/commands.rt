@@ -1,7 +1,7 @@
 //! Scripts and commands (Tcl(n)).
 ghost use Rattle.tt_frames.specs.Units.{past_limit, spending};
 ghost use Rattle.tt_outcomes.specs.Places.{in_command};
-ghost use Rattle.tt_outcomes.specs.Endings.{failed};
+ghost use Rattle.tt_outcomes.specs.Endings.{error_ending};
 ghost use Rattle.tt_frames.specs.declared.state.Counts.{Counts};
 ghost use Rattle.tt_evaluation.specs.declared.language.Move.TheVariants as moves;
 ghost use Rattle.tt_frames.specs.declared.job.Frame.TheVariants as frames;
@@ -11,7 +11,7 @@ ghost use Rattle.std.specs.Prelude.{◌≡◌, IfOk, drop};
 ghost use Rattle.std.specs.Arc.{arc_value};
 ghost use Rattle.tt_frames.specs.Frames.{after, command_ended, command_given, command_needs, on_got, steps_from};
 ghost use Rattle.tt_frames.specs.Programs.{end_of, start_of, steps_of};
-ghost use Rattle.tt_frames.specs.Scripts.{commands, ran, script};
+ghost use Rattle.tt_frames.specs.Scripts.{commands, command_then, script};
 ghost use Rattle.tt_evaluation.specs.Frames.{plan_of};
 
 use crate::job::{Asking, CommandFrame, Frame, Job};
@@ -69,7 +69,7 @@ fn next_command(
 // A unit is spent for the command of the frame, and it begins.
 fn begin_command(alloc: Global, frame: CommandFrame, state: &mut State) -> Result<Next, NoMemory>
     ensures { IfOk result (λ move.
-        spending (command_needs frame) (command_ended frame (failed past_limit)) state.old
+        spending (command_needs frame) (command_ended frame (error_ending past_limit)) state.old
         ≡ plan_of after on_got move state.new) }
 {
     match state.spend() {
@@ -191,7 +191,7 @@ pub(crate) fn run_command(
     state: &mut State,
 ) -> Result<Next, NoMemory>
     ensures { IfOk result (λ move.
-        ran (command_ended frame) got state.old ≡ plan_of after on_got move state.new) }
+        command_then (command_ended frame) got state.old ≡ plan_of after on_got move state.new) }
 {
     match got {
         Got::Value(outcome) => {

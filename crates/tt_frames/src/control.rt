@@ -1,6 +1,6 @@
 //! Commands that the evaluation does itself.
 ghost use Rattle.std.specs.Prelude.{IsFalse, ◌≡◌, IfOk, List, ℕ, codes};
-ghost use Rattle.tt_frames.specs.Control.{caught, clauses, controlled, is_other, own, raised};
+ghost use Rattle.tt_frames.specs.Control.{caught, clauses, control_then, is_other, own, new_error};
 ghost use Rattle.tt_frames.specs.Frames.{after, on_got};
 ghost use Rattle.tt_frames.specs.Vocabulary.{on_truth, variable_result};
 ghost use Rattle.tt_frames.specs.declared.job.Job.TheVariants as jobs;
@@ -46,7 +46,7 @@ fn is_other(control: &Control) -> bool
 // A command of the table begins.
 fn begin_control(alloc: Global, control: Control) -> Result<Next, NoMemory>
     ensures { IfOk result (λ move. (words : List (List ℕ)) (state : Counts)
-        → IsFalse (is_other control) → controlled words control state ≡ plan_of after on_got move state) }
+        → IsFalse (is_other control) → control_then words control state ≡ plan_of after on_got move state) }
 {
     match control {
         Control::Other => Err(NoMemory),
@@ -91,7 +91,7 @@ fn begin_control(alloc: Global, control: Control) -> Result<Next, NoMemory>
 
 // The error of error(n).
 fn raise(alloc: Global, message: Text, info: Option<Text>) -> Result<Ending, NoMemory>
-    ensures { IfOk result (λ ending. ending ≡ raised message info) }
+    ensures { IfOk result (λ ending. ending ≡ new_error message info) }
 {
     match info {
         None => {

@@ -54,7 +54,7 @@ pub(crate) fn begin_round(alloc: Global, goal: Until, state: &mut State) -> Resu
 
 /// The variable that is watched was written, or not.
 pub(crate) fn after_seen(alloc: Global, ending: Ending, state: &mut State) -> Result<Next, NoMemory>
-    ensures { IfOk result (λ move. events.seen ending state.old ≡ plan_of after on_got move state.new) }
+    ensures { IfOk result (λ move. events.after_look ending state.old ≡ plan_of after on_got move state.new) }
 {
     if ending.into_value().into_text(alloc)?.as_bytes() == b"1".as_slice() {
         Ok(end(Until::Written, Ending::nothing(alloc)))
@@ -66,7 +66,7 @@ pub(crate) fn after_seen(alloc: Global, ending: Ending, state: &mut State) -> Re
 
 // The goal isn't met.
 fn go_on(alloc: Global, goal: Until, state: &mut State) -> Result<Next, NoMemory>
-    ensures { IfOk result (λ move. events.unmet goal state.old ≡ plan_of after on_got move state.new) }
+    ensures { IfOk result (λ move. events.goal_ahead goal state.old ≡ plan_of after on_got move state.new) }
 {
     if state.counts.stopped {
         let ending = stopping(alloc, &goal)?;
@@ -141,7 +141,7 @@ fn event_request(alloc: Global, goal: &Until) -> Result<Request, NoMemory>
 /// An event was taken, or there was none.
 pub(crate) fn after_taken(alloc: Global, goal: Until, got: Got) -> Result<Next, NoMemory>
     ensures { IfOk result (λ move. (state : Counts)
-        → events.taken goal got state ≡ plan_of after on_got move state) }
+        → events.event_then goal got state ≡ plan_of after on_got move state) }
 {
     match got {
         Got::Reply(Reply::Event(event)) => {

@@ -2,7 +2,7 @@
 ghost use Rattle.tt_exprs.specs.Apply.{truth_of};
 ghost use Rattle.std.specs.Prelude.{◌≡◌, IfOk};
 ghost use Rattle.tt_code.specs.Running.{needs};
-ghost use Rattle.tt_frames.specs.Expressions.{computed, ending_for, expression, first_of, made_needs, truth_ending};
+ghost use Rattle.tt_frames.specs.Expressions.{needs_then, ending_for, expression, first_of, made_needs, truth_ending};
 ghost use Rattle.tt_frames.specs.Frames.{after, expression_given, on_got};
 ghost use Rattle.tt_frames.specs.declared.job.Asking.TheVariants as askings;
 ghost use Rattle.tt_frames.specs.declared.job.Frame.TheVariants as frames;
@@ -39,7 +39,7 @@ pub(crate) fn begin_expression(
 
 fn begin_made(alloc: Global, purpose: Purpose, made: Made) -> Result<Next, NoMemory>
     ensures { IfOk result (λ move. (state : Counts)
-        → computed purpose (made_needs made) state ≡ plan_of after on_got move state) }
+        → needs_then purpose (made_needs made) state ≡ plan_of after on_got move state) }
 {
     match made {
         Made::Bad(message) => Ok(Next::Done(Ending::failed(alloc, message)?)),
@@ -53,7 +53,7 @@ fn begin_made(alloc: Global, purpose: Purpose, made: Made) -> Result<Next, NoMem
 // The expression goes on to what it needs next.
 fn advance(alloc: Global, purpose: Purpose, running: Running) -> Result<Next, NoMemory>
     ensures { IfOk result (λ move. (state : Counts)
-        → computed purpose (needs running) state ≡ plan_of after on_got move state) }
+        → needs_then purpose (needs running) state ≡ plan_of after on_got move state) }
 {
     let mut running = running;
     match running.advance()? {

@@ -1,7 +1,7 @@
 //! Scripts that are evaluated while an array or a mutex is held.
 ghost use Rattle.std.specs.Prelude.{◌≡◌, IfOk};
 ghost use Rattle.tt_frames.specs.Frames.{after, on_got};
-ghost use Rattle.tt_frames.specs.Held.{held, let_go, letting_go, release_of};
+ghost use Rattle.tt_frames.specs.Held.{script_in_hold, end_of_hold, letting_go, release_of};
 ghost use Rattle.tt_frames.specs.declared.state.Counts.{Counts};
 ghost use Rattle.tt_evaluation.specs.Frames.{plan_of};
 
@@ -21,7 +21,7 @@ pub(crate) fn begin_held(
     text: Text,
     state: &mut State,
 ) -> Result<Next, NoMemory>
-    ensures { IfOk result (λ move. held hold text state.old ≡ plan_of after on_got move state.new) }
+    ensures { IfOk result (λ move. script_in_hold hold text state.old ≡ plan_of after on_got move state.new) }
 {
     if state.counts.nested < DEEPEST {
         state.counts.nested += 1;
@@ -40,7 +40,7 @@ pub(crate) fn after_held(
     ending: Ending,
     state: &mut State,
 ) -> Result<Next, NoMemory>
-    ensures { IfOk result (λ move. let_go hold ending state.old ≡ plan_of after on_got move state.new) }
+    ensures { IfOk result (λ move. end_of_hold hold ending state.old ≡ plan_of after on_got move state.new) }
 {
     state.counts.nested = state.counts.nested.saturating_sub(1);
     let next = end_hold(alloc, hold, ending)?;

@@ -1,7 +1,7 @@
 ghost use Rattle.std.specs.Prelude.{◌≡◌, IfOk};
 ghost use Rattle.tt_outcomes.specs.declared.ending.Ending.TheVariants as endings;
 ghost use Rattle.tt_frames.specs.Frames.{after, on_got};
-ghost use Rattle.tt_frames.specs.Vocabulary.{ending_of, on_fine, passed};
+ghost use Rattle.tt_frames.specs.Vocabulary.{ending_of, on_fine, same_ending};
 ghost use Rattle.tt_frames.specs.declared.state.Counts.{Counts};
 ghost use Rattle.tt_evaluation.specs.Frames.{plan_of};
 
@@ -17,7 +17,7 @@ use crate::loops::{
 };
 use crate::nesting::{begin_global, begin_nested, leave};
 use crate::serving::{
-    after_handed, after_left, after_script, after_set, after_told, begin_event, set_global,
+    after_error, after_handed, after_left, after_script, after_set, begin_event, set_global,
 };
 use crate::starts::{begin_start, finish, report_error};
 use crate::state::State;
@@ -122,7 +122,7 @@ impl Language for Tcl {
                 answer,
                 plain,
                 failure,
-            } => { after_told(alloc, n, answer, plain, failure)? }
+            } => { after_error(alloc, n, answer, plain, failure)? }
             Asking::Handed => after_handed(alloc, &got, state),
             Asking::Works(asking) => take_got(alloc, asking, &got)?,
         };
@@ -178,7 +178,8 @@ fn continued(
 // A variable was set.
 fn answered(answer: Value, ending: Ending) -> Next
     ensures { (state : Counts)
-        → on_fine (λ old. passed (endings.Fine answer)) passed ending state ≡ plan_of after on_got result state }
+        → on_fine (λ old. same_ending (endings.Fine answer)) same_ending ending state
+        ≡ plan_of after on_got result state }
 {
     match ending {
         Ending::Fine(_) => Next::Done(Ending::Fine(answer)),

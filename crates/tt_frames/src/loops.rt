@@ -2,7 +2,7 @@
 ghost use Rattle.std.specs.Prelude.{◌≡◌, IfOk};
 ghost use Rattle.tt_frames.specs.Frames.{after, assigns, on_got};
 ghost use Rattle.tt_frames.specs.Loops as loops;
-ghost use Rattle.tt_frames.specs.Vocabulary.{on_fine, on_truth, passed};
+ghost use Rattle.tt_frames.specs.Vocabulary.{on_fine, on_truth, same_ending};
 ghost use Rattle.tt_frames.specs.declared.job.Job.TheVariants as jobs;
 ghost use Rattle.tt_frames.specs.declared.state.Counts.{Counts};
 ghost use Rattle.tt_evaluation.specs.Frames.{plan_of};
@@ -116,7 +116,7 @@ pub(crate) fn go_on_assigning(
     ending: Ending,
 ) -> Result<Next, NoMemory>
     ensures { IfOk result (λ move. (state : Counts)
-        → on_fine (λ old. assigns left turn) passed ending state ≡ plan_of after on_got move state) }
+        → on_fine (λ old. assigns left turn) same_ending ending state ≡ plan_of after on_got move state) }
 {
     match ending {
         Ending::Fine(_) => match turn {
@@ -211,7 +211,7 @@ pub(crate) fn after_next(alloc: Global, turn: Loop, ending: Ending) -> Next
 /// The script before a loop ended so (for(n)).
 pub(crate) fn after_start(turn: Loop, ending: Ending) -> Next
     ensures { (state : Counts)
-        → on_fine (λ value. Goes (jobs.Loop turn)) passed ending state ≡ plan_of after on_got result state }
+        → on_fine (λ value. Goes (jobs.Loop turn)) same_ending ending state ≡ plan_of after on_got result state }
 {
     match ending {
         Ending::Fine(_) => Next::Goto(Job::Loop(turn)),

@@ -2,8 +2,8 @@
 ghost use Rattle.tt_frames.specs.declared.state.Counts.{Counts};
 ghost use Rattle.std.specs.Prelude.{◌≡◌, IfOk};
 ghost use Rattle.tt_frames.specs.Frames.{after, on_got};
-ghost use Rattle.tt_outcomes.specs.Endings.{failed};
-ghost use Rattle.tt_frames.specs.Nesting.{global, left, nested, of_body, too_deep};
+ghost use Rattle.tt_outcomes.specs.Endings.{error_ending};
+ghost use Rattle.tt_frames.specs.Nesting.{global, left, body_then, of_body, too_deep};
 ghost use Rattle.tt_evaluation.specs.Frames.{plan_of};
 
 use crate::job::{Asking, Frame, Job};
@@ -20,7 +20,7 @@ pub(crate) fn begin_nested(
     text: Text,
     state: &mut State,
 ) -> Result<Next, NoMemory>
-    ensures { IfOk result (λ move. nested body text state.old ≡ plan_of after on_got move state.new) }
+    ensures { IfOk result (λ move. body_then body text state.old ≡ plan_of after on_got move state.new) }
 {
     if state.counts.nested < DEEPEST {
         state.counts.nested += 1;
@@ -33,7 +33,7 @@ pub(crate) fn begin_nested(
 
 /// The error past the limit.
 pub(crate) fn too_deep(alloc: Global) -> Result<Ending, NoMemory>
-    ensures { IfOk result (λ ending. ending ≡ failed too_deep) }
+    ensures { IfOk result (λ ending. ending ≡ error_ending too_deep) }
 {
     let ending = Ending::failed_with(alloc, b"too many nested evaluations (infinite loop?)")?;
     Ok(ending)

@@ -1,10 +1,10 @@
 ghost use Rattle.std.specs.Prelude.{◌≡◌, ◌+◌, IfOk, OnOk, drop, length};
 ghost use Rattle.std.specs.Option.{option_map};
-ghost use Rattle.tt_frames.specs.Programs.{does, end_of, from_front, plain_step, plain_steps, read_from, start_of};
+ghost use Rattle.tt_frames.specs.Programs.{does, end_of, from_front, plain_step, plain_steps, program_from, start_of};
 ghost use Rattle.tt_frames.specs.Programs.{steps_of};
 ghost use Rattle.tt_script.specs.Messages.{parse_message};
 ghost use Rattle.tt_script.specs.Plain.{plain_command};
-ghost use Rattle.tt_outcomes.specs.Endings.{failed};
+ghost use Rattle.tt_outcomes.specs.Endings.{error_ending};
 ghost use Rattle.tt_outcomes.specs.Places.{in_command};
 
 use std::alloc::Global;
@@ -94,7 +94,7 @@ impl Program {
     /// `NoMemory` if memory is refused.
     pub fn unread(&self, alloc: Global, fault: ParseFault, start: usize) -> Result<Ending, NoMemory>
         ensures unread { IfOk result (λ ending. ending
-            ≡ in_command self.now start (length self.now) (failed (parse_message fault))) }
+            ≡ in_command self.now start (length self.now) (error_ending (parse_message fault))) }
     {
         let ending = Ending::failed_with(alloc, fault.message())?;
         let ending = ending.in_command(self.text(), start, self.text.len())?;
@@ -133,8 +133,8 @@ fn read_step(
     next: Option<usize>,
 ) -> Result<Option<usize>, NoMemory>
     ensures steps { OnOk result (plain_steps steps.new.items
-        ≡ (read_from text.now (plain_steps steps.old.items) next).steps) }
-    ensures next { IfOk result (λ after. after ≡ (read_from text.now (plain_steps steps.old.items) next).next) }
+        ≡ (program_from text.now (plain_steps steps.old.items) next).steps) }
+    ensures next { IfOk result (λ after. after ≡ (program_from text.now (plain_steps steps.old.items) next).next) }
 {
     let Some(from) = next else {
         return Ok(None);

@@ -82,7 +82,7 @@ fn hand_result(alloc: Global, n: u64, answer: bool, ending: Ending) -> Result<Ne
 }
 
 /// The error of an event's script was recorded: it goes to its sender, or is reported.
-pub(crate) fn after_told(
+pub(crate) fn after_error(
     alloc: Global,
     n: u64,
     answer: bool,
@@ -132,7 +132,7 @@ fn hand(alloc: Global, request: Request) -> Result<Next, NoMemory>
 
 /// What was handed over is replied to: the thread may be to stop.
 pub(crate) fn after_handed(alloc: Global, got: &Got, state: &mut State) -> Next
-    ensures { events.handed got.now state.old ≡ plan_of after on_got result state.new }
+    ensures { events.after_handing got.now state.old ≡ plan_of after on_got result state.new }
 {
     if says_stop(got) {
         state.counts.stopped = true;
@@ -159,7 +159,7 @@ pub(crate) fn set_global(alloc: Global, name: Text, value: Text) -> Result<Next,
 
 /// A global variable was set: the global level is left.
 pub(crate) fn after_set(ending: Ending) -> Next
-    ensures { (state : Counts) → events.was_set ending state ≡ plan_of after on_got result state }
+    ensures { (state : Counts) → events.after_setting ending state ≡ plan_of after on_got result state }
 {
     Next::Ask(Want::Leave { body: Body::Global }, Asking::Left(ending))
 }

@@ -4,7 +4,7 @@ ghost use Rattle.tt_frames.specs.declared.job.Asking.TheVariants as askings;
 ghost use Rattle.tt_outcomes.specs.declared.want.Want.TheVariants as wants;
 ghost use Rattle.std.specs.Prelude.{◌≡◌, IfOk};
 ghost use Rattle.tt_frames.specs.Frames.{after, on_got};
-ghost use Rattle.tt_frames.specs.Starts.{finished, report, reporting, starting};
+ghost use Rattle.tt_frames.specs.Starts.{end_of_start, report, reporting, starting};
 ghost use Rattle.tt_frames.specs.declared.state.Counts.{Counts};
 ghost use Rattle.tt_evaluation.specs.Frames.{plan_of};
 
@@ -32,7 +32,7 @@ pub(crate) fn begin_start(alloc: Global, start: Start) -> Result<Next, NoMemory>
 
 /// The script of a start ended so.
 pub(crate) fn finish(alloc: Global, ending: Ending) -> Result<Next, NoMemory>
-    ensures { IfOk result (λ move. (state : Counts) → finished ending state ≡ plan_of after on_got move state) }
+    ensures { IfOk result (λ move. (state : Counts) → end_of_start ending state ≡ plan_of after on_got move state) }
 {
     match ending.of_script(alloc)? {
         Ending::Failed(failure) => {

@@ -1,7 +1,7 @@
 ghost use Rattle.std.specs.Prelude.{◌≡◌, IfOk};
 ghost use Rattle.std.specs.Arc.{arc_value};
 ghost use Rattle.tt_frames.specs.Expressions.{made_needs, text_needs};
-ghost use Rattle.tt_frames.specs.Units.{fresh, spent, unit_of};
+ghost use Rattle.tt_frames.specs.Units.{fresh, counts_after_unit, unit_of};
 
 use crate::kept::{Kept, Made};
 use crate::program::Program;
@@ -110,7 +110,7 @@ impl State {
     /// Spends a unit, if one is left.
     pub fn spend(&mut self) -> Unit
         ensures unit { result ≡ unit_of self.old }
-        ensures spent { self.new ≡ spent self.old }
+        ensures spent { self.new ≡ counts_after_unit self.old }
     {
         if self.counts.limit <= self.counts.units {
             return Unit::Past;

@@ -3,7 +3,7 @@ ghost use Rattle.std.specs.Prelude.{◌≡◌, IfOk};
 ghost use Rattle.tt_calls.specs.declared.request.Request.TheVariants as asks;
 ghost use Rattle.tt_frames.specs.Asking.{waiting};
 ghost use Rattle.tt_frames.specs.Frames.{after, on_got};
-ghost use Rattle.tt_frames.specs.Waiting.{known, look_of};
+ghost use Rattle.tt_frames.specs.Waiting.{jobs_answer, look_of};
 ghost use Rattle.tt_frames.specs.declared.state.Counts.{Counts};
 ghost use Rattle.tt_evaluation.specs.Frames.{plan_of};
 
@@ -74,7 +74,7 @@ pub(crate) fn look_of(alloc: Global, wait: &JobsWait) -> Result<Request, NoMemor
 
 /// Which jobs are done is known.
 pub(crate) fn end_waiting(alloc: Global, wait: JobsWait, reply: Reply) -> Result<Next, NoMemory>
-    ensures { IfOk result (λ move. (state : Counts) → known wait reply state ≡ plan_of after on_got move state) }
+    ensures { IfOk result (λ move. (state : Counts) → jobs_answer wait reply state ≡ plan_of after on_got move state) }
 {
     match reply {
         Reply::Lists(done, pending) => {

@@ -183,7 +183,7 @@ pub(crate) fn take_got(alloc: Global, asking: WorkerAsking, got: &Got) -> Result
 // A worker has a job, or there is none.
 fn begin_job(worker: Boxed<Worker>, got: &Got) -> Result<Next, NoMemory>
     ensures { IfOk result (λ move. (state : Counts) →
-        workers.given worker got.now state ≡ plan_of after on_got move state) }
+        workers.job_then worker got.now state ≡ plan_of after on_got move state) }
 {
     match got {
         Got::Reply(Reply::Job(number, script, detached)) => {

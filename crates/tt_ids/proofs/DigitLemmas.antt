@@ -7,13 +7,13 @@ use Rattle.std.proofs.lemmas.Str.Parse.{IsNumeralModel, numerals_by_fold, digits
 use Rattle.std.proofs.lemmas.Fmt.{digits_decimal, digits_value-decimal, decimal-digits_value, decimal_nonempty, first_decimal, length-decimal-le, decimal_digit}
 use Rattle.std.proofs.lemmas.List.{take-append-drop}
 use Rattle.std.proofs.lemmas.Bool.Decides.{nat_tests}
-use Rattle.tt_ids.specs.Digits.{BeginsWithNoDigit, read_on}
+use Rattle.tt_ids.specs.Digits.{BeginsWithNoDigit, number_after}
 use Rattle.tt_ids.specs.ThreadNumbers.{IsInRange}
 use Rattle.tt_ids.specs.inside.DigitRun.{IsDigitRun}
 
 -- the numbers of digits, as std has them
-pub own : IsNumeralModel (λ ds. all_ascii_digits ds ≡ true) (read_on 0)
-own = numerals_by_fold _ (search rules) read_on (search rules)
+pub own : IsNumeralModel (λ ds. all_ascii_digits ds ≡ true) (number_after 0)
+own = numerals_by_fold _ (search rules) number_after (search rules)
 
 both : (a b : Bool) → (a && b) ≡ true → (a ≡ true) × (b ≡ true)
 both true b e = (refl, e)
@@ -29,7 +29,7 @@ all-more (d ∷ ds) c all digit =
     both_true _ _ parts.0 (all-more ds c parts.1 digit)
 
 -- more digits don't lower a number
-pub read_on-ge : (n : ℕ) (ds : List ℕ) → n ≤ read_on n ds
+pub read_on-ge : (n : ℕ) (ds : List ℕ) → n ≤ number_after n ds
 read_on-ge n [] = omega arith
 read_on-ge n (d ∷ ds) = omega (arith, read_on-ge (10 * n + (d - 48)) ds)
 
@@ -63,19 +63,19 @@ run-only text count n rest run range stops e =
 pub record IsStep (digits : List ℕ) (i value : ℕ) : Type 0 where
   pub low : 48 ≤ get_or digits i 0
   pub fits : 10 * value + (get_or digits i 0 - 48) < 10 ^ 8
-  pub more : read_on (10 * value + (get_or digits i 0 - 48)) (drop (i + 1) digits) ≡ read_on 0 digits
+  pub more : number_after (10 * value + (get_or digits i 0 - 48)) (drop (i + 1) digits) ≡ number_after 0 digits
   pub digits_left : all_ascii_digits (drop (i + 1) digits) ≡ true
 
 digit-low : (c : ℕ) → is_ascii_digit c ≡ true → 48 ≤ c
 digit-low c e = grind (arith, nat_tests)
 
 pub next_step : (digits : List ℕ) (i value : ℕ) → length digits ≤ 8 → all_ascii_digits digits ≡ true → i < length digits →
-    read_on value (drop i digits) ≡ read_on 0 digits → all_ascii_digits (drop i digits) ≡ true → IsStep digits i value
+    number_after value (drop i digits) ≡ number_after 0 digits → all_ascii_digits (drop i digits) ≡ true → IsStep digits i value
 next_step digits i value short all h e left =
     let cut : drop i digits ≡ get_or digits i 0 ∷ drop (i + 1) digits = rw add-one (drop-cons digits i 0 h) in
-    let read : read_on (10 * value + (get_or digits i 0 - 48)) (drop (i + 1) digits) ≡ read_on 0 digits = rw cut at e in
+    let read : number_after (10 * value + (get_or digits i 0 - 48)) (drop (i + 1) digits) ≡ number_after 0 digits = rw cut at e in
     let parts = both (is_ascii_digit (get_or digits i 0)) (all_ascii_digits (drop (i + 1) digits)) (rw cut at left) in
-    let bound : read_on 0 digits < 10 ^ 8 = digits_value_short own digits 8 all short in
+    let bound : number_after 0 digits < 10 ^ 8 = digits_value_short own digits 8 all short in
     record {
       low = digit-low _ parts.0;
       fits = omega (arith, read_on-ge (10 * value + (get_or digits i 0 - 48)) (drop (i + 1) digits));
@@ -104,21 +104,21 @@ written n range =
 pub written_as : (digits : List ℕ) (n : ℕ) → IsInRange n → digits ≡ decimal n → IsWritten digits
 written_as digits n range e = rw e (written n range)
 
-pub value-decimal : (n : ℕ) (digits : List ℕ) → IsInRange n → digits ≡ decimal n → read_on 0 digits ≡ n
+pub value-decimal : (n : ℕ) (digits : List ℕ) → IsInRange n → digits ≡ decimal n → number_after 0 digits ≡ n
 value-decimal n digits range e =
     let small : n < 2 ^ 64 = omega (arith, range.1) in
     rw e (digits_value-decimal own n small)
 
-from_one : (digits : List ℕ) → get_or digits 0 0 ≢ 48 → decimal (read_on 0 digits) ≡ digits → 1 ≤ read_on 0 digits
-from_one digits first same = not_zero (read_on 0 digits) (λ zero. first (
+from_one : (digits : List ℕ) → get_or digits 0 0 ≢ 48 → decimal (number_after 0 digits) ≡ digits → 1 ≤ number_after 0 digits
+from_one digits first same = not_zero (number_after 0 digits) (λ zero. first (
     let nought : decimal 0 ≡ 48 ∷ [] = decimal_digit 0 (omega arith) in
     let written : digits ≡ 48 ∷ [] = sym same ∙ (ap decimal zero ∙ nought) in
     ap (λ (ds : List ℕ). get_or ds 0 0) written))
 
 -- digits that begin with no 0 write a number from 1
 pub decimal-value : (digits : List ℕ) → all_ascii_digits digits ≡ true → 0 < length digits → get_or digits 0 0 ≢ 48 → length digits ≤ 8 →
-    (decimal (read_on 0 digits) ≡ digits) × (1 ≤ read_on 0 digits)
+    (decimal (number_after 0 digits) ≡ digits) × (1 ≤ number_after 0 digits)
 decimal-value digits all some first short =
-    let bound : read_on 0 digits < 10 ^ 8 = digits_value_short own digits 8 all short in
-    let same : decimal (read_on 0 digits) ≡ digits = decimal-digits_value own digits all some (λ zero. absurd (first zero)) (omega arith) in
+    let bound : number_after 0 digits < 10 ^ 8 = digits_value_short own digits 8 all short in
+    let same : decimal (number_after 0 digits) ≡ digits = decimal-digits_value own digits all some (λ zero. absurd (first zero)) (omega arith) in
     (same, from_one digits first same)

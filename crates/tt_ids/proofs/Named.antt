@@ -11,11 +11,11 @@ use Rattle.std.specs.Prelude.{bytes_eq}
 use Rattle.std.specs.Str.{all_ascii_digits}
 use Rattle.tt_ids.specs.Ids.{after_letters, id, id_named, letters, number_named}
 use Rattle.tt_ids.specs.declared.id.IdKind.{IdKind}
-use Rattle.tt_ids.specs.Digits.{read_on}
+use Rattle.tt_ids.specs.Digits.{number_after}
 
 -- the numbers of digits, as std has them
-own : IsNumeralModel (λ ds. all_ascii_digits ds ≡ true) (read_on 0)
-own = numerals_by_fold _ (search rules) read_on (search rules)
+own : IsNumeralModel (λ ds. all_ascii_digits ds ≡ true) (number_after 0)
+own = numerals_by_fold _ (search rules) number_after (search rules)
 
 below : (n : ℕ) → n < 2 ^ 64 → nat_lt n (2 ^ 64) ≡ true
 below n small = grind (arith, nat_tests)
@@ -23,20 +23,20 @@ below n small = grind (arith, nat_tests)
 -- a number names itself
 pub named_decimal : (n : ℕ) → n < 2 ^ 64 → number_named (decimal n) ≡ Some n
 named_decimal n small =
-    let value : read_on 0 (decimal n) ≡ n = digits_value-decimal own n small in
+    let value : number_after 0 (decimal n) ≡ n = digits_value-decimal own n small in
     let same : bytes_eq (decimal n) (decimal n) ≡ true = (bytes_eq-Decides (decimal n) (decimal n)).1 refl in
     rw (value, below n small, same) refl
 
 pub named_none : (text : List ℕ) → ((n : ℕ) → n < 2 ^ 64 → text ≢ decimal n) → number_named text ≡ None
-named_none text none = go (nat_lt (read_on 0 text) (2 ^ 64)) (bytes_eq text (decimal (read_on 0 text))) refl refl
+named_none text none = go (nat_lt (number_after 0 text) (2 ^ 64)) (bytes_eq text (decimal (number_after 0 text))) refl refl
   where
-    go : (small same : Bool) → nat_lt (read_on 0 text) (2 ^ 64) ≡ small → bytes_eq text (decimal (read_on 0 text)) ≡ same →
-        (if small && same then Some (read_on 0 text) else None) ≡ None
+    go : (small same : Bool) → nat_lt (number_after 0 text) (2 ^ 64) ≡ small → bytes_eq text (decimal (number_after 0 text)) ≡ same →
+        (if small && same then Some (number_after 0 text) else None) ≡ None
     go false same is e = refl
     go true false is e = refl
     go true true is e =
-        let fits : read_on 0 text < 2 ^ 64 = grind (arith, nat_tests) in
-        absurd (none (read_on 0 text) fits ((bytes_eq-Decides text (decimal (read_on 0 text))).0 e))
+        let fits : number_after 0 text < 2 ^ 64 = grind (arith, nat_tests) in
+        absurd (none (number_after 0 text) fits ((bytes_eq-Decides text (decimal (number_after 0 text))).0 e))
 
 pub named_is : (text : List ℕ) (answer : Option ℕ) → IfSome answer (λ n. n < 2 ^ 64) → IfSome answer (λ n. text ≡ decimal n) →
     IfNone answer ((n : ℕ) → n < 2 ^ 64 → text ≢ decimal n) → answer ≡ number_named text

@@ -8,6 +8,6 @@ BeginsWithNoDigit [] = Unit {0}
 BeginsWithNoDigit (byte ∷ text) = is_ascii_digit byte ≡ false
 
 -- the number that digits after a number write
-abbrev pub read_on : ℕ → List ℕ → ℕ
-read_on number [] = number
-read_on number (digit ∷ digits) = read_on (10 * number + (digit - 48)) digits
+abbrev pub number_after : ℕ → List ℕ → ℕ
+number_after number [] = number
+number_after number (digit ∷ digits) = number_after (10 * number + (digit - 48)) digits

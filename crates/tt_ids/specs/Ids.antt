@@ -2,7 +2,7 @@
 use Rattle.std.specs.Prelude.{◌≡◌, ◌<◌, ◌^◌, ℕ, ◌==◌, ◌&&◌, nat_lt, List, [], ◌∷◌, ◌++◌, codes, bytes_eq, Option}
 use Rattle.std.specs.Prelude.{Some, None, option_and_then, if◌then◌else◌}
 use Rattle.std.specs.Fmt.{decimal}
-use Rattle.tt_ids.specs.Digits.{read_on}
+use Rattle.tt_ids.specs.Digits.{number_after}
 use Rattle.tt_ids.specs.declared.id.IdKind.{IdKind}
 use Rattle.tt_ids.specs.declared.id.IdKind.TheVariants.{Thread, Exclusive, Recursive, ReadWrite, Condition, Pool}
 use Rattle.tt_ids.specs.declared.id.IdKind.TheVariants.{Channel}
@@ -23,7 +23,9 @@ id kind number = letters kind ++ decimal number
 -- the number that a text writes in decimal, as `decimal` does; none if it writes none below 2^64
 abbrev pub number_named : List ℕ → Option ℕ
 number_named text =
-    if nat_lt (read_on 0 text) (2 ^ 64) && bytes_eq text (decimal (read_on 0 text)) then Some (read_on 0 text) else None
+    if nat_lt (number_after 0 text) (2 ^ 64) && bytes_eq text (decimal (number_after 0 text))
+    then Some (number_after 0 text)
+    else None
 
 -- a text without the letters at its front
 abbrev pub after_letters : (front text : List ℕ) → Option (List ℕ)

@@ -1,7 +1,7 @@
 ghost use Rattle.std.specs.Prelude.{◌≡◌, ◌≢◌, ◌≤◌, ◌++◌, ℕ, List, length, take, drop, true, IfSome, IfNone};
 ghost use Rattle.std.specs.Fmt.{decimal};
 ghost use Rattle.std.specs.Str.{all_ascii_digits};
-ghost use Rattle.tt_ids.specs.Digits.{BeginsWithNoDigit, read_on};
+ghost use Rattle.tt_ids.specs.Digits.{BeginsWithNoDigit, number_after};
 ghost use Rattle.tt_ids.specs.ThreadNumbers.{IsInRange};
 ghost use Rattle.tt_ids.specs.inside.DigitRun.{IsDigitRun};
 
@@ -63,7 +63,7 @@ fn digit_run(text: &[u8]) -> usize
 fn value_of(digits: &[u8]) -> u32
     requires short { length digits.now ≤ 8 }
     requires digits { all_ascii_digits digits.now ≡ true }
-    ensures { result ≡ read_on 0 digits.now }
+    ensures { result ≡ number_after 0 digits.now }
 {
     let mut value = 0;
     for digit in digits {

@@ -25,7 +25,7 @@ use Rattle.tt_kept.proofs.Following.{AreSame, same_asked}
 use Rattle.tt_kept.specs.Leading.{LeadsTo}
 use Rattle.tt_kept.specs.Asking.{AsksNext, Coming, goes_on, having, asks, after_reply, answered, ends}
 use Rattle.tt_kept.specs.Beginning.{BeginsThread}
-use Rattle.tt_interp.specs.Interps.{GoesOnFrom, IsLast, StandsFor, after_got, coming, halt_of, halted, request_of, serving_of, standing_of}
+use Rattle.tt_interp.specs.Interps.{GoesOnFrom, IsLast, StandsFor, after_got, coming, halt_of, coming_of, request_of, serving_of, standing_of}
 use Rattle.tt_interp.specs.declared.interp.Standing.{Standing}
 use Rattle.tt_interp.specs.declared.interp.Standing.TheVariants as standing
 use Rattle.tt_kept.specs.declared.kept.Kept.{Kept}
@@ -35,29 +35,29 @@ use Rattle.tt_kept.specs.declared.setup.Setup.{Setup}
 
 -- what a stack comes to after an answer
 abbrev pub IsAfter : Halt Want Ending → (stack before : Stack Counts Frame Asking) → Got → Type 0
-IsAfter halt stack before got = (gots : List Got) → halted halt stack gots ≡ after_answer plan after on_got before got gots
+IsAfter halt stack before got = (gots : List Got) → coming_of halt stack gots ≡ after_answer plan after on_got before got gots
 
 pub answered_on : (halt : Halt Want Ending) (stack before : Stack Counts Frame Asking) (want : Want) (got : Got) (kept held : Kept)
     → Answers want held got kept → IsAfter halt stack before got
-    → LeadsTo (halted halt stack) kept (halted (Wants want) before) held
+    → LeadsTo (coming_of halt stack) kept (coming_of (Wants want) before) held
 answered_on halt stack before want got kept held gives turned replies request serving asked =
     answered got refl gives (same_asked turned asked)
 
 pub begun_on : (halt : Halt Want Ending) (stack : Stack Counts Frame Asking) (start : Start) (me limit : ℕ) (kept : Kept)
-    → AreSame (halted halt stack) (eval plan (job.Start start) (fresh me limit) STEPS)
-    → LeadsTo (halted halt stack) kept (coming (standing.Fresh start me limit)) kept
+    → AreSame (coming_of halt stack) (eval plan (job.Start start) (fresh me limit) STEPS)
+    → LeadsTo (coming_of halt stack) kept (coming (standing.Fresh start me limit)) kept
 begun_on halt stack start me limit kept same replies request serving asked = same_asked same asked
 
 -- an evaluation that settles leads on from where it halted
 pub settled : {before : Coming} {held : Kept} (halt other : Halt Want Ending) (stack : Stack Counts Frame Asking) (kept : Kept)
-    → halt ≡ other → LeadsTo (halted halt stack) kept before held → LeadsTo (halted other stack) kept before held
+    → halt ≡ other → LeadsTo (coming_of halt stack) kept before held → LeadsTo (coming_of other stack) kept before held
 settled {before = before} {held = held} halt other stack kept is leads =
-    subst (λ h. LeadsTo (halted h stack) kept before held) is leads
+    subst (λ h. LeadsTo (coming_of h stack) kept before held) is leads
 
 -- what was reached stands where its stack halts
 pub stood : {before : Coming} {held kept : Kept} (next : Standing) (reached : Reached) (stack : Stack Counts Frame Asking)
     → next ≡ standing_of reached stack
-    → LeadsTo (halted (halt_of reached) stack) kept before held
+    → LeadsTo (coming_of (halt_of reached) stack) kept before held
     → LeadsTo (coming next) kept before held
 stood {before} {held} {kept} next (reached.Asks request) stack is leads =
     subst (λ s. LeadsTo (coming s) kept before held) (sym is) leads
@@ -65,14 +65,14 @@ stood {before} {held} {kept} next (reached.Over ending) stack is leads =
     subst (λ s. LeadsTo (coming s) kept before held) (sym is) leads
 
 pub begun_settled : (halt : Halt Want Ending) (stack : Stack Counts Frame Asking) (start : Start) (me limit : ℕ) (kept new : Kept) (next : Coming)
-    → LeadsTo next new (halted halt stack) kept
-    → AreSame (halted halt stack) (eval plan (job.Start start) (fresh me limit) STEPS)
+    → LeadsTo next new (coming_of halt stack) kept
+    → AreSame (coming_of halt stack) (eval plan (job.Start start) (fresh me limit) STEPS)
     → LeadsTo next new (coming (standing.Fresh start me limit)) kept
 begun_settled halt stack start me limit kept new next leads same replies request serving asked =
     begun_on halt stack start me limit kept same replies request serving (leads replies request serving asked)
 
 pub got_settled : (halt : Halt Want Ending) (stack before : Stack Counts Frame Asking) (got : Got) (kept new : Kept) (next : Coming)
-    → LeadsTo next new (halted halt stack) kept → IsAfter halt stack before got
+    → LeadsTo next new (coming_of halt stack) kept → IsAfter halt stack before got
     → LeadsTo next new (after_got before got) kept
 got_settled halt stack before got kept new next leads turned replies request serving asked =
     same_asked turned (leads replies request serving asked)

@@ -37,14 +37,14 @@ pub record Interpreter : Type 0 where
   pub standing : Standing
 
 -- what a stack comes to from where it halted
-abbrev pub halted : Halt Want Ending → Stack Counts Frame Asking → Coming
-halted halt stack gots = from_halt plan after on_got halt stack gots
+abbrev pub coming_of : Halt Want Ending → Stack Counts Frame Asking → Coming
+coming_of halt stack gots = from_halt plan after on_got halt stack gots
 
 -- what an evaluation comes to from where it stands
 abbrev pub coming : Standing → Coming
 coming (standing.Fresh start me limit) gots = eval plan (job.Start start) (fresh me limit) STEPS gots
-coming (standing.Asks stack request) gots = halted (Wants (Ask request)) stack gots
-coming (standing.Over stack ending) gots = halted (Ended ending) stack gots
+coming (standing.Asks stack request) gots = coming_of (Wants (Ask request)) stack gots
+coming (standing.Over stack ending) gots = coming_of (Ended ending) stack gots
 
 -- an interpreter asks this after further replies, while it serves these posts
 abbrev pub InterpAsks : Interpreter → List Reply → Request → (serving : List ℕ) → Type 0

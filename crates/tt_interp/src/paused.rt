@@ -44,7 +44,7 @@ impl Paused {
         limit: u64,
     ) -> Result<(Self, Halt<Want, Ending>), NoMemory>
         ensures begun { IfOk result (λ begun. (gots : List Got)
-            → interps.halted begun.1 begun.0 gots ≡ eval plan (jobs.Start start) (fresh me limit) STEPS gots) }
+            → interps.coming_of begun.1 begun.0 gots ≡ eval plan (jobs.Start start) (fresh me limit) STEPS gots) }
         ensures waiting { IfOk result (λ begun. wants begun.1 ≡ is_waiting begun.0) }
     {
         let (stack, halt) = begin(alloc, start, me, limit)?;
@@ -58,7 +58,7 @@ impl Paused {
     pub(crate) fn turn(&mut self, alloc: Global, got: Got) -> Result<Halt<Want, Ending>, NoMemory>
         requires asked { IsTrue (is_waiting self.old) }
         ensures turned { IfOk result (λ halt. (gots : List Got)
-            → interps.halted halt self.new gots ≡ interps.after_got self.old got gots) }
+            → interps.coming_of halt self.new gots ≡ interps.after_got self.old got gots) }
         ensures waiting { IfOk result (λ halt. wants halt ≡ is_waiting self.new) }
     {
         let halt = turn(alloc, &mut self.stack, got)?;

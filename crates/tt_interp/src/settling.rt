@@ -101,7 +101,7 @@ fn go_on_with(
 ) -> Result<Reached, NoMemory>
     requires { IsTrue (is_waiting stack.old) }
     ensures leads { IfOk result (λ reached. LeadsTo
-        (interps.halted (interps.halt_of reached) stack.new) kept.new
+        (interps.coming_of (interps.halt_of reached) stack.new) kept.new
         (interps.after_got stack.old (gots.Reply reply)) kept.old) }
     ensures waiting { IfOk result (λ reached. wants (interps.halt_of reached) ≡ is_waiting stack.new) }
 {
@@ -119,7 +119,7 @@ fn settle(
 ) -> Result<Reached, NoMemory>
     requires { wants halt ≡ is_waiting stack.old }
     ensures leads { IfOk result (λ reached. LeadsTo
-        (interps.halted (interps.halt_of reached) stack.new) kept.new (interps.halted halt stack.old) kept.old) }
+        (interps.coming_of (interps.halt_of reached) stack.new) kept.new (interps.coming_of halt stack.old) kept.old) }
     ensures waiting { IfOk result (λ reached. wants (interps.halt_of reached) ≡ is_waiting stack.new) }
 {
     let mut halt = halt;
@@ -141,7 +141,7 @@ fn go_on(
 ) -> Result<Halt<Want, Ending>, NoMemory>
     requires { IsTrue (is_waiting stack.old) }
     ensures leads { IfOk result (λ halt.
-        LeadsTo (interps.halted halt stack.new) kept.new (interps.halted (Wants want) stack.old) kept.old) }
+        LeadsTo (interps.coming_of halt stack.new) kept.new (interps.coming_of (Wants want) stack.old) kept.old) }
     ensures waiting { IfOk result (λ halt. wants halt ≡ is_waiting stack.new) }
 {
     let got = kept.answer(alloc, want)?;

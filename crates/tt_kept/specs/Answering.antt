@@ -2,7 +2,7 @@
 use Rattle.std.specs.Prelude.{ℕ, ◌≡◌, Bool, true, false, List, [], codes}
 use Rattle.tt_calls.specs.declared.outcome.Outcome.{Outcome}
 use Rattle.tt_calls.specs.Outcomes.{fine}
-use Rattle.tt_store.specs.Held.{IsRead, IsWritten, after_end, entered, is_seen, unwatched, watched}
+use Rattle.tt_store.specs.Held.{IsRead, IsWritten, after_end, with_global_script, is_seen, without_watch, with_watch}
 use Rattle.tt_store.specs.declared.answers.Answer.{Answer}
 use Rattle.tt_store.specs.declared.answers.Answer.TheVariants as answers
 use Rattle.tt_outcomes.specs.declared.got.Got.{Got}
@@ -37,9 +37,9 @@ Answers (want.WriteVar name index value) old got new =
     × (new ≡ with_store old new.store)
 Answers (want.RunWords words) old got new =
     (answer : Answer) × Runs words old answer new × (got ≡ got_of words answer)
-Answers want.Enter old got new = (got ≡ nothing) × (new ≡ with_store old (entered old.store))
+Answers want.Enter old got new = (got ≡ nothing) × (new ≡ with_store old (with_global_script old.store))
 Answers (want.Leave body) old got new = (got ≡ nothing) × (new ≡ with_store old (after_end old.store))
-Answers (want.Watch name) old got new = (got ≡ nothing) × (new ≡ with_store old (watched name old.store))
+Answers (want.Watch name) old got new = (got ≡ nothing) × (new ≡ with_store old (with_watch name old.store))
 Answers want.Seen old got new = (got ≡ truth (is_seen old.store)) × (new ≡ old)
-Answers want.Unwatch old got new = (got ≡ nothing) × (new ≡ with_store old (unwatched old.store))
+Answers want.Unwatch old got new = (got ≡ nothing) × (new ≡ with_store old (without_watch old.store))
 Answers (want.Ask request) old got new = ⊥

@@ -1,6 +1,6 @@
 ghost use Rattle.std.specs.Prelude.{◌≡◌, ◌≢◌, ◌+◌, ◌*◌, ◌<◌, ◌^◌, ◌++◌, [], IfOk, Ok, codes, length, nat_le};
 ghost use Rattle.std.specs.List.{flat_map, repeat};
-ghost use Rattle.tt_lists.specs.Commands.{made_of};
+ghost use Rattle.tt_lists.specs.Commands.{list_or_message};
 ghost use Rattle.tt_lists.specs.Spelling.{later_item};
 ghost use Rattle.tt_lists.specs.declared.answer.ListAnswer.TheVariants.{Bad};
 ghost use Rattle.tt_list_commands.specs.Repeating.{repeat_answer, times, unless_long};
@@ -18,7 +18,7 @@ pub const LONGEST: usize = 268_435_456;
 /// The message if the count is no whole number, if it is negative, and if the text of the list would have more than
 /// `LONGEST` bytes; then the list isn't made. `NoMemory` if memory is refused.
 pub fn repeat(alloc: Global, count: &[u8], values: &[Text]) -> Result<Result<Texts, Text>, NoMemory>
-    ensures answer { IfOk result (λ made. made_of made ≡ repeat_answer count.now values.now) }
+    ensures answer { IfOk result (λ made. list_or_message made ≡ repeat_answer count.now values.now) }
 {
     match read_whole(count) {
         Ok(number) => times(alloc, number, count, values),
@@ -32,7 +32,7 @@ fn times(
     count: &[u8],
     values: &[Text],
 ) -> Result<Result<Texts, Text>, NoMemory>
-    ensures { IfOk result (λ made. made_of made ≡ times number count.now values.now) }
+    ensures { IfOk result (λ made. list_or_message made ≡ times number count.now values.now) }
 {
     if number < 0 {
         return bad_count(alloc, count);
@@ -41,7 +41,7 @@ fn times(
 }
 
 fn bad_count(alloc: Global, count: &[u8]) -> Result<Result<Texts, Text>, NoMemory>
-    ensures { IfOk result (λ made. made_of made ≡ Bad (codes "bad count \"" ++ (count.now ++ codes "\""))) }
+    ensures { IfOk result (λ made. list_or_message made ≡ Bad (codes "bad count \"" ++ (count.now ++ codes "\""))) }
 {
     let mut message = Text::from_bytes(alloc, b"bad count \"")?;
     message.push_bytes(count)?;
@@ -50,7 +50,7 @@ fn bad_count(alloc: Global, count: &[u8]) -> Result<Result<Texts, Text>, NoMemor
 }
 
 fn repeated(alloc: Global, count: u64, values: &[Text]) -> Result<Result<Texts, Text>, NoMemory>
-    ensures { IfOk result (λ made. made_of made ≡ unless_long (repeat count values.now)) }
+    ensures { IfOk result (λ made. list_or_message made ≡ unless_long (repeat count values.now)) }
 {
     match values {
         [] => Ok(Ok(nothing(alloc, count))),
@@ -61,7 +61,7 @@ fn repeated(alloc: Global, count: u64, values: &[Text]) -> Result<Result<Texts, 
 
 #[tactic(auto, using(crate::proofs::Repeats::nothing_repeated))]
 fn nothing(alloc: Global, count: u64) -> Texts
-    ensures { made_of (Ok result) ≡ unless_long (repeat count []) }
+    ensures { list_or_message (Ok result) ≡ unless_long (repeat count []) }
 {
     Texts::new(alloc)
 }
@@ -73,7 +73,7 @@ fn repeated_after(
 ) -> Result<Result<Texts, Text>, NoMemory>
     requires some { values.now ≢ [] }
     requires fits { later + 1 < 2 ^ 64 }
-    ensures { IfOk result (λ made. made_of made ≡ unless_long (repeat (later + 1) values.now)) }
+    ensures { IfOk result (λ made. list_or_message made ≡ unless_long (repeat (later + 1) values.now)) }
 {
     let first = join_list(alloc, values)?;
     let again = later_text(alloc, values)?;

@@ -1,6 +1,6 @@
 ghost use Rattle.std.specs.Prelude.{◌≡◌, IfOk, OnOk};
 ghost use Rattle.std.specs.List.Sorted.{IsSorted};
-ghost use Rattle.tt_lists.specs.Commands.{made_of};
+ghost use Rattle.tt_lists.specs.Commands.{list_or_message};
 ghost use Rattle.tt_list_commands.specs.inside.Runs.{equals_next, last_in_runs};
 ghost use Rattle.tt_list_commands.specs.Sorting.{IsInOrder, IsSortUnless, fault_of, increasing};
 ghost use Rattle.tt_list_commands.specs.Sorting.{sort_result};
@@ -27,7 +27,8 @@ pub struct Sorting {
 ///
 /// `NoMemory` if memory is refused.
 pub fn sort(alloc: Global, how: Sorting, items: &[Text]) -> Result<Result<Texts, Text>, NoMemory>
-    ensures answer { IfOk result (λ sorted. IsSortUnless (fault_of how items.now) how items.now (made_of sorted)) }
+    ensures answer { IfOk result (λ sorted.
+        IsSortUnless (fault_of how items.now) how items.now (list_or_message sorted)) }
 {
     if let Some(message) = fault_of(alloc, how, items)? {
         return Ok(Err(message));

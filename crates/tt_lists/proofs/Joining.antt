@@ -15,7 +15,7 @@ use Rattle.tt_lists.specs.ListText.IsSeparated.{at_end, white}
 use Rattle.tt_lists.specs.ListText.IsItem.{braced, bare}
 use Rattle.tt_lists.specs.ListText.IsListText.{none, space, first}
 use Rattle.tt_lists.specs.Spelling.{is_comment_sign, joins_lines, is_substituted, wants_braces, wants_braces_first}
-use Rattle.tt_lists.specs.Spelling.{fits_braces, style_of, escape, escape_first, escape_bare, escaped, styled, spelling}
+use Rattle.tt_lists.specs.Spelling.{fits_braces, style_of, escape, escape_first, escape_bare, with_escapes, item_in_style, spelling}
 use Rattle.tt_lists.specs.Spelling.{later_item, list_of}
 use Rattle.tt_lists.specs.Reading.{split_of}
 use Rattle.tt_lists.proofs.SplitLaw.{complete_items}
@@ -135,7 +135,7 @@ quote_escape : (place : Place) → escape_first place 34 ≡ 34 ∷ [] → ⊥
 quote_escape First e = cc
 quote_escape Later e = cc
 
-escaped_item : (place : Place) (b : ℕ) (item rest : List ℕ) → IsSeparated rest → IsItem (escaped place (b ∷ item) ++ rest) (b ∷ item) rest
+escaped_item : (place : Place) (b : ℕ) (item rest : List ℕ) → IsSeparated rest → IsItem (with_escapes place (b ∷ item) ++ rest) (b ∷ item) rest
 escaped_item place b item rest s =
     let more = flat_map escape item ++ rest in
     let runs = run_escape b more item rest (escape_first place b) (escape_first_is place b)
@@ -178,10 +178,10 @@ spelled place [] rest s = braced refl empty s
 spelled place (b ∷ item) rest s =
     let whole : List ℕ = b ∷ item in
     elim (cases_Bool (fits_braces whole)) [
-      | inr p ↦ subst (λ t. IsItem (styled t place whole ++ rest) whole rest) (sym (style_escaped p)) (escaped_item place b item rest s)
+      | inr p ↦ subst (λ t. IsItem (item_in_style t place whole ++ rest) whole rest) (sym (style_escaped p)) (escaped_item place b item rest s)
       | inl p ↦ elim (cases_Bool (wants_braces_first place b || list_any wants_braces whole)) [
-        | inl q ↦ subst (λ t. IsItem (styled t place whole ++ rest) whole rest) (sym (style_braced p q)) (braced_item whole rest p s)
-        | inr q ↦ (let parts = or_parts (wants_braces_first place b) (list_any wants_braces whole) q in subst (λ t. IsItem (styled t place whole ++ rest) whole rest) (sym (style_bare p q)) (bare_item place b item rest parts.0 parts.1 s))
+        | inl q ↦ subst (λ t. IsItem (item_in_style t place whole ++ rest) whole rest) (sym (style_braced p q)) (braced_item whole rest p s)
+        | inr q ↦ (let parts = or_parts (wants_braces_first place b) (list_any wants_braces whole) q in subst (λ t. IsItem (item_in_style t place whole ++ rest) whole rest) (sym (style_bare p q)) (bare_item place b item rest parts.0 parts.1 s))
       ]
     ]
   where

@@ -5,7 +5,7 @@ use Rattle.std.proofs.lemmas.Bool.{cases_Bool, cases_eq}
 use Rattle.tt_text.specs.Backslash.{backslash}
 use Rattle.tt_lists.specs.ListText.{IsRun}
 use Rattle.tt_lists.specs.ListText.IsRun.{at_end, stopped, letter, escape}
-use Rattle.tt_lists.specs.Reading.{run, prepend}
+use Rattle.tt_lists.specs.Reading.{front_run, prepend}
 use Rattle.tt_lists.specs.declared.run.Run.{Run}
 use Rattle.tt_lists.proofs.Runs.{joined, same_run, backslash_le, run-stopped, run-letter, run-escape, run-escape_kept}
 
@@ -15,26 +15,26 @@ drop_next n b text = let e : 1 + n ≡ suc n = omega arith in ap (λ k. drop k (
 
 -- the function's run is one by the grammar
 pub run_sound : (stops : ℕ → Bool) (passed : ℕ) (text : List ℕ) → passed ≤ length text →
-    IsRun stops (drop passed text) (run stops passed text).value (drop (run stops passed text).takes text)
+    IsRun stops (drop passed text) (front_run stops passed text).value (drop (front_run stops passed text).takes text)
 run_sound stops zero [] h = at_end
 run_sound stops (suc passed) [] h = absurd (omega arith)
 run_sound stops (suc passed) (b ∷ text) h =
-    subst (IsRun stops (drop passed text) (run stops passed text).value) (sym (drop_next (run stops passed text).takes b text))
+    subst (IsRun stops (drop passed text) (front_run stops passed text).value) (sym (drop_next (front_run stops passed text).takes b text))
     (run_sound stops passed text (omega arith))
 run_sound stops zero (b ∷ text) h =
     let P : Run → Type 0 = λ r. IsRun stops (b ∷ text) r.value (drop r.takes (b ∷ text)) in
     elim (cases_Bool (stops b)) [
       | inl p ↦ subst P (sym (run-stopped stops b text p)) (stopped p)
       | inr p ↦ elim (cases_eq b 92) [
-        | inl q ↦ (let s = backslash text in let r = run stops s.takes text in subst P (sym (run-escape_kept stops b text p q)) (subst (IsRun stops (b ∷ text) (s.value ++ r.value)) (sym (drop_next r.takes b text)) (escape p q (run_sound stops s.takes text (backslash_le text)) refl)))
-        | inr q ↦ (let r = run stops zero text in subst P (sym (run-letter stops b text p q)) (subst (IsRun stops (b ∷ text) (b ∷ r.value)) (sym (drop_next r.takes b text)) (letter p q (run_sound stops zero text (omega arith)))))
+        | inl q ↦ (let s = backslash text in let r = front_run stops s.takes text in subst P (sym (run-escape_kept stops b text p q)) (subst (IsRun stops (b ∷ text) (s.value ++ r.value)) (sym (drop_next r.takes b text)) (escape p q (run_sound stops s.takes text (backslash_le text)) refl)))
+        | inr q ↦ (let r = front_run stops zero text in subst P (sym (run-letter stops b text p q)) (subst (IsRun stops (b ∷ text) (b ∷ r.value)) (sym (drop_next r.takes b text)) (letter p q (run_sound stops zero text (omega arith)))))
       ]
     ]
 
 -- a run by the grammar, as the function reads it
 pub record ReadsRun (stops : ℕ → Bool) (text value rest : List ℕ) : Type 0 where
   pub takes : ℕ
-  pub is : run stops 0 text ≡ record { value = value; takes = takes }
+  pub is : front_run stops 0 text ≡ record { value = value; takes = takes }
   pub cut : drop takes text ≡ rest
   pub size : takes + length rest ≡ length text
 

@@ -16,7 +16,7 @@ use Rattle.tt_lists.specs.ListText.IsItem.{braced, quoted, bare}
 use Rattle.tt_lists.specs.ListText.IsListText.{none, space, first}
 use Rattle.tt_lists.specs.ListText.IsFollowed.{by}
 use Rattle.tt_lists.specs.ListText.IsFaulty.{space as space_before, later, open_brace, after_brace, open_quote, after_quote}
-use Rattle.tt_lists.specs.Reading.{run, split_of, split_after, with_item, item_at, in_braces, in_quotes, in_bare, closed_item, is_separated, IsSplit, SplitLaw}
+use Rattle.tt_lists.specs.Reading.{front_run, split_of, split_after, with_item, item_at, in_braces, in_quotes, in_bare, closed_item, is_separated, IsSplit, SplitLaw}
 use Rattle.tt_lists.specs.declared.items.Split.{Split}
 use Rattle.tt_lists.specs.declared.items.Split.TheVariants.{Items, Bad}
 use Rattle.tt_lists.specs.declared.items.ListFault.{ListFault}
@@ -132,10 +132,10 @@ quote_found text n value h r = go (drop n text) refl r
     go [] e r = absurd (omega (arith, length-drop n text, ap length e))
     go (q ∷ rest) e r = (q, run_stops r, e ∙ ap (λ t. q ∷ t) (sym (ap (λ t. drop 1 t) e) ∙ drop-drop 1 n text))
 
-quotes_item : (b : ℕ) (text item : List ℕ) (takes : ℕ) → b ≡ 34 → in_quotes text (run is_quote 0 text) ≡ Item item takes →
+quotes_item : (b : ℕ) (text item : List ℕ) (takes : ℕ) → b ≡ 34 → in_quotes text (front_run is_quote 0 text) ≡ Item item takes →
     IsItem (b ∷ text) item (drop takes (b ∷ text))
 quotes_item b text item takes e h =
-    let r = run is_quote 0 text in
+    let r = front_run is_quote 0 text in
     let sound = run_sound is_quote 0 text (omega arith) in
     elim (cases_lt r.takes (length text)) [
       | inl p ↦ (
@@ -149,9 +149,9 @@ quotes_item b text item takes e h =
       | inr p ↦ absurd (cc (rw (le-ltb r.takes (length text) p, in_quotes) at h))
     ]
 
-quotes_wrong : (b : ℕ) (text : List ℕ) (fault : ListFault) → b ≡ 34 → in_quotes text (run is_quote 0 text) ≡ Wrong fault → IsFaulty (b ∷ text) fault
+quotes_wrong : (b : ℕ) (text : List ℕ) (fault : ListFault) → b ≡ 34 → in_quotes text (front_run is_quote 0 text) ≡ Wrong fault → IsFaulty (b ∷ text) fault
 quotes_wrong b text fault e h =
-    let r = run is_quote 0 text in
+    let r = front_run is_quote 0 text in
     let sound = run_sound is_quote 0 text (omega arith) in
     elim (cases_lt r.takes (length text)) [
       | inl p ↦ (
@@ -173,7 +173,7 @@ item_sound b text item takes w h =
       | inr p ↦ elim (cases_eq b 34) [
         | inl q ↦ quotes_item b text item takes q (sym (item-quote b text q) ∙ h)
         | inr q ↦ (
-            let r = run is_white_space 0 (b ∷ text) in
+            let r = front_run is_white_space 0 (b ∷ text) in
             let e : Item r.value r.takes ≡ Item item takes = sym (item-bare b text p q) ∙ h in
             let value : r.value ≡ item = cc in
             let place : r.takes ≡ takes = cc in
@@ -235,7 +235,7 @@ record ReadsItemAt (text item rest : List ℕ) : Type 0 where
 
 -- quotes in which a run ends at a quote
 in_quotes_yes : (text item rest : List ℕ) (quote : ℕ) → IsRun is_quote text item (quote ∷ rest) → (takes : ℕ)
-    × (in_quotes text (run is_quote 0 text) ≡ closed_item AfterQuote item (takes + 2) rest) × (drop (takes + 1) text ≡ rest)
+    × (in_quotes text (front_run is_quote 0 text) ≡ closed_item AfterQuote item (takes + 2) rest) × (drop (takes + 1) text ≡ rest)
 in_quotes_yes text item rest quote r =
     let q = run_complete r in
     let within : q.takes < length text = omega (arith, q.size) in

@@ -9,7 +9,7 @@ use Rattle.std.proofs.lemmas.List.Sums.{prefix_len-le-length}
 use Rattle.tt_text.specs.Braces.{matching_brace}
 use Rattle.tt_text.specs.Characters.{is_white_space, without_white_front}
 use Rattle.tt_lists.specs.ListText.{is_no_white_space, is_quote}
-use Rattle.tt_lists.specs.Reading.{run, split_of, split_after, with_item, item_at, item_with, in_braces, in_quotes, in_bare, closed_item, is_separated}
+use Rattle.tt_lists.specs.Reading.{front_run, split_of, split_after, with_item, item_at, item_with, in_braces, in_quotes, in_bare, closed_item, is_separated}
 use Rattle.tt_lists.specs.declared.items.Split.{Split}
 use Rattle.tt_lists.specs.declared.items.Split.TheVariants.{Items, Bad}
 use Rattle.tt_lists.specs.declared.items.ListFault.{ListFault}
@@ -49,7 +49,7 @@ pub split-wrong : (b : ℕ) (text : List ℕ) (fault : ListFault) → is_white_s
 unfolding split_after
 split-wrong b text fault h e = rw (h, e, split_after) refl
 
-run_some : (stops : ℕ → Bool) (b : ℕ) (text : List ℕ) → stops b ≡ false → 1 ≤ (run stops 0 (b ∷ text)).takes
+run_some : (stops : ℕ → Bool) (b : ℕ) (text : List ℕ) → stops b ≡ false → 1 ≤ (front_run stops 0 (b ∷ text)).takes
 run_some stops b text h =
     elim (cases_eq b 92) [
       | inl q ↦ rw (run-escape_kept stops b text h q) (omega arith)
@@ -69,11 +69,11 @@ pub item-brace : (b : ℕ) (text : List ℕ) → b ≡ 123 → item_at (b ∷ te
 unfolding item_at
 item-brace b text e = let p = eq-eqb b 123 e in rw (p, item_with) refl
 
-pub item-quote : (b : ℕ) (text : List ℕ) → b ≡ 34 → item_at (b ∷ text) ≡ in_quotes text (run is_quote 0 text)
+pub item-quote : (b : ℕ) (text : List ℕ) → b ≡ 34 → item_at (b ∷ text) ≡ in_quotes text (front_run is_quote 0 text)
 unfolding item_at
 item-quote b text e = rw e refl
 
-pub item-bare : (b : ℕ) (text : List ℕ) → b ≢ 123 → b ≢ 34 → item_at (b ∷ text) ≡ in_bare (run is_white_space 0 (b ∷ text))
+pub item-bare : (b : ℕ) (text : List ℕ) → b ≢ 123 → b ≢ 34 → item_at (b ∷ text) ≡ in_bare (front_run is_white_space 0 (b ∷ text))
 unfolding item_at
 item-bare b text e f = let p = ne_eqb b 123 e in let q = ne_eqb b 34 f in rw (p, q, item_with) refl
 
@@ -87,9 +87,9 @@ braces_take text item takes h = go (matching_brace text) refl h
     go None e h = absurd (cc h)
     go (Some place) e h = let n = ended_takes AfterBrace (take place text) item (place + 2) takes (drop (place + 1) text) h in let p = place_within text place e in (omega arith, omega arith)
 
-quotes_take : (text item : List ℕ) (takes : ℕ) → in_quotes text (run is_quote 0 text) ≡ Item item takes → (1 ≤ takes) × (takes ≤ 1 + length text)
+quotes_take : (text item : List ℕ) (takes : ℕ) → in_quotes text (front_run is_quote 0 text) ≡ Item item takes → (1 ≤ takes) × (takes ≤ 1 + length text)
 quotes_take text item takes h =
-    let r = run is_quote 0 text in
+    let r = front_run is_quote 0 text in
     elim (cases_lt r.takes (length text)) [
       | inl p ↦ (let n = ended_takes AfterQuote r.value item (r.takes + 2) takes (drop (r.takes + 1) text) (rw (lt-ltb r.takes (length text) p, in_quotes) at h) in (omega arith, omega arith))
       | inr p ↦ absurd (cc (rw (le-ltb r.takes (length text) p, in_quotes) at h))
@@ -103,7 +103,7 @@ item_takes b text item takes h e =
       | inl p ↦ (let q = braces_take text item takes (sym (item-brace b text p) ∙ e) in (q.0, omega (arith, q.1)))
       | inr p ↦ elim (cases_eq b 34) [
         | inl q ↦ (let r = quotes_take text item takes (sym (item-quote b text q) ∙ e) in (r.0, omega (arith, r.1)))
-        | inr q ↦ (let n : (run is_white_space 0 (b ∷ text)).takes ≡ takes = cc (sym (item-bare b text p q) ∙ e) in (omega (arith, run_some is_white_space b text h, n), omega (arith, run_le is_white_space 0 (b ∷ text), n)))
+        | inr q ↦ (let n : (front_run is_white_space 0 (b ∷ text)).takes ≡ takes = cc (sym (item-bare b text p q) ∙ e) in (omega (arith, run_some is_white_space b text h, n), omega (arith, run_le is_white_space 0 (b ∷ text), n)))
       ]
     ]
 

@@ -23,9 +23,9 @@ for_made answer (Made text) = answer text
 for_made answer (Bad message) = Bad message
 
 -- the answer that lists the items that were made, or says why there are none
-abbrev pub made_of : Result (List (List ℕ)) (List ℕ) → ListAnswer
-made_of (Ok items) = Made (list_of items)
-made_of (Err message) = Bad message
+abbrev pub list_or_message : Result (List (List ℕ)) (List ℕ) → ListAnswer
+list_or_message (Ok items) = Made (list_of items)
+list_or_message (Err message) = Bad message
 
 -- the answer for the place that a word names in a list of so many items, where it names one
 abbrev pub for_place : List ℕ → ℕ → (ℤ → ListAnswer) → ListAnswer

@@ -26,18 +26,18 @@ is_plain stops b = not (stops b) && not (b == 92)
 
 -- one byte more, with what it stands for
 abbrev pub prepend : List ℕ → Run → Run
-prepend value run = record { value = value ++ run.value; takes = 1 + run.takes }
+prepend value front_run = record { value = value ++ front_run.value; takes = 1 + front_run.takes }
 
 -- the run at the front of a text, after so many bytes that belong to a sequence
-abbrev pub run : (ℕ → Bool) → ℕ → List ℕ → Run
-run stops passed [] = record { value = []; takes = 0 }
-run stops (suc passed) (b ∷ text) = prepend [] (run stops passed text)
-run stops zero (b ∷ text) =
+abbrev pub front_run : (ℕ → Bool) → ℕ → List ℕ → Run
+front_run stops passed [] = record { value = []; takes = 0 }
+front_run stops (suc passed) (b ∷ text) = prepend [] (front_run stops passed text)
+front_run stops zero (b ∷ text) =
     elim (stops b) [
       | true ↦ record { value = []; takes = 0 }
       | false ↦ elim (b == 92) [
-        | true ↦ prepend (backslash text).value (run stops (backslash text).takes text)
-        | false ↦ prepend (b ∷ []) (run stops zero text)
+        | true ↦ prepend (backslash text).value (front_run stops (backslash text).takes text)
+        | false ↦ prepend (b ∷ []) (front_run stops zero text)
       ]
     ]
 
@@ -59,14 +59,14 @@ in_braces text None = Wrong OpenBrace
 in_braces text (Some place) = closed_item AfterBrace (take place text) (place + 2) (drop (place + 1) text)
 
 abbrev pub in_quotes : List ℕ → Run → Reading
-in_quotes text run =
-    elim (nat_lt run.takes (length text)) [
-      | true ↦ closed_item AfterQuote run.value (run.takes + 2) (drop (run.takes + 1) text)
+in_quotes text front_run =
+    elim (nat_lt front_run.takes (length text)) [
+      | true ↦ closed_item AfterQuote front_run.value (front_run.takes + 2) (drop (front_run.takes + 1) text)
       | false ↦ Wrong OpenQuote
     ]
 
 abbrev pub in_bare : Run → Reading
-in_bare run = Item run.value run.takes
+in_bare front_run = Item front_run.value front_run.takes
 
 -- the item at the front of a text that begins with no white space
 abbrev pub item_with : ℕ → List ℕ → Reading
@@ -74,8 +74,8 @@ item_with b text =
     elim (b == 123) [
       | true ↦ in_braces text (matching_brace text)
       | false ↦ elim (b == 34) [
-        | true ↦ in_quotes text (run is_quote 0 text)
-        | false ↦ in_bare (run is_white_space 0 (b ∷ text))
+        | true ↦ in_quotes text (front_run is_quote 0 text)
+        | false ↦ in_bare (front_run is_white_space 0 (b ∷ text))
       ]
     ]
 

@@ -63,20 +63,20 @@ escape_first place b = if is_comment_sign place b then 92 ∷ b ∷ [] else esca
 abbrev pub escape_bare : ℕ → List ℕ
 escape_bare b = if b == 93 || b == 34 then 92 ∷ b ∷ [] else b ∷ []
 
-abbrev pub escaped : Place → List ℕ → List ℕ
-escaped place [] = []
-escaped place (b ∷ item) = escape_first place b ++ flat_map escape item
+abbrev pub with_escapes : Place → List ℕ → List ℕ
+with_escapes place [] = []
+with_escapes place (b ∷ item) = escape_first place b ++ flat_map escape item
 
 -- an item in a style
-abbrev pub styled : Style → Place → List ℕ → List ℕ
-styled Empty place item = 123 ∷ 125 ∷ []
-styled Escaped place item = escaped place item
-styled Braced place item = 123 ∷ (item ++ (125 ∷ []))
-styled Bare place item = flat_map escape_bare item
+abbrev pub item_in_style : Style → Place → List ℕ → List ℕ
+item_in_style Empty place item = 123 ∷ 125 ∷ []
+item_in_style Escaped place item = with_escapes place item
+item_in_style Braced place item = 123 ∷ (item ++ (125 ∷ []))
+item_in_style Bare place item = flat_map escape_bare item
 
 -- the one canonical spelling of an item at its place in a list
 unfoldable pub spelling : Place → List ℕ → List ℕ
-spelling place item = styled (style_of place item) place item
+spelling place item = item_in_style (style_of place item) place item
 
 -- an item after the first, with the space before it
 abbrev pub later_item : List ℕ → List ℕ

@@ -1,7 +1,7 @@
 ghost use Rattle.std.specs.Prelude.{◌≡◌, IfOk, IfErr, decimal};
 ghost use Rattle.std.specs.Option.{option_map};
 ghost use Rattle.tt_lists.specs.Commands.{count_answer, insert_among, insert_answer, item_among, item_answer, item_of};
-ghost use Rattle.tt_lists.specs.Commands.{made_of, range_among, range_answer, replace_among, replace_answer};
+ghost use Rattle.tt_lists.specs.Commands.{list_or_message, range_among, range_answer, replace_among, replace_answer};
 ghost use Rattle.tt_lists.specs.Indices.{index_of};
 ghost use Rattle.tt_lists.specs.Messages.{bad_index_message, list_message};
 ghost use Rattle.tt_lists.specs.Places.{place_in};
@@ -189,7 +189,7 @@ fn insert_of(
 }
 
 fn listed(alloc: Global, made: Result<Texts, Text>) -> Result<ListAnswer, NoMemory>
-    ensures { IfOk result (λ answer. answer ≡ made_of made) }
+    ensures { IfOk result (λ answer. answer ≡ list_or_message made) }
 {
     match made {
         Ok(items) => made_list(alloc, items.as_slice()),
@@ -207,7 +207,7 @@ pub fn insert_among(
     word: &[u8],
     others: &[Text],
 ) -> Result<Result<Texts, Text>, NoMemory>
-    ensures made { IfOk result (λ made. made_of made ≡ insert_among items.now word.now others.now) }
+    ensures made { IfOk result (λ made. list_or_message made ≡ insert_among items.now word.now others.now) }
 {
     let Some(place) = place_in(word, items.len() + 1) else {
         return Ok(Err(bad_index(alloc, word)?));
@@ -258,7 +258,7 @@ pub fn replace_among(
     last: &[u8],
     others: &[Text],
 ) -> Result<Result<Texts, Text>, NoMemory>
-    ensures made { IfOk result (λ made. made_of made ≡ replace_among items.now first.now last.now others.now) }
+    ensures made { IfOk result (λ made. list_or_message made ≡ replace_among items.now first.now last.now others.now) }
 {
     let Some(from) = place_in(first, items.len()) else {
         return Ok(Err(bad_index(alloc, first)?));

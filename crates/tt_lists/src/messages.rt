@@ -10,7 +10,7 @@ impl ListFault {
     ///
     /// `NoMemory` if the memory for it is refused.
     pub fn message(&self, alloc: Global) -> Result<Text, NoMemory>
-        ensures told { IfOk result (λ text. text ≡ list_message self.now) }
+        ensures message { IfOk result (λ text. text ≡ list_message self.now) }
     {
         match self {
             ListFault::OpenBrace => Text::from_bytes(alloc, b"unmatched open brace in list"),
@@ -35,7 +35,7 @@ impl ListFault {
 ///
 /// `NoMemory` if the memory for it is refused.
 pub fn bad_index(alloc: Global, text: &[u8]) -> Result<Text, NoMemory>
-    ensures told { IfOk result (λ message. message ≡ bad_index_message text.now) }
+    ensures message { IfOk result (λ message. message ≡ bad_index_message text.now) }
 {
     quoting(
         alloc,

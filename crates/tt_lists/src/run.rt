@@ -1,6 +1,6 @@
 ghost use Rattle.std.specs.Prelude.{◌≡◌, ◌<◌, ◌≤◌, length, IfOk};
 ghost use Rattle.std.specs.List.{prefix_len};
-ghost use Rattle.tt_lists.specs.Reading.{is_plain, run, stops};
+ghost use Rattle.tt_lists.specs.Reading.{is_plain, front_run, stops};
 
 use std::alloc::Global;
 use tt_text::{NoMemory, Text, backslash, is_white_space};
@@ -32,7 +32,7 @@ fn stops(stop: Stop, b: u8) -> bool
 
 /// The run at the front of the text.
 pub(crate) fn read_run(alloc: Global, text: &[u8], stop: Stop) -> Result<Run, NoMemory>
-    ensures run { IfOk result (λ read. read ≡ run (stops stop) 0 text.now) }
+    ensures run { IfOk result (λ read. read ≡ front_run (stops stop) 0 text.now) }
 {
     let mut value = Text::new(alloc);
     let mut at = 0;

@@ -5,7 +5,7 @@ ghost use Rattle.tt_lists.specs.ListText.{IsListText};
 ghost use Rattle.tt_lists.specs.Reading.{split_of};
 ghost use Rattle.tt_lists.specs.Spelling.{is_comment_sign, joins_lines, is_substituted, wants_braces};
 ghost use Rattle.tt_lists.specs.Spelling.{wants_braces_first, fits_braces, style_of, escape, escape_first};
-ghost use Rattle.tt_lists.specs.Spelling.{escape_bare, escaped, styled, spelling, later_item, list_of};
+ghost use Rattle.tt_lists.specs.Spelling.{escape_bare, with_escapes, item_in_style, spelling, later_item, list_of};
 
 use crate::items::Split;
 use std::alloc::Global;
@@ -95,7 +95,7 @@ pub(crate) fn push_spelling(text: &mut Text, place: Place, item: &[u8]) -> Resul
 }
 
 fn push_braced(text: &mut Text, item: &[u8]) -> Result<(), NoMemory>
-    ensures { OnOk result (text.new ≡ text.old ++ styled Style.Braced Place.First item.now) }
+    ensures { OnOk result (text.new ≡ text.old ++ item_in_style Style.Braced Place.First item.now) }
 {
     text.push_bytes(b"{")?;
     text.push_bytes(item)?;
@@ -104,7 +104,7 @@ fn push_braced(text: &mut Text, item: &[u8]) -> Result<(), NoMemory>
 }
 
 fn push_escaped(text: &mut Text, place: Place, item: &[u8]) -> Result<(), NoMemory>
-    ensures { OnOk result (text.new ≡ text.old ++ escaped place item.now) }
+    ensures { OnOk result (text.new ≡ text.old ++ with_escapes place item.now) }
 {
     let Some((first, rest)) = item.split_first() else {
         return Ok(());

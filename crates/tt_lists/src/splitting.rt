@@ -2,7 +2,7 @@ ghost use Rattle.std.specs.Prelude.{◌≡◌, ◌<◌, ◌≤◌, length, IfOk,
 ghost use Rattle.tt_text.specs.Braces.{matching_brace};
 ghost use Rattle.tt_text.specs.Characters.{without_white_front};
 ghost use Rattle.tt_lists.specs.ListText.{is_no_white_space, is_quote};
-ghost use Rattle.tt_lists.specs.Reading.{IsSplit, split_of, item_at, in_braces, in_quotes, is_separated, run};
+ghost use Rattle.tt_lists.specs.Reading.{IsSplit, split_of, item_at, in_braces, in_quotes, is_separated, front_run};
 
 use crate::items::{ListFault, Split};
 use crate::run::{Stop, read_run};
@@ -78,7 +78,7 @@ fn in_braces(alloc: Global, text: &[u8]) -> Result<Reading, NoMemory>
 }
 
 fn in_quotes(alloc: Global, text: &[u8]) -> Result<Reading, NoMemory>
-    ensures { IfOk result (λ read. read ≡ in_quotes text.now (run is_quote 0 text.now)) }
+    ensures { IfOk result (λ read. read ≡ in_quotes text.now (front_run is_quote 0 text.now)) }
 {
     let quoted = read_run(alloc, text, Stop::Quote)?;
     if quoted.takes >= text.len() {

@@ -16,8 +16,8 @@ use Rattle.tt_calls.specs.declared.lock_call.LockCall.TheVariants as ask
 use Rattle.tt_calls.specs.Replies.{refuses}
 use Rattle.tt_locks.specs.Calls.{act, acts, acts_on, begins, cond_waits, destroys, destroys_named, gives_up, is_first, is_held, table_after, waits, waits_where}
 use Rattle.tt_locks.specs.LockLaws.{AreAllowed, AreOfOne, HasOneHolder, HaveOneHolder, OneHolderLaw}
-use Rattle.tt_locks.specs.Lock.{Done, does, family_of, free, has_none, held, holds, is_among, is_held_by_others}
-use Rattle.tt_locks.specs.Lock.{is_owned, locks, read_locks, unheld, unlocks, waits_alone, without_one, write_locks}
+use Rattle.tt_locks.specs.Lock.{Done, does, family_of, free, has_none, with_hold, holds, is_among, is_held_by_others}
+use Rattle.tt_locks.specs.Lock.{is_owned, locks, read_locks, without_hold, unlocks, waits_alone, without_one, write_locks}
 use Rattle.tt_locks.specs.Table.{LockTable, in_family, is_id, is_same, lock_in, lock_of, new_id, with_lock}
 use Rattle.tt_locks.specs.declared.lock.Deed.{Deed}
 use Rattle.tt_locks.specs.declared.lock.Deed.TheVariants as deed
@@ -124,7 +124,7 @@ writes lock t free rule = go (is_among lock.holders t) lock.writing refl refl
     go true false is w = rw (is, w) (subst (λ writing. AreAllowed lock.kind writing lock.holders) w rule)
     go false writing is w = rw is (taken lock.kind true lock.holders t (is-free lock t free is))
 
-gives-up-one : (lock : Lock) (t : ℕ) → HasOneHolder lock → HasOneHolder (unheld lock t)
+gives-up-one : (lock : Lock) (t : ℕ) → HasOneHolder lock → HasOneHolder (without_hold lock t)
 gives-up-one lock t rule = given-up lock.kind lock.writing lock.holders (prefix_len (λ thread. not (thread == t)) lock.holders) rule
 
 unlocks-one : (lock : Lock) (t : ℕ) → HasOneHolder lock → HasOneHolder (unlocks lock t).lock
@@ -135,10 +135,10 @@ unlocks-one lock t rule = go (has_none lock.holders) (is_among lock.holders t) r
     go false true e is = rw (e, is) (gives-up-one lock t rule)
     go false false e is = rw (e, is) rule
 
-takes-one : (lock : Lock) (t : ℕ) → is_held lock t ≡ false → HasOneHolder (held lock t false)
+takes-one : (lock : Lock) (t : ℕ) → is_held lock t ≡ false → HasOneHolder (with_hold lock t false)
 takes-one lock t free = go (has_none lock.holders) refl free
   where
-    go : (empty : Bool) → has_none lock.holders ≡ empty → not empty ≡ false → HasOneHolder (held lock t false)
+    go : (empty : Bool) → has_none lock.holders ≡ empty → not empty ≡ false → HasOneHolder (with_hold lock t false)
     go true e none = taken lock.kind false lock.holders t (none-of lock.holders e)
     go false e none = absurd (cc none)
 
@@ -217,7 +217,7 @@ gives-up-mutex table t condition mutex (Some lock) e have = go (is_owned lock t)
     go : (owned : Bool) → is_owned lock t ≡ owned → HaveOneHolder (gives_up table t condition mutex (Some lock)).table
     go true is =
         rw is (begins-one (acts_on (does deed.Free) table t family.Mutex mutex (Some lock)).table t condition
-        (with-one table mutex (unheld lock t) have (gives-up-one lock t (one-in table family.Mutex mutex lock have e))))
+        (with-one table mutex (without_hold lock t) have (gives-up-one lock t (one-in table family.Mutex mutex lock have e))))
     go false is = rw is have
 
 cond-one : (table : LockTable) (t : ℕ) (condition mutex : List ℕ) (found : Option Lock) → HaveOneHolder table →

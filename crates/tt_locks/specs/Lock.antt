@@ -60,11 +60,11 @@ abbrev pub refuses : Lock → List ℕ → Done
 refuses lock message = record { lock = lock; reply = Refused message }
 
 -- one hold more of the thread
-abbrev pub held : Lock → ℕ → Bool → Lock
-held lock t writing = record lock { holders = lock.holders ++ t ∷ []; writing = writing }
+abbrev pub with_hold : Lock → ℕ → Bool → Lock
+with_hold lock t writing = record lock { holders = lock.holders ++ t ∷ []; writing = writing }
 
 abbrev pub holds : Lock → ℕ → (writing : Bool) → Done
-holds lock t writing = record { lock = held lock t writing; reply = Go }
+holds lock t writing = record { lock = with_hold lock t writing; reply = Go }
 
 -- thread::mutex lock: who owns an exclusive mutex can't take it again, who owns a recursive one can
 abbrev pub locks : Lock → ℕ → Done
@@ -91,15 +91,15 @@ write_locks lock t =
     refuses lock (codes "write-locking already read-locked mutex from the same thread")
 
 -- one hold less; who writes has one
-abbrev pub unheld : Lock → ℕ → Lock
-unheld lock t = record lock { holders = without_one lock.holders t; writing = false }
+abbrev pub without_hold : Lock → ℕ → Lock
+without_hold lock t = record lock { holders = without_one lock.holders t; writing = false }
 
 -- thread::mutex unlock, thread::rwmutex unlock
 abbrev pub unlocks : Lock → ℕ → Done
 unlocks lock t =
     if has_none lock.holders then refuses lock (codes "mutex is not locked") else
     if not (is_among lock.holders t) then refuses lock (codes "mutex is owned by another thread") else
-    record { lock = unheld lock t; reply = Go }
+    record { lock = without_hold lock t; reply = Go }
 
 -- the thread holds an exclusive mutex (thread::cond wait)
 abbrev pub is_owned : Lock → ℕ → Bool
@@ -116,7 +116,7 @@ does deed.Lock lock t = locks lock t
 does deed.Read lock t = read_locks lock t
 does deed.Write lock t = write_locks lock t
 does deed.Unlock lock t = unlocks lock t
-does deed.Free lock t = does_go (unheld lock t)
+does deed.Free lock t = does_go (without_hold lock t)
 does deed.Wait lock t = does_go (record lock { waiters = lock.waiters ++ t ∷ [] })
 does deed.Notify lock t = does_go (record lock { waiters = [] })
-does deed.Take lock t = does_go (held lock t false)
+does deed.Take lock t = does_go (with_hold lock t false)

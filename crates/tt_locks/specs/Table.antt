@@ -77,8 +77,8 @@ with_number Recursive number next = record next { recursive = number }
 with_number ReadWrite number next = record next { read_write = number }
 with_number Condition number next = record next { condition = number }
 
-abbrev pub drawn : Kind → Numbers → Numbers
-drawn kind next = with_number kind (number_of kind next + 1) next
+abbrev pub numbers_after : Kind → Numbers → Numbers
+numbers_after kind next = with_number kind (number_of kind next + 1) next
 
 -- what ids of a kind name
 abbrev pub names_of : Kind → IdKind
@@ -94,5 +94,5 @@ new_id table kind = id (names_of kind) (number_of kind table.next)
 abbrev pub with_new : LockTable → Kind → LockTable
 with_new table kind = record table {
   others = insert_entry (slice_cmp nat_cmp) table.others (new_id table kind) (free kind);
-  next = drawn kind table.next;
+  next = numbers_after kind table.next;
 }

@@ -1,6 +1,7 @@
 ghost use Rattle.std.specs.Prelude.{◌≡◌, IfOk, OnOk};
 ghost use Rattle.tt_calls.specs.declared.reply.Reply.TheVariants.{Go, Refused};
-ghost use Rattle.tt_locks.specs.Lock.{does, family_of, free, held, is_owned, locks, read_locks, unheld, unlocks};
+ghost use Rattle.tt_locks.specs.Lock.{does, family_of, free, with_hold, is_owned, locks, read_locks, without_hold};
+ghost use Rattle.tt_locks.specs.Lock.{unlocks};
 ghost use Rattle.tt_locks.specs.Lock.{waits_alone, waits_to_read, write_locks};
 
 use crate::Holders;
@@ -177,7 +178,7 @@ impl Lock {
 
     // One hold less of the thread.
     fn free_one(&mut self, thread: u32)
-        ensures { self.new ≡ unheld self.old thread }
+        ensures { self.new ≡ without_hold self.old thread }
     {
         self.holders.remove_one(thread);
         self.writing = false;
@@ -185,7 +186,7 @@ impl Lock {
 
     // One hold more of the thread.
     fn hold(&mut self, thread: u32, writing: bool) -> Result<Reply, NoMemory>
-        ensures lock { OnOk result (self.new ≡ held self.old thread writing) }
+        ensures lock { OnOk result (self.new ≡ with_hold self.old thread writing) }
         ensures reply { IfOk result (λ reply. reply ≡ Go) }
     {
         self.holders.push(thread)?;

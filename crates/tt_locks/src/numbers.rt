@@ -1,5 +1,5 @@
 ghost use Rattle.std.specs.Prelude.{◌≡◌, IfOk};
-ghost use Rattle.tt_locks.specs.Table.{drawn, names_of, number_of, with_number};
+ghost use Rattle.tt_locks.specs.Table.{numbers_after, names_of, number_of, with_number};
 
 use tt_calls::Kind;
 use tt_ids::{IdKind, number_after};
@@ -29,7 +29,7 @@ impl Numbers {
 
     // The numbers after that one was drawn.
     pub(crate) fn drawn(self, kind: Kind) -> Result<Self, NoMemory>
-        ensures { IfOk result (λ next. next ≡ drawn kind self) }
+        ensures { IfOk result (λ next. next ≡ numbers_after kind self) }
     {
         let number = number_after(self.of(kind))?;
         Ok(self.with(kind, number))

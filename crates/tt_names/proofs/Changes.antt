@@ -14,7 +14,7 @@ use Rattle.indexmap.proofs.SetLemmas.{keys_insert_entry}
 use Rattle.tt_names.specs.declared.storage.Storage.{Storage}
 use Rattle.tt_names.specs.declared.storage.Storage.TheVariants.{Few, Many}
 use Rattle.tt_names.specs.inside.Lent.{with_stored}
-use Rattle.tt_names.specs.inside.Stored.{stored}
+use Rattle.tt_names.specs.inside.Stored.{stored_pairs}
 use Rattle.tt_names.specs.Names.{Name, NamesDiffer, Updates, place_of, under, with_name}
 use Rattle.tt_names.proofs.Places.{put_at}
 
@@ -39,22 +39,22 @@ put_there (pair ∷ names) zero item = refl
 put_there (pair ∷ names) (suc place) item = ap (λ later. pair ∷ later) (put_there names place item)
 
 pub with_item : {V : Type 0} (storage : Storage V) (place : ℕ) (item : V) →
-    stored (with_stored storage place item) ≡ set_value_at (stored storage) place item
+    stored_pairs (with_stored storage place item) ≡ set_value_at (stored_pairs storage) place item
 with_item (Few pairs) place item = put_there pairs.items place item
 with_item (Many map) place item = refl
 
 pub put_differ : {X : Type 0} (names : List (Name × X)) (place : ℕ) (item : X) → NamesDiffer names → NamesDiffer (set_value_at names place item)
 put_differ names place item = subst (IsDistinct bytes_eq) (sym (keys-put names place item))
 
-pub item_differ : {V : Type 0} (storage : Storage V) (place : ℕ) (item : V) → NamesDiffer (stored storage) → NamesDiffer (stored (with_stored storage place item))
+pub item_differ : {V : Type 0} (storage : Storage V) (place : ℕ) (item : V) → NamesDiffer (stored_pairs storage) → NamesDiffer (stored_pairs (with_stored storage place item))
 item_differ storage place item differ =
-    subst NamesDiffer (sym (with_item storage place item)) (put_differ (stored storage) place item differ)
+    subst NamesDiffer (sym (with_item storage place item)) (put_differ (stored_pairs storage) place item differ)
 
 -- ---- an item under a name ----
 
-pub put_under : {V : Type 0} (storage : Storage V) (name : Name) (place : ℕ) (item : V) → place_of (stored storage) name ≡ Some place →
-    stored (with_stored storage place item) ≡ with_name (stored storage) name item
-put_under storage name place item at = with_item storage place item ∙ sym (put_at (stored storage) name place at item)
+pub put_under : {V : Type 0} (storage : Storage V) (name : Name) (place : ℕ) (item : V) → place_of (stored_pairs storage) name ≡ Some place →
+    stored_pairs (with_stored storage place item) ≡ with_name (stored_pairs storage) name item
+put_under storage name place item at = with_item storage place item ∙ sym (put_at (stored_pairs storage) name place at item)
 
 pub goes_last : {X : Type 0} (names : List (Name × X)) (name : Name) (item : X) → under names name ≡ None →
     with_name names name item ≡ names ++ (name, item) ∷ []

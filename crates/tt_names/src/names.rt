@@ -21,13 +21,13 @@ pub struct Names<V> {
 impl<V> Model for Names<V> {
     ghost use Rattle.std.specs.Prelude.{ℕ, List};
     ghost use Rattle.tt_names.specs.Names.{NamesDiffer};
-    ghost use Rattle.tt_names.specs.inside.Stored.{stored};
+    ghost use Rattle.tt_names.specs.inside.Stored.{stored_pairs};
 
     ghost Value = { List (List ℕ × V) };
 
-    ghost view = { λ names. stored names.storage };
+    ghost view = { λ names. stored_pairs names.storage };
 
-    ghost invariant = { λ names. NamesDiffer (stored names.storage) };
+    ghost invariant = { λ names. NamesDiffer (stored_pairs names.storage) };
 }
 
 impl<V> Names<V> {

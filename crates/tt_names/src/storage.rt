@@ -3,7 +3,7 @@ ghost use Rattle.std.specs.Borrow.{sem};
 ghost use Rattle.std.specs.Map.{values_of};
 ghost use Rattle.tt_names.specs.Names.{NamesDiffer, place_of, under, with_name};
 ghost use Rattle.tt_names.specs.inside.Lent.{lends_stored};
-ghost use Rattle.tt_names.specs.inside.Stored.{stored};
+ghost use Rattle.tt_names.specs.inside.Stored.{stored_pairs};
 
 use crate::few;
 use crate::moving::moved;
@@ -35,7 +35,7 @@ impl<V> Storage<V> {
 
     /// How many names there are.
     pub(crate) fn len(&self) -> usize
-        ensures len { result ≡ length (stored self.now) }
+        ensures len { result ≡ length (stored_pairs self.now) }
     {
         match self {
             Storage::Few(pairs) => pairs.len(),
@@ -45,8 +45,8 @@ impl<V> Storage<V> {
 
     /// Which of the names it is, counted from 0.
     pub(crate) fn place(&self, name: &Text) -> Option<usize>
-        ensures place { result ≡ place_of (stored self.now) name.now }
-        ensures within { IfSome result (λ place. place < length (stored self.now)) }
+        ensures place { result ≡ place_of (stored_pairs self.now) name.now }
+        ensures within { IfSome result (λ place. place < length (stored_pairs self.now)) }
     {
         match self {
             Storage::Few(pairs) => few::place_of(pairs.as_slice(), name),
@@ -56,8 +56,8 @@ impl<V> Storage<V> {
 
     /// What stands at a place that there is.
     pub(crate) fn item(&self, place: usize) -> &V
-        requires there { place < length (stored self.now) }
-        ensures item { slice_get (values_of (stored self.now)) place ≡ Some result.now }
+        requires there { place < length (stored_pairs self.now) }
+        ensures item { slice_get (values_of (stored_pairs self.now)) place ≡ Some result.now }
     {
         match self {
             Storage::Few(pairs) => &pairs[place].1,
@@ -67,9 +67,9 @@ impl<V> Storage<V> {
 
     /// What stands at a place that there is, to be changed.
     pub(crate) fn item_mut(&mut self, place: usize) -> &mut V
-        requires there { place < length (stored self.old) }
+        requires there { place < length (stored_pairs self.old) }
         ensures* lent { sem 𝓛 (lends_stored V.row self.entry place result) }
-        ensures item { slice_get (values_of (stored self.old)) place ≡ Some result.now }
+        ensures item { slice_get (values_of (stored_pairs self.old)) place ≡ Some result.now }
     {
         match self {
             Storage::Few(pairs) => {
@@ -87,9 +87,9 @@ impl<V: Drop> Storage<V> {
     /// `NoMemory` if memory for it is refused; then the names are as they were.
     #[tactic(auto, using(crate::proofs::Changes::put_under, crate::proofs::Places::stands_nowhere))]
     pub(crate) fn insert(&mut self, name: Text, item: V) -> Result<(), NoMemory>
-        requires differ { NamesDiffer (stored self.old) }
-        ensures inserted { OnOk result (stored self.new ≡ with_name (stored self.old) name item) }
-        ensures unchanged { OnErr result (stored self.new ≡ stored self.old) }
+        requires differ { NamesDiffer (stored_pairs self.old) }
+        ensures inserted { OnOk result (stored_pairs self.new ≡ with_name (stored_pairs self.old) name item) }
+        ensures unchanged { OnErr result (stored_pairs self.new ≡ stored_pairs self.old) }
     {
         match self.place(&name) {
             Some(place) => {
@@ -103,10 +103,10 @@ impl<V: Drop> Storage<V> {
     // Puts a new name last.
     #[tactic(auto, using(crate::proofs::Changes::goes_last))]
     fn push(&mut self, name: Text, item: V) -> Result<(), NoMemory>
-        requires new { under (stored self.old) name ≡ None }
-        requires differ { NamesDiffer (stored self.old) }
-        ensures pushed { OnOk result (stored self.new ≡ with_name (stored self.old) name item) }
-        ensures unchanged { OnErr result (stored self.new ≡ stored self.old) }
+        requires new { under (stored_pairs self.old) name ≡ None }
+        requires differ { NamesDiffer (stored_pairs self.old) }
+        ensures pushed { OnOk result (stored_pairs self.new ≡ with_name (stored_pairs self.old) name item) }
+        ensures unchanged { OnErr result (stored_pairs self.new ≡ stored_pairs self.old) }
     {
         self.make_fit()?;
         match self {
@@ -120,8 +120,8 @@ impl<V: Drop> Storage<V> {
 
     // Goes over to a map if one more name is too many for a list.
     fn make_fit(&mut self) -> Result<(), NoMemory>
-        requires differ { NamesDiffer (stored self.old) }
-        ensures same { stored self.new ≡ stored self.old }
+        requires differ { NamesDiffer (stored_pairs self.old) }
+        ensures same { stored_pairs self.new ≡ stored_pairs self.old }
     {
         match self {
             Storage::Few(pairs) if pairs.len() >= FEW => self.hash(),
@@ -131,8 +131,8 @@ impl<V: Drop> Storage<V> {
 
     // Goes over to a map.
     fn hash(&mut self) -> Result<(), NoMemory>
-        requires differ { NamesDiffer (stored self.old) }
-        ensures same { stored self.new ≡ stored self.old }
+        requires differ { NamesDiffer (stored_pairs self.old) }
+        ensures same { stored_pairs self.new ≡ stored_pairs self.old }
     {
         let alloc = self.alloc();
         let map = IndexMap::with_capacity(alloc, self.len())?;
@@ -145,8 +145,8 @@ impl<V: Drop> Storage<V> {
 
     /// Takes out the name at a place that there is; those after it move up.
     pub(crate) fn remove_at(&mut self, place: usize)
-        requires there { place < length (stored self.old) }
-        ensures removed { stored self.new ≡ remove (stored self.old) place }
+        requires there { place < length (stored_pairs self.old) }
+        ensures removed { stored_pairs self.new ≡ remove (stored_pairs self.old) place }
     {
         match self {
             Storage::Few(pairs) => drop(pairs.remove(place)),
@@ -156,7 +156,7 @@ impl<V: Drop> Storage<V> {
 
     /// Takes out all names. The room of a list stays.
     pub(crate) fn clear(&mut self)
-        ensures cleared { stored self.new ≡ [] }
+        ensures cleared { stored_pairs self.new ≡ [] }
     {
         match self {
             Storage::Few(pairs) => pairs.clear(),

@@ -9,7 +9,7 @@ use Rattle.tt_noted.specs.declared.pass.Turn.{Turn}
 use Rattle.tt_noted.specs.declared.noted.Noted.{Noted}
 use Rattle.tt_noted.specs.declared.table.View.{View}
 use Rattle.tt_noted.specs.inside.Rule.{Sat, view, first_of, holding, leaving, FitsAll, LeavesFit}
-use Rattle.tt_noted.specs.Passes.{count_of, turn_of, entered_of, IsPassOf, IsFresh, KeepsFit}
+use Rattle.tt_noted.specs.Passes.{count_of, turn_of, state_at_entry, IsPassOf, IsFresh, KeepsFit}
 use Rattle.tt_noted.proofs.Lists.{get_end, numbered_next}
 
 pub one_note : {N : Type 0} (xs : List (ℕ × N)) (place : ℕ) → map (λ c. c.0) xs ≡ place ∷ [] → (note : N) × (xs ≡ (place, note) ∷ [])
@@ -69,11 +69,11 @@ module _ {T S N : Type 0} {tie : Ghosts T S N} (lock : Noted T S N) (note : N) w
 module _ {T S N : Type 0} {tie : Ghosts T S N} (fits : S → List N → Type 0) where
   pub leaves_fit : (lock : Noted T S N) (pass : Pass T S N tie) (turn : Turn T S N) (note : N) →
       map (λ c. c.0) pass.seat.me.0.notes ≡ (pass.number - 1) ∷ [] → IsPassOf lock pass
-      → turn_of pass ≡ Some (entered_of turn) → KeepsFit fits lock pass turn note → LeavesFit fits pass.seat.me.0 turn.state note
+      → turn_of pass ≡ Some (state_at_entry turn) → KeepsFit fits lock pass turn note → LeavesFit fits pass.seat.me.0 turn.state note
   leaves_fit lock pass turn note one own entered keeps_fit = let t = one_note pass.seat.me.0.notes (pass.number - 1) one in (
     pass.number - 1,
     t.0,
-    entered_of turn,
+    state_at_entry turn,
     t.1,
     entered,
     λ notes long at fit. keeps_fit notes (long ∙ own.1) (at ∙ sym (ap first t.1)) fit,

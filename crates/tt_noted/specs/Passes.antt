@@ -13,8 +13,8 @@ abbrev pub count_of : {T S N : Type 0} → Noted T S N → ℕ
 count_of lock = lock.table.shared.key.count
 
 -- the state as the turn was entered
-abbrev pub entered_of : {T S N : Type 0} → Turn T S N → S
-entered_of turn = turn.entered.value
+abbrev pub state_at_entry : {T S N : Type 0} → Turn T S N → S
+state_at_entry turn = turn.entered.value
 
 module _ {T S N : Type 0} {tie : Ghosts T S N} where
   -- the pass's number, from 1
@@ -48,7 +48,7 @@ module _ {T S N : Type 0} {tie : Ghosts T S N} where
       (notes : List N) →
       length notes ≡ count_of lock →
       Tells notes pass →
-      fits (entered_of turn) notes →
+      fits (state_at_entry turn) notes →
       fits turn.state (slice_set notes (number_of pass - 1) note)
 
   -- the pass of a new lock that is at index k of them all, with this note

@@ -57,7 +57,8 @@ pub struct Noted<T: Tie> {
 
 impl<T: Tie> Noted<T> {
     ghost use Rattle.tt_noted.specs.inside.Rule.{view, holding, leaving, FitsAll, LeavesFit};
-    ghost use Rattle.tt_noted.specs.Passes.{count_of, number_of, note_of, turn_of, entered_of, IsPassOf, IsSamePass};
+    ghost use Rattle.tt_noted.specs.Passes.{count_of, number_of, note_of, turn_of, state_at_entry, IsPassOf};
+    ghost use Rattle.tt_noted.specs.Passes.{IsSamePass};
     ghost use Rattle.tt_noted.specs.Passes.{IsFresh, AreFresh, FitsNotes, KeepsFit, AreAllPassesOf, FitsNotesOf};
     ghost use Rattle.tt_noted.specs.Passes.{notes_in};
 
@@ -197,7 +198,7 @@ impl<T: Tie> Noted<T> {
         requires own { IsPassOf self.now pass.old }
         requires no_turn { turn_of pass.old ≡ None }
         ensures own { IsSamePass self.now pass.old pass.new × (note_of pass.new ≡ note_of pass.old) }
-        ensures turn { (turn_of pass.new ≡ Some result.state) × (entered_of result ≡ result.state) }
+        ensures turn { (turn_of pass.new ≡ Some result.state) × (state_at_entry result ≡ result.state) }
         ensures fits { FitsNotes T.fits self.now pass.new result.state }
     {
         let seat = &mut pass.seat;
@@ -238,7 +239,7 @@ impl<T: Tie> Noted<T> {
     #[inline]
     fn end_turn(&self, pass: &mut Pass<T>, turn: Turn<T>, note: T::Note, manner: Manner)
         requires own { IsPassOf self.now pass.old }
-        requires turn { turn_of pass.old ≡ Some (entered_of turn) }
+        requires turn { turn_of pass.old ≡ Some (state_at_entry turn) }
         requires fits { KeepsFit T.fits self.now pass.old turn note }
         ensures own { IsSamePass self.now pass.old pass.new }
         ensures note { note_of pass.new ≡ Some note }
@@ -262,7 +263,7 @@ impl<T: Tie> Noted<T> {
     #[inline]
     pub fn leave(&self, pass: &mut Pass<T>, turn: Turn<T>, note: T::Note)
         requires own { IsPassOf self.now pass.old }
-        requires turn { turn_of pass.old ≡ Some (entered_of turn) }
+        requires turn { turn_of pass.old ≡ Some (state_at_entry turn) }
         requires fits { KeepsFit T.fits self.now pass.old turn note }
         ensures own { IsSamePass self.now pass.old pass.new }
         ensures note { note_of pass.new ≡ Some note }
@@ -280,7 +281,7 @@ impl<T: Tie> Noted<T> {
     #[inline]
     pub fn leave_quietly(&self, pass: &mut Pass<T>, turn: Turn<T>, note: T::Note)
         requires own { IsPassOf self.now pass.old }
-        requires turn { turn_of pass.old ≡ Some (entered_of turn) }
+        requires turn { turn_of pass.old ≡ Some (state_at_entry turn) }
         requires fits { KeepsFit T.fits self.now pass.old turn note }
         ensures own { IsSamePass self.now pass.old pass.new }
         ensures note { note_of pass.new ≡ Some note }

@@ -1,6 +1,6 @@
 //! Passes, by which threads enter the lock, and the turns that they have.
 ghost use Rattle.std.specs.Prelude.{◌≡◌, ◌-◌, ◌<◌, ◌≤◌, [], ◌∷◌, map};
-ghost use Rattle.tt_noted.specs.inside.Rule.{held_with};
+ghost use Rattle.tt_noted.specs.inside.Rule.{held_slots};
 
 use crate::table::Place;
 use crate::tie::Tie;
@@ -14,7 +14,7 @@ pub struct Pass<T: Tie> {
     pub(crate) seat: Place<T>,
     ghost numbered: { (0 < number) × (map (λ c. c.0) seat.me.0.notes ≡ (number - 1) ∷ []) },
     ghost counted: { number ≤ seat.me.0.count },
-    ghost held: { seat.me.1 ≡ held_with seat.me.0.turn },
+    ghost held: { seat.me.1 ≡ held_slots seat.me.0.turn },
 }
 
 /// The state, out of the lock, and for contracts alone the state as it was entered. It ends in `Noted::leave`.

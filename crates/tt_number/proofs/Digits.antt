@@ -11,7 +11,7 @@ use Rattle.std.proofs.lemmas.Int.Digits.{digits_value_more}
 use Rattle.std.proofs.lemmas.List.Folds.{list_all_more}
 use Rattle.std.proofs.lemmas.List.{take_all}
 use Rattle.tt_number.specs.declared.numeral.NumberFault.TheVariants.{TooLarge}
-use Rattle.tt_number.specs.Numerals.{digit_sum, all_digits, number_of, cut, read_as}
+use Rattle.tt_number.specs.Numerals.{digit_sum, all_digits, number_of, signed_number, signed_reading}
 
 -- read from the left, digits make the sum that their places say
 digits_after : (b n : ℕ) (ds : List ℕ) → digits_value_after b n ds ≡ n * b ^ length ds + digit_sum b ds
@@ -47,20 +47,20 @@ whole_number base xs i n some low high digits value =
     let sum = rw all at value in
     rw (lt-ltb 0 (length xs) filled, whole) (ap Some (sum ∙ ap (λ n. min n (2 ^ 64 - 1)) (digit_sum_is base xs)))
 
-past : (negative : Bool) (n : ℕ) → 2 ^ 63 < n → cut negative n ≡ Err TooLarge
+past : (negative : Bool) (n : ℕ) → 2 ^ 63 < n → signed_number negative n ≡ Err TooLarge
 past false n h = grind (arith, nat_tests)
 past true zero h = absurd (omega arith)
 past true (suc n) h = grind (arith, nat_tests)
 
 -- a number at the limit or past it is cut off alike
-cut_capped : (negative : Bool) (n m : ℕ) → m ≡ min n (2 ^ 64 - 1) → cut negative m ≡ cut negative n
+cut_capped : (negative : Bool) (n m : ℕ) → m ≡ min n (2 ^ 64 - 1) → signed_number negative m ≡ signed_number negative n
 cut_capped negative n m e =
     elim (cases_lt n (2 ^ 64 - 1)) [
-      | inl p ↦ ap (cut negative) (omega arith)
+      | inl p ↦ ap (signed_number negative) (omega arith)
       | inr p ↦ past negative m (omega arith) ∙ sym (past negative n (omega arith))
     ]
 
 pub read_capped : (negative : Bool) (unsigned : List ℕ) (m : ℕ) (number : Option ℕ) → Some m ≡ option_map (λ n. min n (2 ^ 64 - 1)) number →
-    cut negative m ≡ read_as negative unsigned number
+    signed_number negative m ≡ signed_reading negative unsigned number
 read_capped negative unsigned m (Some n) e = cut_capped negative n m cc
 read_capped negative unsigned m None e = cc

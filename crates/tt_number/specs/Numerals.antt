@@ -191,18 +191,19 @@ unfoldable pub is_float : List ℕ → Bool
 is_float text = is_float_with text (position is_exponent_mark text)
 
 -- a sign and a number, cut at signed 64 bits
-abbrev pub cut : Bool → ℕ → Result ℤ NumberFault
-cut negative size =
+abbrev pub signed_number : Bool → ℕ → Result ℤ NumberFault
+signed_number negative size =
     let number = if negative then neg_ℤ (pos size) else pos size in
     if fits number then Ok number else Err TooLarge
 
 -- what a sign and what follows it are read as, if those digits write a number or none
-abbrev pub read_as : Bool → List ℕ → Option ℕ → Result ℤ NumberFault
-read_as negative unsigned (Some size) = cut negative size
-read_as negative unsigned None = if is_float unsigned then Err Float else Err NotWhole
+abbrev pub signed_reading : Bool → List ℕ → Option ℕ → Result ℤ NumberFault
+signed_reading negative unsigned (Some size) = signed_number negative size
+signed_reading negative unsigned None = if is_float unsigned then Err Float else Err NotWhole
 
 abbrev pub reading_of : List ℕ → Result ℤ NumberFault
-reading_of text = read_as (is_minus_first text) (unsigned_part text) (number_of (base_and_digits (unsigned_part text)))
+reading_of text =
+    signed_reading (is_minus_first text) (unsigned_part text) (number_of (base_and_digits (unsigned_part text)))
 
 -- what a text is read as
 unfoldable pub whole_of : List ℕ → Result ℤ NumberFault

@@ -19,8 +19,8 @@ fits (pos n) = nat_lt n (2 ^ 63)
 fits (negsuc n) = nat_lt n (2 ^ 63)
 
 -- the number, if it does
-abbrev pub fitted : ℤ → Result ℤ ArithFault
-fitted n = if fits n then Ok n else Err Overflow
+abbrev pub number_that_fits : ℤ → Result ℤ ArithFault
+number_that_fits n = if fits n then Ok n else Err Overflow
 
 -- the quotient rounded down: by a positive divisor it is Euclid's, and by a negative one a / d is -a / -d
 abbrev pub quotient_down : ℤ → ℤ → ℤ
@@ -40,28 +40,28 @@ unless_zero d quotient = if unsigned_abs d == 0 then Err DivideByZero else quoti
 abbrev pub inverse_power : ℤ → ℕ → Result ℤ ArithFault
 inverse_power base exponent =
     if unsigned_abs base == 0 then Err ZeroPower else
-    if unsigned_abs base == 1 then fitted (int_pow base exponent) else Ok (pos 0)
+    if unsigned_abs base == 1 then number_that_fits (int_pow base exponent) else Ok (pos 0)
 
 abbrev pub power : ℤ → ℤ → Result ℤ ArithFault
-power base (pos exponent) = fitted (int_pow base exponent)
+power base (pos exponent) = number_that_fits (int_pow base exponent)
 power base (negsuc e) = inverse_power base (suc e)
 
 -- a shift to the left multiplies by a power of two, and one to the right divides by it and rounds down
 abbrev pub shifted_left : ℤ → ℤ → Result ℤ ArithFault
-shifted_left a (pos places) = fitted (a *ℤ pos (2 ^ places))
+shifted_left a (pos places) = number_that_fits (a *ℤ pos (2 ^ places))
 shifted_left a (negsuc _) = Err NegativeShift
 
 abbrev pub shifted_right : ℤ → ℤ → Result ℤ ArithFault
-shifted_right a (pos places) = fitted (quotient_down a (pos (2 ^ places)))
+shifted_right a (pos places) = number_that_fits (quotient_down a (pos (2 ^ places)))
 shifted_right a (negsuc _) = Err NegativeShift
 
 -- what a binary operator answers; bits are those of the two's complement
 unfoldable pub binary_of : NumOp → ℤ → ℤ → Result ℤ ArithFault
-binary_of Add a b = fitted (a +ℤ b)
-binary_of Sub a b = fitted (a -ℤ b)
-binary_of Mul a b = fitted (a *ℤ b)
-binary_of Div a b = unless_zero b (fitted (quotient_down a b))
-binary_of Mod a b = unless_zero b (fitted (remainder_down a b))
+binary_of Add a b = number_that_fits (a +ℤ b)
+binary_of Sub a b = number_that_fits (a -ℤ b)
+binary_of Mul a b = number_that_fits (a *ℤ b)
+binary_of Div a b = unless_zero b (number_that_fits (quotient_down a b))
+binary_of Mod a b = unless_zero b (number_that_fits (remainder_down a b))
 binary_of Pow a b = power a b
 binary_of Shl a b = shifted_left a b
 binary_of Shr a b = shifted_right a b
@@ -71,7 +71,7 @@ binary_of BitXor a b = Ok (int_bit_xor w64 a b)
 
 -- what a unary operator or the function abs answers
 unfoldable pub unary_of : OneOp → ℤ → Result ℤ ArithFault
-unary_of Neg a = fitted (neg_ℤ a)
+unary_of Neg a = number_that_fits (neg_ℤ a)
 unary_of Plus a = Ok a
 unary_of BitNot a = Ok (int_bit_not w64 a)
-unary_of Abs a = fitted (pos (unsigned_abs a))
+unary_of Abs a = number_that_fits (pos (unsigned_abs a))

@@ -12,7 +12,7 @@ impl NumberFault {
     ///
     /// `NoMemory` if the memory for it is refused.
     pub fn message(self, alloc: Global, text: &[u8]) -> Result<Text, NoMemory>
-        ensures told { IfOk result (λ message. message ≡ number_message self text.now) }
+        ensures message { IfOk result (λ message. message ≡ number_message self text.now) }
     {
         match self {
             NumberFault::NotWhole => expected_integer(alloc, text),
@@ -34,7 +34,7 @@ fn expected_integer(alloc: Global, text: &[u8]) -> Result<Text, NoMemory>
 impl ArithFault {
     /// The text of the error that an operator gives (expr(n), OPERATORS).
     pub fn message(self) -> &'static [u8]
-        ensures told { result.now ≡ arith_message self }
+        ensures message { result.now ≡ arith_message self }
     {
         match self {
             ArithFault::Overflow => b"integer overflow",

@@ -2,7 +2,7 @@ ghost use Rattle.std.specs.Prelude.{◌≡◌, ◌≤◌, ◌<◌, ◌^◌, ◌-
 ghost use Rattle.std.specs.Option.{option_map};
 ghost use Rattle.tt_number.specs.Numerals.{trimmed, without_white_back, whole_of, is_minus_first, unsigned_part};
 ghost use Rattle.tt_number.specs.Numerals.{number_of, base_and_digits, is_float, is_scaled, is_pointed};
-ghost use Rattle.tt_number.specs.Numerals.{is_exponent_mark, is_point, is_numeral, all_digits, cut};
+ghost use Rattle.tt_number.specs.Numerals.{is_exponent_mark, is_point, is_numeral, all_digits, signed_number};
 
 use thiserror::Error;
 use tt_text::{is_white_space, without_white_front};
@@ -114,7 +114,7 @@ pub fn digits_of(base: u32, digits: &[u8]) -> Option<u64>
 }
 
 fn cut(negative: bool, size: u64) -> Result<i64, NumberFault>
-    ensures { result ≡ cut negative size }
+    ensures { result ≡ signed_number negative size }
 {
     let number = if negative {
         -i128::from(size)

@@ -1,7 +1,7 @@
 ghost use Rattle.std.specs.Prelude.{◌≡◌, ◌≤◌, ◌<◌, ◌^◌, pos, negsuc, FitsSigned, ◌*ℤ◌, ◌<ℤ◌, ◌≤ℤ◌};
 ghost use Rattle.std.specs.Int.{w64, int_pow};
 ghost use Rattle.std.specs.Int.RustNames.{unsigned_abs};
-ghost use Rattle.tt_number.specs.Operators.{fitted, quotient_down, remainder_down, power, inverse_power};
+ghost use Rattle.tt_number.specs.Operators.{number_that_fits, quotient_down, remainder_down, power, inverse_power};
 ghost use Rattle.tt_number.specs.Operators.{shifted_left, shifted_right, binary_of, unary_of, unless_zero};
 
 use thiserror::Error;
@@ -92,13 +92,13 @@ pub fn unary(op: OneOp, a: i64) -> Result<i64, ArithFault>
 }
 
 fn fitted(n: i128) -> Result<i64, ArithFault>
-    ensures { result ≡ fitted n }
+    ensures { result ≡ number_that_fits n }
 {
     i64::try_from(n).map_err(|_| ArithFault::Overflow)
 }
 
 fn divided(a: i64, divisor: i64) -> Result<i64, ArithFault>
-    ensures { result ≡ unless_zero divisor (fitted (quotient_down a divisor)) }
+    ensures { result ≡ unless_zero divisor (number_that_fits (quotient_down a divisor)) }
 {
     if divisor == 0 {
         return Err(ArithFault::DivideByZero);
@@ -120,7 +120,7 @@ fn quotient_down(a: i128, divisor: i128) -> i128
 }
 
 fn remainder(a: i64, divisor: i64) -> Result<i64, ArithFault>
-    ensures { result ≡ unless_zero divisor (fitted (remainder_down a divisor)) }
+    ensures { result ≡ unless_zero divisor (number_that_fits (remainder_down a divisor)) }
 {
     if divisor == 0 {
         return Err(ArithFault::DivideByZero);
@@ -153,7 +153,7 @@ fn power(base: i64, exponent: i64) -> Result<i64, ArithFault>
 #[tactic(auto, using(crate::proofs::Powers::long_power, crate::proofs::Powers::idle_power, crate::proofs::Powers::even_power, crate::proofs::Powers::odd_power))]
 // A base of two or more passes 64 bits at an exponent of 64, so a huge one takes no long work.
 fn raised(base: i64, exponent: u64) -> Result<i64, ArithFault>
-    ensures { result ≡ fitted (int_pow base exponent) }
+    ensures { result ≡ number_that_fits (int_pow base exponent) }
 {
     if exponent < 64 {
         return base

@@ -3,7 +3,7 @@ use Rattle.std.specs.Prelude.{ℕ, List, [], codes}
 use Rattle.tt_calls.specs.declared.outcome.Code.{Code}
 use Rattle.tt_calls.specs.declared.outcome.Code.TheVariants as code
 use Rattle.tt_calls.specs.declared.outcome.Outcome.{Outcome}
-use Rattle.tt_trace.specs.Lines.{TraceText, started, started_within}
+use Rattle.tt_trace.specs.Lines.{TraceText, new_trace, trace_after}
 use Rattle.tt_outcomes.specs.declared.ending.Ending.{Ending}
 use Rattle.tt_outcomes.specs.declared.ending.Ending.TheVariants.{Fine, Failed, Raised, Returned, Broke, Continued}
 use Rattle.tt_outcomes.specs.declared.ending.Failure.{Failure}
@@ -17,13 +17,13 @@ abbrev pub failure : (message : List ℕ) → (trace : TraceText) → (line : �
 failure message trace line = record { message = message; trace = trace; line = line }
 
 -- a new error
-abbrev pub failed : (message : List ℕ) → Ending
-failed message = Failed (failure message (started message) 0)
+abbrev pub error_ending : (message : List ℕ) → Ending
+error_ending message = Failed (failure message (new_trace message) 0)
 
 -- what a command does that hands on how something else ended: an error goes on with its trace
 abbrev pub with_code : Code → (value trace : List ℕ) → (kept : Code) → Ending
 with_code code.Fine value trace kept = Fine value
-with_code code.Failed value trace kept = Failed (failure value (started_within trace) 0)
+with_code code.Failed value trace kept = Failed (failure value (trace_after trace) 0)
 with_code code.Returned value trace kept = Returned value kept
 with_code code.Broke value trace kept = Broke value 0
 with_code code.Continued value trace kept = Continued value 0
@@ -56,14 +56,14 @@ trace_of (Raised failure) = failure.trace.text
 trace_of ending = []
 
 -- the code that a return keeps
-abbrev pub kept_of : Ending → Code
-kept_of (Returned value kept) = kept
-kept_of ending = code.Fine
+abbrev pub code_of_return : Ending → Code
+code_of_return (Returned value kept) = kept
+code_of_return ending = code.Fine
 
 -- the outcome that other threads see
 abbrev pub outcome_of : Ending → Outcome
 outcome_of ending =
-    record { code = code_of ending; value = text_of ending; trace = trace_of ending; kept = kept_of ending }
+    record { code = code_of ending; value = text_of ending; trace = trace_of ending; kept = code_of_return ending }
 
 -- the numbers of the codes (catch(n))
 abbrev pub number_of : Code → List ℕ
@@ -76,7 +76,7 @@ number_of code.Continued = codes "4"
 -- the answer of a command that has no trace of its own: an error is a new one
 abbrev pub with_answer : Code → (value : List ℕ) → Ending
 with_answer code.Fine value = Fine value
-with_answer code value = failed value
+with_answer code value = error_ending value
 
 abbrev pub of_value : Outcome → Ending
 of_value outcome = with_answer outcome.code outcome.value

@@ -2,8 +2,8 @@
 use Rattle.std.specs.Prelude.{ℕ, ◌-◌, List, codes, drop, take}
 use Rattle.tt_calls.specs.declared.outcome.Code.{Code}
 use Rattle.tt_calls.specs.declared.outcome.Code.TheVariants as code
-use Rattle.tt_trace.specs.Lines.{line_at, started, with_command, with_procedure}
-use Rattle.tt_outcomes.specs.Endings.{failed, failure}
+use Rattle.tt_trace.specs.Lines.{line_at, new_trace, with_command, with_procedure}
+use Rattle.tt_outcomes.specs.Endings.{error_ending, failure}
 use Rattle.tt_outcomes.specs.declared.ending.Ending.{Ending}
 use Rattle.tt_outcomes.specs.declared.ending.Ending.TheVariants.{Fine, Failed, Raised, Returned, Broke, Continued}
 use Rattle.tt_outcomes.specs.declared.ending.Failure.{Failure}
@@ -36,7 +36,7 @@ outside_message code.Continued = codes "invoked \"continue\" outside of a loop"
 outside_message code = codes "invoked \"break\" outside of a loop"
 
 abbrev pub outside : Code → Failure
-outside code = failure (outside_message code) (started (outside_message code)) 0
+outside code = failure (outside_message code) (new_trace (outside_message code)) 0
 
 -- an error in the body of a procedure, at a line of it
 abbrev pub outside_in : Failure → (name : List ℕ) → (line : ℕ) → Ending
@@ -45,7 +45,7 @@ outside_in fault name line = Failed (failure fault.message (with_procedure fault
 -- a return, by the code that it kept
 abbrev pub of_returned : (value : List ℕ) → (kept : Code) → Ending
 of_returned value code.Fine = Fine value
-of_returned value code.Failed = failed value
+of_returned value code.Failed = error_ending value
 of_returned value code.Returned = Returned value code.Fine
 of_returned value code.Broke = Broke value 0
 of_returned value code.Continued = Continued value 0

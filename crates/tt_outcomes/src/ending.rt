@@ -1,5 +1,5 @@
 ghost use Rattle.std.specs.Prelude.{◌≡◌, [], IfOk};
-ghost use Rattle.tt_outcomes.specs.Endings.{code_of, failed, fine, of_outcome, of_value, text_of};
+ghost use Rattle.tt_outcomes.specs.Endings.{code_of, error_ending, fine, of_outcome, of_value, text_of};
 
 use std::alloc::Global;
 use tt_calls::{Code, Outcome};
@@ -48,7 +48,7 @@ impl Ending {
     ///
     /// `NoMemory` if memory for its trace is refused.
     pub fn failed(alloc: Global, message: Text) -> Result<Self, NoMemory>
-        ensures failed { IfOk result (λ ending. ending ≡ failed message) }
+        ensures failed { IfOk result (λ ending. ending ≡ error_ending message) }
     {
         let trace = Trace::start(alloc, message.as_bytes())?;
         Ok(Ending::Failed(Failure {
@@ -62,7 +62,7 @@ impl Ending {
     ///
     /// `NoMemory` if memory for it is refused.
     pub fn failed_with(alloc: Global, message: &[u8]) -> Result<Self, NoMemory>
-        ensures failed { IfOk result (λ ending. ending ≡ failed message.now) }
+        ensures failed { IfOk result (λ ending. ending ≡ error_ending message.now) }
     {
         let message = Text::from_bytes(alloc, message)?;
         let ending = Ending::failed(alloc, message)?;

@@ -1,6 +1,6 @@
 //! Endings as outcomes, which other threads see.
 ghost use Rattle.std.specs.Prelude.{◌≡◌, IfOk};
-ghost use Rattle.tt_outcomes.specs.Endings.{kept_of, number_of, outcome_of, trace_of};
+ghost use Rattle.tt_outcomes.specs.Endings.{code_of_return, number_of, outcome_of, trace_of};
 
 use crate::Ending;
 use std::alloc::Global;
@@ -38,7 +38,7 @@ impl Ending {
 
     /// The code that a return keeps (return(n)).
     pub fn kept_code(&self) -> Code
-        ensures kept { result ≡ kept_of self.now }
+        ensures kept { result ≡ code_of_return self.now }
     {
         match self {
             Ending::Returned(_, kept) => *kept,

@@ -11,7 +11,7 @@ use Rattle.tt_calls.specs.declared.reply.Reply.TheVariants.{Go, Value, Refused, 
 use Rattle.tt_calls.specs.declared.reply.Step.TheVariants as step
 use Rattle.tt_lists.specs.Spelling.{list_of}
 use Rattle.tt_pools.specs.Jobs.{Cancelled, JobTable, begins, cancels, fails, finishes, at, has_none, is_done, is_job}
-use Rattle.tt_pools.specs.Jobs.{is_pending, oldest, outcome_of, posted, unfinished, without_outcome}
+use Rattle.tt_pools.specs.Jobs.{is_pending, oldest, outcome_of, with_posted_job, unfinished, without_outcome}
 use Rattle.tt_pools.specs.Pools.{PoolTable, is_allowed, new_id, new_pool, pool_ids, pool_of, with_new, with_pool}
 use Rattle.tt_pools.specs.Pools.{without_pool, worker_of}
 use Rattle.tt_pools.specs.declared.calls.Hold.{Hold}
@@ -120,7 +120,7 @@ grows text room reply pool =
 abbrev pub posts : (text script : List ℕ) → (detached : Bool) → (room : ℕ) → Pool → Done
 posts text script detached room pool =
     if pool.workers == 0 && room == 0 then does pool (Refused (codes "too many threads")) else
-    grows text room (job_reply pool.jobs detached) (with_jobs pool (posted pool.jobs script detached))
+    grows text room (job_reply pool.jobs detached) (with_jobs pool (with_posted_job pool.jobs script detached))
 
 abbrev pub posts_in : PoolTable → (text script : List ℕ) → (detached : Bool) → (room : ℕ) → Answered
 posts_in table text script detached room = in_pool (posts text script detached room) table text
@@ -140,8 +140,8 @@ looks table text listed =
 abbrev pub after_cancel : Pool → Cancelled → Done
 after_cancel pool left = does (with_jobs pool left.jobs) (Lists (list_of left.gone) (list_of left.others))
 
-abbrev pub cancelled : List (List ℕ) → Pool → Done
-cancelled listed pool = after_cancel pool (cancels pool.jobs listed)
+abbrev pub after_cancelling : List (List ℕ) → Pool → Done
+after_cancelling listed pool = after_cancel pool (cancels pool.jobs listed)
 
 -- tpool::get: what a job came to, once
 abbrev pub no_outcome : (job : List ℕ) → JobTable → List ℕ
@@ -158,15 +158,15 @@ takes_outcome job pool =
     ]
 
 -- tpool::preserve, tpool::release
-abbrev pub counted : Pool → ℤ → Pool
-counted pool more = record pool { count = pool.count +ℤ more }
+abbrev pub with_references : Pool → ℤ → Pool
+with_references pool more = record pool { count = pool.count +ℤ more }
 
 abbrev pub more : Hold → ℤ
 more Taken = pos 1
 more GivenUp = negsuc 0
 
 abbrev pub counts : ℤ → Pool → Done
-counts more pool = does (counted pool more) (Value (signed_decimal (counted pool more).count))
+counts more pool = does (with_references pool more) (Value (signed_decimal (with_references pool more).count))
 
 -- then a pool that nobody holds any more is closed, and its jobs are dropped
 abbrev pub is_unheld : Option Pool → Bool
@@ -221,7 +221,7 @@ act table t room marked (ask.Create least most init exit) = creates table least 
 act table t room marked ask.Names = answers table (Value (list_of (pool_ids table)))
 act table t room marked (ask.Post text script detached) = posts_in table text script detached room
 act table t room marked (ask.Look text listed) = looks table text listed
-act table t room marked (ask.Cancel text listed) = in_pool (cancelled listed) table text
+act table t room marked (ask.Cancel text listed) = in_pool (after_cancelling listed) table text
 act table t room marked (ask.Get text job) = in_pool (takes_outcome job) table text
 act table t room marked (ask.Preserve text) = in_pool (counts (pos 1)) table text
 act table t room marked (ask.Release text) = releases table text

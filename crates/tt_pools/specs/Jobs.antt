@@ -7,7 +7,7 @@ use Rattle.std.specs.List.{fold, list_any}
 use Rattle.std.specs.Map.{lookup, remove_entry, values_of}
 use Rattle.std.specs.Ordering.{nat_cmp}
 use Rattle.std.specs.Prelude.{bytes_eq}
-use Rattle.tt_calls.specs.Outcomes.{failed}
+use Rattle.tt_calls.specs.Outcomes.{error_outcome}
 use Rattle.tt_calls.specs.declared.outcome.Outcome.{Outcome}
 use Rattle.tt_ids.specs.Ids.{number_named}
 use Rattle.tt_pools.specs.declared.jobs.Begun.{Begun}
@@ -31,8 +31,8 @@ abbrev pub without : {X : Type 0} → List (ℕ × X) → ℕ → List (ℕ × X
 without jobs n = remove_entry (is_at (nat_cmp n)) jobs
 
 -- a job more, which draws a number also if it is detached
-abbrev pub posted : JobTable → (script : List ℕ) → (detached : Bool) → JobTable
-posted jobs script detached = record jobs {
+abbrev pub with_posted_job : JobTable → (script : List ℕ) → (detached : Bool) → JobTable
+with_posted_job jobs script detached = record jobs {
   queued = insert_entry nat_cmp jobs.queued jobs.next (record { script = script; detached = detached });
   next = jobs.next + 1;
 }
@@ -91,8 +91,8 @@ cancels jobs texts = fold cancels_one (record { jobs = jobs; gone = []; others =
 -- ---- workers ----
 
 -- the oldest job is begun by a worker
-abbrev pub begun_by : JobTable → ℕ → (ℕ × Queued) → List (ℕ × Queued) → JobTable
-begun_by jobs t job later = record jobs {
+abbrev pub with_begun_job : JobTable → ℕ → (ℕ × Queued) → List (ℕ × Queued) → JobTable
+with_begun_job jobs t job later = record jobs {
   queued = later;
   begun = insert_entry nat_cmp jobs.begun t (record { job = job.0; detached = job.1.detached });
 }
@@ -106,7 +106,7 @@ with_outcome jobs t job outcome =
 -- the end of a worker: its job has failed
 abbrev pub fails : JobTable → ℕ → Option Begun → JobTable
 fails jobs t None = jobs
-fails jobs t (Some job) = with_outcome jobs t job (failed (codes "target thread died"))
+fails jobs t (Some job) = with_outcome jobs t job (error_outcome (codes "target thread died"))
 
 abbrev pub has_none : {X : Type 0} → List (ℕ × X) → Bool
 has_none [] = true
@@ -126,7 +126,7 @@ oldest (job ∷ later) = Some job
 
 abbrev pub begins : JobTable → ℕ → List (ℕ × Queued) → JobTable
 begins jobs t [] = jobs
-begins jobs t (job ∷ later) = begun_by jobs t job later
+begins jobs t (job ∷ later) = with_begun_job jobs t job later
 
 abbrev pub is_job : ℕ → Option Begun → Bool
 is_job n None = false

@@ -2,7 +2,8 @@ ghost use Rattle.std.specs.Prelude.{◌≡◌, IfOk, OnOk, negsuc, pos};
 ghost use Rattle.std.specs.Option.{option_copied};
 ghost use Rattle.tt_calls.specs.declared.reply.Reply.TheVariants.{Refused, Value};
 ghost use Rattle.tt_lists.specs.Spelling.{list_of};
-ghost use Rattle.tt_pools.specs.Calls.{act, act_or_wait, cancelled, counts, creates, ends_in, in_pool, is_unheld};
+ghost use Rattle.tt_pools.specs.Calls.{act, act_or_wait, after_cancelling, counts, creates, ends_in, in_pool};
+ghost use Rattle.tt_pools.specs.Calls.{is_unheld};
 ghost use Rattle.tt_pools.specs.Calls.{looks, missing, posts_in, releases, replies, suspends, table_after_end};
 ghost use Rattle.tt_pools.specs.Calls.{takes_from, takes_outcome};
 ghost use Rattle.tt_pools.specs.Pools.{pool_ids, pool_of, without_pool};
@@ -140,8 +141,8 @@ impl Pools {
 
     // The listed jobs that no worker has begun are cancelled.
     fn cancel(&mut self, id: &Text, jobs: &[Text]) -> Result<PoolStep, NoMemory>
-        ensures table { OnOk result (self.new ≡ (in_pool (cancelled jobs.now) self.old id.now).table) }
-        ensures gives { IfOk result (λ gives. gives ≡ (in_pool (cancelled jobs.now) self.old id.now).gives) }
+        ensures table { OnOk result (self.new ≡ (in_pool (after_cancelling jobs.now) self.old id.now).table) }
+        ensures gives { IfOk result (λ gives. gives ≡ (in_pool (after_cancelling jobs.now) self.old id.now).gives) }
     {
         let alloc = self.alloc;
         let Some(number) = id_number(IdKind::Pool, id.as_bytes()) else {

@@ -1,5 +1,5 @@
 ghost use Rattle.std.specs.Prelude.{◌≡◌, IfOk, OnOk};
-ghost use Rattle.tt_pools.specs.Calls.{cancelled};
+ghost use Rattle.tt_pools.specs.Calls.{after_cancelling};
 ghost use Rattle.tt_pools.specs.Jobs.{cancels, cancels_one};
 ghost use Rattle.tt_pools.specs.inside.Cancelling.{so_far};
 
@@ -20,8 +20,8 @@ struct Listed {
 impl Pool {
     // The listed jobs that no worker has begun are cancelled.
     pub(crate) fn cancel(&mut self, alloc: Global, listed: &[Text]) -> Result<PoolStep, NoMemory>
-        ensures pool { OnOk result (self.new ≡ (cancelled listed.now self.old).pool) }
-        ensures gives { IfOk result (λ gives. gives ≡ (cancelled listed.now self.old).gives) }
+        ensures pool { OnOk result (self.new ≡ (after_cancelling listed.now self.old).pool) }
+        ensures gives { IfOk result (λ gives. gives ≡ (after_cancelling listed.now self.old).gives) }
     {
         let left = cancel_all(alloc, &mut self.jobs, listed)?;
         let gone = join_list(alloc, left.gone.as_slice())?;

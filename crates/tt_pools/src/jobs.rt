@@ -1,9 +1,9 @@
 ghost use Rattle.std.specs.Prelude.{◌≡◌, ◌↔◌, IsTrue, IfNone, IfOk, OnOk, codes};
-ghost use Rattle.tt_calls.specs.Outcomes.{failed};
+ghost use Rattle.tt_calls.specs.Outcomes.{error_outcome};
 ghost use Rattle.std.specs.List.{list_any};
 ghost use Rattle.std.specs.Map.{values_of};
 ghost use Rattle.tt_pools.specs.Jobs.{at, begins, fails, finishes, has_none, is_begun, is_done, is_job, is_own_begun};
-ghost use Rattle.tt_pools.specs.Jobs.{is_pending, is_queued, no_jobs, oldest, outcome_of, posted, unfinished};
+ghost use Rattle.tt_pools.specs.Jobs.{is_pending, is_queued, no_jobs, oldest, outcome_of, with_posted_job, unfinished};
 ghost use Rattle.tt_pools.specs.Jobs.{with_outcome, without_outcome, without_queued};
 
 use std::alloc::Global;
@@ -65,7 +65,7 @@ impl Jobs {
 
     // A job more, and its number.
     pub(crate) fn post(&mut self, script: Text, detached: bool) -> Result<u64, NoMemory>
-        ensures posted { OnOk result (self.new ≡ posted self.old script detached) }
+        ensures posted { OnOk result (self.new ≡ with_posted_job self.old script detached) }
         ensures number { IfOk result (λ number. number ≡ self.old.next) }
     {
         let number = self.next;
@@ -211,7 +211,7 @@ impl Jobs {
 
 // What a job comes to whose worker has ended.
 fn died(alloc: Global) -> Result<Outcome, NoMemory>
-    ensures { IfOk result (λ outcome. outcome ≡ failed (codes "target thread died")) }
+    ensures { IfOk result (λ outcome. outcome ≡ error_outcome (codes "target thread died")) }
 {
     let message = Text::from_bytes(alloc, b"target thread died")?;
     let outcome = Outcome::failed(message)?;

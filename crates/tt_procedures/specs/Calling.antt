@@ -1,7 +1,7 @@
 -- The call of a procedure: the values of its parameters, and how its usage is reported (proc(n)).
 use Rattle.std.specs.Prelude.{ℕ, Bool, true, false, bytes_eq, List, [], ◌∷◌, ◌++◌, codes, drop, Option, Some, None}
 use Rattle.std.specs.Option.{option_map}
-use Rattle.tt_calls.specs.Outcomes.{failed}
+use Rattle.tt_calls.specs.Outcomes.{error_outcome}
 use Rattle.tt_lists.specs.Spelling.{list_of}
 use Rattle.tt_procedures.specs.declared.calling.Argument.{Argument}
 use Rattle.tt_procedures.specs.declared.calling.Called.{Called}
@@ -62,9 +62,9 @@ abbrev pub usage : (word : List ℕ) → List Parameter → List ℕ
 usage word parameters = word ++ usage_parts parameters
 
 -- the call of a procedure by this word with these words after it
-abbrev pub called_with : Option (List Argument) → (word : List ℕ) → Procedure → Called
-called_with (Some arguments) word procedure = Body arguments procedure.body
-called_with None word procedure = Wrong (failed (wrong_number (usage word procedure.parameters)))
+abbrev pub call_with : Option (List Argument) → (word : List ℕ) → Procedure → Called
+call_with (Some arguments) word procedure = Body arguments procedure.body
+call_with None word procedure = Wrong (error_outcome (wrong_number (usage word procedure.parameters)))
 
 abbrev pub call_of : (word : List ℕ) → (words : List (List ℕ)) → Procedure → Called
-call_of word words procedure = called_with (arguments_of procedure.parameters words) word procedure
+call_of word words procedure = call_with (arguments_of procedure.parameters words) word procedure

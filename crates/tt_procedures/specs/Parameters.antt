@@ -14,14 +14,14 @@ abbrev pub is_good : (name : List ℕ) → Bool
 is_good [] = false
 is_good (b ∷ name) = not (is_some (element_of (b ∷ name))) && not (is_some (global_of (b ∷ name)))
 
-abbrev pub named : (name : List ℕ) → (default : Option (List ℕ)) → Option Parameter
-named name default = if is_good name then Some (record { name = name; default = default }) else None
+abbrev pub parameter_named : (name : List ℕ) → (default : Option (List ℕ)) → Option Parameter
+parameter_named name default = if is_good name then Some (record { name = name; default = default }) else None
 
 -- `name` or `{name default}`
 abbrev pub parameter_in : (items : List (List ℕ)) → Option Parameter
 parameter_in [] = None
-parameter_in (name ∷ []) = named name None
-parameter_in (name ∷ default ∷ []) = named name (Some default)
+parameter_in (name ∷ []) = parameter_named name None
+parameter_in (name ∷ default ∷ []) = parameter_named name (Some default)
 parameter_in (name ∷ default ∷ more ∷ items) = None
 
 -- a parameter's text that is no list is bad too
@@ -33,16 +33,16 @@ abbrev pub parameter_of : (text : List ℕ) → Option Parameter
 parameter_of text = parameter_by (split_of text)
 
 -- the parameters of texts after those that were read, or what is reported of the first bad one
-abbrev pub read_from : (read : List Parameter) → (texts : List (List ℕ)) → Result (List Parameter) (List ℕ)
-read_from read [] = Ok read
-read_from read (text ∷ texts) =
+abbrev pub parameters_from : (read : List Parameter) → (texts : List (List ℕ)) → Result (List Parameter) (List ℕ)
+parameters_from read [] = Ok read
+parameters_from read (text ∷ texts) =
     elim (parameter_of text) [
-      | Some parameter ↦ read_from (read ++ parameter ∷ []) texts
+      | Some parameter ↦ parameters_from (read ++ parameter ∷ []) texts
       | None ↦ Err (bad_parameter text)
     ]
 
 abbrev pub parameters_by : Split → Result (List Parameter) (List ℕ)
-parameters_by (Items texts) = read_from [] texts
+parameters_by (Items texts) = parameters_from [] texts
 parameters_by (Bad fault) = Err (list_message fault)
 
 -- the parameters of a list, or why it is none

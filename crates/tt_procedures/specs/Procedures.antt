@@ -7,7 +7,7 @@ use Rattle.indexmap.specs.IndexMap.{insert_entry}
 use Rattle.tt_text.specs.Characters.{characters}
 use Rattle.tt_text.specs.GlobFunction.{is_match}
 use Rattle.tt_calls.specs.declared.outcome.Outcome.{Outcome}
-use Rattle.tt_calls.specs.Outcomes.{failed, fine}
+use Rattle.tt_calls.specs.Outcomes.{error_outcome, fine}
 use Rattle.tt_lists.specs.Spelling.{list_of}
 use Rattle.tt_script.specs.Names.{plain_name}
 use Rattle.tt_procedures.specs.declared.calling.Called.{Called}
@@ -22,8 +22,8 @@ abbrev pub Table : Type 0
 Table = List (List ℕ × Procedure)
 
 -- the procedure that a word names
-abbrev pub named_by : (word : List ℕ) → Table → Option Procedure
-named_by word table = lookup (bytes_eq (plain_name word)) table
+abbrev pub procedure_named : (word : List ℕ) → Table → Option Procedure
+procedure_named word table = lookup (bytes_eq (plain_name word)) table
 
 -- the table if the name is this procedure: in the place of an older one, or last
 abbrev pub with_procedure : Table → (name : List ℕ) → Procedure → Table
@@ -31,7 +31,7 @@ with_procedure table name procedure = insert_entry bytes_eq table name procedure
 
 -- a command fails, and changes nothing
 abbrev pub Fails : (message : List ℕ) → (old : Table) → Outcome → (new : Table) → Type 0
-Fails message old outcome new = (outcome ≡ failed message) × (new ≡ old)
+Fails message old outcome new = (outcome ≡ error_outcome message) × (new ≡ old)
 
 -- a procedure is defined, if its parameters could be read
 abbrev pub DefinesBy :
@@ -55,7 +55,7 @@ Defines words old outcome new = Fails (wrong_number (codes "proc name args body"
 -- a command, its name first, as the call of a procedure
 abbrev pub call : Table → (words : List (List ℕ)) → Option Called
 call table [] = None
-call table (word ∷ words) = option_map (call_of word words) (named_by word table)
+call table (word ∷ words) = option_map (call_of word words) (procedure_named word table)
 
 -- a name is like the pattern
 abbrev pub is_like : (pattern name : List ℕ) → Bool
@@ -65,4 +65,4 @@ is_like pattern name = is_match (characters pattern) (characters name)
 abbrev pub names : Table → (words : List (List ℕ)) → Outcome
 names table [] = fine (list_of (keys_of table))
 names table (pattern ∷ []) = fine (list_of (filter (is_like pattern) (keys_of table)))
-names table (pattern ∷ more ∷ words) = failed (wrong_number (codes "info procs ?pattern?"))
+names table (pattern ∷ more ∷ words) = error_outcome (wrong_number (codes "info procs ?pattern?"))

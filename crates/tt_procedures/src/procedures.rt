@@ -114,7 +114,7 @@ impl Procedures {
     }
 
     fn named_by(&self, word: &Text) -> Result<Option<&Procedure>, NoMemory>
-        ensures { IfOk result (λ found. option_copied found ≡ procedures.named_by word.now self.now) }
+        ensures { IfOk result (λ found. option_copied found ≡ procedures.procedure_named word.now self.now) }
     {
         let name = Text::from_bytes(*self.map.allocator(), plain_name(word.as_bytes()))?;
         Ok(self.map.get(&name))

@@ -23,7 +23,7 @@ pub(crate) fn parameters_of(
 }
 
 fn read(alloc: Global, texts: &[Text]) -> Result<Result<Parameters, Text>, NoMemory>
-    ensures { IfOk result (λ read. read ≡ parameters.read_from [] texts.now) }
+    ensures { IfOk result (λ read. read ≡ parameters.parameters_from [] texts.now) }
 {
     let mut parameters = Parameters::new(alloc);
     for text in texts {
@@ -58,7 +58,7 @@ fn parameter_in(items: &[Text]) -> Result<Option<Parameter>, NoMemory>
 }
 
 fn named(name: &Text, default: Option<Text>) -> Result<Option<Parameter>, NoMemory>
-    ensures { IfOk result (λ parameter. parameter ≡ parameters.named name.now default) }
+    ensures { IfOk result (λ parameter. parameter ≡ parameters.parameter_named name.now default) }
 {
     if !is_good(name.as_bytes()) {
         return Ok(None);

@@ -20,8 +20,8 @@ spelling Decreasing = codes "-decreasing"
 spelling Unique = codes "-unique"
 
 -- the one of these that a word is
-abbrev pub named : (known : List Flag) → (word : List ℕ) → Option Flag
-named known word = find (λ flag. bytes_eq word (spelling flag)) known
+abbrev pub flag_named : (known : List Flag) → (word : List ℕ) → Option Flag
+flag_named known word = find (λ flag. bytes_eq word (spelling flag)) known
 
 -- a word that is meant as an option: it begins with `-`, and is longer
 abbrev pub is_meant : (word : List ℕ) → Bool
@@ -31,4 +31,4 @@ is_meant (b ∷ next ∷ word) = b == 45
 
 -- the first word that is meant as an option, and is none of these
 abbrev pub first_unknown : (known : List Flag) → (words : List (List ℕ)) → Option (List ℕ)
-first_unknown known words = find (λ word. is_meant word && not (is_some (named known word))) words
+first_unknown known words = find (λ word. is_meant word && not (is_some (flag_named known word))) words

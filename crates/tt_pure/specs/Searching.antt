@@ -4,7 +4,7 @@ use Rattle.tt_lists.specs.Searching.{search_answer}
 use Rattle.tt_lists.specs.declared.answer.ListAnswer.{ListAnswer}
 use Rattle.tt_lists.specs.declared.searching.Matching.TheVariants as matching
 use Rattle.tt_lists.specs.declared.searching.Search.{Search}
-use Rattle.tt_pure.specs.Flags.{first_unknown, named}
+use Rattle.tt_pure.specs.Flags.{first_unknown, flag_named}
 use Rattle.tt_pure.specs.Usages.{bad_option}
 use Rattle.tt_pure.specs.declared.flags.Flag.{Flag}
 use Rattle.tt_pure.specs.declared.flags.Flag.TheVariants.{Exact, Glob, All, Inline, Not}
@@ -30,7 +30,7 @@ with_flag how flag = how
 abbrev pub with_flags : Search → (words : List (List ℕ)) → Option Search
 with_flags how [] = Some how
 with_flags how (word ∷ words) =
-    elim (named search_flags word) [
+    elim (flag_named search_flags word) [
       | Some flag ↦ with_flags (with_flag how flag) words
       | None ↦ None
     ]

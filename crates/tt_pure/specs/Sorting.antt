@@ -3,7 +3,7 @@ use Rattle.std.specs.Prelude.{◌≡◌, ℕ, ◌-◌, true, false, List, [], �
 use Rattle.tt_lists.specs.declared.answer.ListAnswer.{ListAnswer}
 use Rattle.tt_list_commands.specs.Sorting.{IsSortAnswer}
 use Rattle.tt_list_commands.specs.declared.sorting.Sorting.{Sorting}
-use Rattle.tt_pure.specs.Flags.{first_unknown, named}
+use Rattle.tt_pure.specs.Flags.{first_unknown, flag_named}
 use Rattle.tt_pure.specs.Usages.{bad_option}
 use Rattle.tt_pure.specs.declared.flags.Flag.{Flag}
 use Rattle.tt_pure.specs.declared.flags.Flag.TheVariants.{Ascii, Integer, Increasing, Decreasing, Unique}
@@ -29,7 +29,7 @@ with_flag how flag = how
 abbrev pub with_flags : Sorting → (words : List (List ℕ)) → Option Sorting
 with_flags how [] = Some how
 with_flags how (word ∷ words) =
-    elim (named sort_flags word) [
+    elim (flag_named sort_flags word) [
       | Some flag ↦ with_flags (with_flag how flag) words
       | None ↦ None
     ]

@@ -17,7 +17,7 @@ use Rattle.tt_number.specs.Messages.{number_message}
 use Rattle.tt_number.specs.Numerals.{whole_of}
 use Rattle.tt_number.specs.declared.numeral.NumberFault.{NumberFault}
 use Rattle.tt_strings.specs.Finding.{IsFirstPlace, IsLastPlace}
-use Rattle.tt_strings.specs.Making.{IsRepeated, compared}
+use Rattle.tt_strings.specs.Making.{IsRepeated, comparison}
 use Rattle.tt_strings.specs.Mapping.{IsMapped}
 use Rattle.tt_strings.specs.Places.{character_at, bytes_of, range}
 use Rattle.tt_strings.specs.Trimming.{trim}
@@ -59,7 +59,7 @@ reverse_answer wrong words = wrong
 
 -- string compare
 abbrev pub compare_answer : (wrong : ListAnswer) → (words : List (List ℕ)) → ListAnswer
-compare_answer wrong (text ∷ other ∷ []) = Made (signed_decimal (compared text other))
+compare_answer wrong (text ∷ other ∷ []) = Made (signed_decimal (comparison text other))
 compare_answer wrong words = wrong
 
 -- 1 for what is so, and 0
@@ -147,11 +147,11 @@ upper_answer wrong (text ∷ []) = Made (map to_ascii_uppercase text)
 upper_answer wrong words = wrong
 
 -- a text trimmed of characters
-abbrev pub trimmed_of : Side → (text trimmed : List ℕ) → ListAnswer
-trimmed_of side text trimmed = Made (bytes_of (trim side (characters trimmed) (characters text)))
+abbrev pub trim_text : Side → (text trimmed : List ℕ) → ListAnswer
+trim_text side text trimmed = Made (bytes_of (trim side (characters trimmed) (characters text)))
 
 -- string trim, trimleft and trimright: without characters, of white space
 abbrev pub trim_answer : Side → (wrong : ListAnswer) → (words : List (List ℕ)) → ListAnswer
-trim_answer side wrong (text ∷ []) = trimmed_of side text WHITE_SPACE.now
-trim_answer side wrong (text ∷ trimmed ∷ []) = trimmed_of side text trimmed
+trim_answer side wrong (text ∷ []) = trim_text side text WHITE_SPACE.now
+trim_answer side wrong (text ∷ trimmed ∷ []) = trim_text side text trimmed
 trim_answer side wrong words = wrong

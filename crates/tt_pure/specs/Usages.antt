@@ -1,6 +1,6 @@
 -- How words that a command doesn't take are reported, and what becomes of an answer.
 use Rattle.std.specs.Prelude.{ℕ, List}
-use Rattle.tt_calls.specs.Outcomes.{failed, fine}
+use Rattle.tt_calls.specs.Outcomes.{error_outcome, fine}
 use Rattle.tt_calls.specs.Usages as usages
 use Rattle.tt_calls.specs.declared.outcome.Outcome.{Outcome}
 use Rattle.tt_lists.specs.declared.answer.ListAnswer.{ListAnswer}
@@ -17,4 +17,4 @@ bad_option word = Bad (usages.bad_option word)
 -- how the command ends
 abbrev pub outcome_of : ListAnswer → Outcome
 outcome_of (Made text) = fine text
-outcome_of (Bad message) = failed message
+outcome_of (Bad message) = error_outcome message

@@ -39,7 +39,7 @@ fn spelling(flag: Flag) -> &'static [u8]
 
 /// The one of these options that a word is.
 pub(crate) fn named(known: &[Flag], word: &[u8]) -> Option<Flag>
-    ensures { result ≡ flags.named known.now word.now }
+    ensures { result ≡ flags.flag_named known.now word.now }
 {
     known.iter().copied().find(|flag| word == spelling(*flag))
 }

@@ -1,6 +1,6 @@
 //! What commands make, of what lower crates answer.
 ghost use Rattle.std.specs.Prelude.{◌≡◌, IfOk};
-ghost use Rattle.tt_lists.specs.Commands.{made_of};
+ghost use Rattle.tt_lists.specs.Commands.{list_or_message};
 ghost use Rattle.tt_lists.specs.Messages.{list_message};
 ghost use Rattle.tt_lists.specs.declared.answer.ListAnswer.TheVariants.{Bad};
 ghost use Rattle.tt_pure.specs.Usages.{bad_option, outcome_of, wrong_number};
@@ -13,7 +13,7 @@ use tt_value::{Made, Value};
 
 /// The list of the items that were made, or the message.
 pub(crate) fn listed(made: Result<Texts, Text>) -> Result<Made, NoMemory>
-    ensures { IfOk result (λ listed. listed ≡ made_of made) }
+    ensures { IfOk result (λ listed. listed ≡ list_or_message made) }
 {
     match made {
         Ok(items) => Ok(Made::value(Value::from_items(items.into_vec())?)),

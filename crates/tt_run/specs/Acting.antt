@@ -2,7 +2,7 @@
 use Rattle.std.specs.Prelude.{◌≡◌, ◌≢◌, ◌⊎◌, ℕ, Bool, true, false, List, [], ◌∷◌, ◌++◌, Option}
 use Rattle.std.specs.Io.KnownBytes.{Keeps}
 use Rattle.tt_calls.specs.declared.request.Request.{Request}
-use Rattle.tt_run.specs.Desk.{Devices, Ground, unread}
+use Rattle.tt_run.specs.Desk.{Devices, Ground, input_left}
 use Rattle.tt_run.specs.declared.desk.Acted.{Acted}
 use Rattle.tt_lines.specs.Lines.{ReadsKnown, reads_line}
 use Rattle.tt_shared.specs.Acts.{act}
@@ -12,7 +12,7 @@ use Rattle.tt_shared.specs.declared.applied.Line.TheVariants.{NotRead}
 
 -- a line is read for the request that asks for one; any other leaves standard input as it is
 abbrev pub ReadsBy : {S K E : Type 0} → Bool → (held : S → Option (List ℕ)) → (old new : Devices S K E) → Line → Type 0
-ReadsBy true held old new line = ReadsKnown (unread held old) (unread held new) line
+ReadsBy true held old new line = ReadsKnown (input_left held old) (input_left held new) line
 ReadsBy false held old new line = (line ≡ NotRead) × (new.input ≡ old.input) × (new.ahead ≡ old.ahead)
 
 -- what a sink got grew by a piece, or by a part of it
@@ -45,6 +45,6 @@ Writes gives = (gives.out ≢ []) ⊎ (gives.err ≢ [])
 pub record ReadsNothing {S K E : Type 0} (held : S → Option (List ℕ)) (old new : Ground S K E) : Type 0 where
   pub shared : new.shared ≡ old.shared
   pub schedule : new.schedule ≡ old.schedule
-  pub unread : Keeps (unread held old.devices) (unread held new.devices)
+  pub unread : Keeps (input_left held old.devices) (input_left held new.devices)
   pub output : new.devices.output ≡ old.devices.output
   pub errors : new.devices.errors ≡ old.devices.errors

@@ -22,8 +22,8 @@ pub record Ground (S K E : Type 0) : Type 0 where
   pub kept : Option StepFault
 
 -- what standard input still has, if it shows that
-abbrev pub unread : {S K E : Type 0} → (held : S → Option (List ℕ)) → Devices S K E → Option (List ℕ)
-unread held devices = prepend_known devices.ahead (held devices.input)
+abbrev pub input_left : {S K E : Type 0} → (held : S → Option (List ℕ)) → Devices S K E → Option (List ℕ)
+input_left held devices = prepend_known devices.ahead (held devices.input)
 
 -- a thread that lives can be answered its request, if the run is not over and nothing was met
 abbrev pub can_act : {S K E : Type 0} → Ground S K E → (thread : ℕ) → Request → Bool

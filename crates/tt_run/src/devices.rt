@@ -1,7 +1,7 @@
 ghost use Rattle.std.specs.Prelude.{◌≡◌, ◌≢◌, ◌⊎◌, [], true, Err, IfOk, IfErr, OnOk, OnErr, IsErrOf};
 ghost use Rattle.std.specs.Io.KnownBytes.{Keeps};
 ghost use Rattle.tt_run.specs.Acting.{ReadsBy};
-ghost use Rattle.tt_run.specs.Desk.{unread};
+ghost use Rattle.tt_run.specs.Desk.{input_left};
 ghost use Rattle.tt_devices.specs.Faults.{Rises};
 ghost use Rattle.tt_devices.specs.Streams.{Grows, GrowsByPart, LosesPart};
 ghost use Rattle.tt_lines.specs.Lines.{IsInLine, reads_line};
@@ -55,7 +55,7 @@ impl<S: Source, K: Sink, E: Sink> Devices<S, K, E> {
         ensures cause { IsErrOf result StepFault.ReadFault →
             Rises (S.fault_count self.old.input) (S.fault_count self.new.input) × (reads_line request.now ≡ true) }
         ensures nothing_lost { IsErrOf result StepFault.ReadFault →
-            Keeps (unread S.held self.old) (unread S.held self.new) }
+            Keeps (input_left S.held self.old) (input_left S.held self.new) }
         ensures steady { (result ≢ Err StepFault.ReadFault) →
             S.fault_count self.new.input ≡ S.fault_count self.old.input }
         ensures others { (self.new.output ≡ self.old.output) × (self.new.errors ≡ self.old.errors) }

@@ -6,8 +6,8 @@ use Rattle.std.proofs.lemmas.Bool.{eq-eqb, ne_eqb, lt-ltb, le-ltb}
 use Rattle.std.specs.Prelude.{nat_lt}
 use Rattle.tt_text.specs.Characters.{is_white_space, is_blank}
 use Rattle.tt_script.specs.Words.{PlainParts, PlainWord}
-use Rattle.tt_script.specs.Reading.{Read, takes, fails, after, mapped, and_then, begins, Level, level, parts, separates}
-use Rattle.tt_script.specs.Reading.{separated, is_terminator, continues_line, ends_command, quoted, braced, word_parts}
+use Rattle.tt_script.specs.Reading.{Read, takes, fails, after, map_read, and_then, begins, Level, level, parts, separates}
+use Rattle.tt_script.specs.Reading.{before_separator, is_terminator, continues_line, ends_command, quoted_word, braced, word_parts}
 use Rattle.tt_script.specs.Reading.{expands, begins_black, word, words, gap, skipped, commands}
 use Rattle.tt_script.specs.declared.command.ParseFault.{ParseFault}
 use Rattle.tt_script.specs.declared.command.ParseFault.TheVariants.{AfterQuote, CloseBracket}
@@ -20,20 +20,20 @@ use Rattle.tt_script.proofs.Readers.{after-after, after-zero, after-mapped}
 -- ---- words in quotes ----
 
 pub quoted-on : (place : Place) (level : Level) (text : List ℕ) →
-    quoted place level text ≡ and_then (parts level endings.Quote 0 text) (λ value n. separated place AfterQuote text value (n + 1))
-unfolding quoted
+    quoted_word place level text ≡ and_then (parts level endings.Quote 0 text) (λ value n. before_separator place AfterQuote text value (n + 1))
+unfolding quoted_word
 quoted-on place level text = refl
 
 pub separated-yes : (place : Place) (fault : ParseFault) (text : List ℕ) (value : PlainParts) (n : ℕ) → separates place (drop n text) ≡ true →
-    separated place fault text value n ≡ takes value n
-separated-yes place fault text value n e = rw (e, separated)
+    before_separator place fault text value n ≡ takes value n
+separated-yes place fault text value n e = rw (e, before_separator)
 
 pub separated-none : (place : Place) (fault : ParseFault) (text : List ℕ) (value : PlainParts) (n : ℕ) → separates place (drop n text) ≡ false →
-    separated place fault text value n ≡ fails fault
-separated-none place fault text value n e = rw (e, separated)
+    before_separator place fault text value n ≡ fails fault
+separated-none place fault text value n e = rw (e, before_separator)
 
 separated-moved : (place : Place) (fault : ParseFault) (text : List ℕ) (from : ℕ) (value : PlainParts) (n : ℕ) →
-    after from (separated place fault (drop from text) value (n + 1)) ≡ separated place fault text value (from + n + 1)
+    after from (before_separator place fault (drop from text) value (n + 1)) ≡ before_separator place fault text value (from + n + 1)
 separated-moved place fault text from value n = go (separates place (drop (from + n + 1) text)) refl
   where
     order : from + (n + 1) ≡ from + n + 1
@@ -43,7 +43,7 @@ separated-moved place fault text from value n = go (separates place (drop (from 
     same = drop-drop (n + 1) from text ∙ ap (λ k. drop k text) order
 
     go : (v : Bool) → separates place (drop (from + n + 1) text) ≡ v →
-        after from (separated place fault (drop from text) value (n + 1)) ≡ separated place fault text value (from + n + 1)
+        after from (before_separator place fault (drop from text) value (n + 1)) ≡ before_separator place fault text value (from + n + 1)
     go true e = ap (after from) (separated-yes place fault (drop from text) value (n + 1) (ap (separates place) same ∙ e)) ∙ ap (takes value) order
         ∙ sym (separated-yes place fault text value (from + n + 1) e)
     go false e =
@@ -51,34 +51,34 @@ separated-moved place fault text from value n = go (separates place (drop (from 
         ∙ sym (separated-none place fault text value (from + n + 1) e)
 
 module _ (place : Place) (level : Level) (text : List ℕ) (from : ℕ) where
-  pub quoted_at : after from (quoted place level (drop from text)) ≡ and_then (after from (parts level endings.Quote 0 (drop from text)))
-      (λ value n. separated place AfterQuote text value (n + 1))
+  pub quoted_at : after from (quoted_word place level (drop from text)) ≡ and_then (after from (parts level endings.Quote 0 (drop from text)))
+      (λ value n. before_separator place AfterQuote text value (n + 1))
   quoted_at = ap (after from) (quoted-on place level (drop from text)) ∙ go (parts level endings.Quote 0 (drop from text))
     where
       go : (r : Read PlainParts) →
-          after from (and_then r (λ value n. separated place AfterQuote (drop from text) value (n + 1))) ≡ and_then (after from r)
-          (λ value n. separated place AfterQuote text value (n + 1))
+          after from (and_then r (λ value n. before_separator place AfterQuote (drop from text) value (n + 1))) ≡ and_then (after from r)
+          (λ value n. before_separator place AfterQuote text value (n + 1))
       go (fails fault) = refl
       go (takes value n) = separated-moved place AfterQuote text from value n
 
   pub quoted_at-closed : (value : PlainParts) (end : ℕ) → after from (parts level endings.Quote 0 (drop from text)) ≡ takes value end →
-      separates place (drop (end + 1) text) ≡ true → after from (quoted place level (drop from text)) ≡ takes value (end + 1)
+      separates place (drop (end + 1) text) ≡ true → after from (quoted_word place level (drop from text)) ≡ takes value (end + 1)
   quoted_at-closed value end e f =
-      quoted_at ∙ ap (λ r. and_then r (λ v n. separated place AfterQuote text v (n + 1))) e ∙ separated-yes place AfterQuote text value (end + 1) f
+      quoted_at ∙ ap (λ r. and_then r (λ v n. before_separator place AfterQuote text v (n + 1))) e ∙ separated-yes place AfterQuote text value (end + 1) f
 
   pub quoted_at-fault : (fault : ParseFault) → after from (parts level endings.Quote 0 (drop from text)) ≡ fails fault →
-      after from (quoted place level (drop from text)) ≡ fails fault
-  quoted_at-fault fault e = quoted_at ∙ ap (λ r. and_then r (λ v n. separated place AfterQuote text v (n + 1))) e
+      after from (quoted_word place level (drop from text)) ≡ fails fault
+  quoted_at-fault fault e = quoted_at ∙ ap (λ r. and_then r (λ v n. before_separator place AfterQuote text v (n + 1))) e
 
   pub quoted_at-after : (value : PlainParts) (end : ℕ) → after from (parts level endings.Quote 0 (drop from text)) ≡ takes value end →
-      separates place (drop (end + 1) text) ≡ false → after from (quoted place level (drop from text)) ≡ fails AfterQuote
+      separates place (drop (end + 1) text) ≡ false → after from (quoted_word place level (drop from text)) ≡ fails AfterQuote
   quoted_at-after value end e f =
-      quoted_at ∙ ap (λ r. and_then r (λ v n. separated place AfterQuote text v (n + 1))) e ∙ separated-none place AfterQuote text value (end + 1) f
+      quoted_at ∙ ap (λ r. and_then r (λ v n. before_separator place AfterQuote text v (n + 1))) e ∙ separated-none place AfterQuote text value (end + 1) f
 
 -- ---- the parts of a word ----
 
 module _ (place : Place) (level : Level) (text : List ℕ) where
-  pub parts-quoted : begins 34 text ≡ true → word_parts place level text ≡ after 1 (quoted place level (drop 1 text))
+  pub parts-quoted : begins 34 text ≡ true → word_parts place level text ≡ after 1 (quoted_word place level (drop 1 text))
   unfolding word_parts
   parts-quoted e = rw (e, word_parts)
 
@@ -92,10 +92,10 @@ module _ (place : Place) (level : Level) (text : List ℕ) where
 
 module _ (place : Place) (level : Level) (text : List ℕ) (from : ℕ) where
   pub parts_at-quoted : begins 34 (drop from text) ≡ true →
-      after from (word_parts place level (drop from text)) ≡ after (from + 1) (quoted place level (drop (from + 1) text))
+      after from (word_parts place level (drop from text)) ≡ after (from + 1) (quoted_word place level (drop (from + 1) text))
   parts_at-quoted e =
-      ap (after from) (parts-quoted place level (drop from text) e) ∙ after-after from 1 (quoted place level (drop 1 (drop from text)))
-      ∙ ap (λ rest. after (from + 1) (quoted place level rest)) (drop-drop 1 from text)
+      ap (after from) (parts-quoted place level (drop from text) e) ∙ after-after from 1 (quoted_word place level (drop 1 (drop from text)))
+      ∙ ap (λ rest. after (from + 1) (quoted_word place level rest)) (drop-drop 1 from text)
 
   pub parts_at-braced : begins 34 (drop from text) ≡ false → begins 123 (drop from text) ≡ true →
       after from (word_parts place level (drop from text)) ≡ after (from + 1) (braced place (drop (from + 1) text))
@@ -113,25 +113,25 @@ abbrev pub made : Bool → PlainParts → PlainWord
 made expand parts = record { expand = expand; parts = parts }
 
 module _ (place : Place) (level : Level) (text : List ℕ) where
-  pub word-expands : expands text ≡ true → word place level text ≡ after 3 (mapped (made true) (word_parts place level (drop 3 text)))
+  pub word-expands : expands text ≡ true → word place level text ≡ after 3 (map_read (made true) (word_parts place level (drop 3 text)))
   unfolding word
   word-expands e = rw (e, word)
 
-  pub word-plain : expands text ≡ false → word place level text ≡ mapped (made false) (word_parts place level text)
+  pub word-plain : expands text ≡ false → word place level text ≡ map_read (made false) (word_parts place level text)
   unfolding word
   word-plain e = rw (e, word)
 
 module _ (place : Place) (level : Level) (text : List ℕ) (from : ℕ) where
   pub word_at-expands : expands (drop from text) ≡ true →
-      after from (word place level (drop from text)) ≡ mapped (made true) (after (from + 3) (word_parts place level (drop (from + 3) text)))
+      after from (word place level (drop from text)) ≡ map_read (made true) (after (from + 3) (word_parts place level (drop (from + 3) text)))
   word_at-expands e =
       ap (after from) (word-expands place level (drop from text) e)
-      ∙ after-after from 3 (mapped (made true) (word_parts place level (drop 3 (drop from text))))
-      ∙ ap (λ rest. after (from + 3) (mapped (made true) (word_parts place level rest))) (drop-drop 3 from text)
+      ∙ after-after from 3 (map_read (made true) (word_parts place level (drop 3 (drop from text))))
+      ∙ ap (λ rest. after (from + 3) (map_read (made true) (word_parts place level rest))) (drop-drop 3 from text)
       ∙ after-mapped (from + 3) (made true) (word_parts place level (drop (from + 3) text))
 
   pub word_at-plain : expands (drop from text) ≡ false →
-      after from (word place level (drop from text)) ≡ mapped (made false) (after from (word_parts place level (drop from text)))
+      after from (word place level (drop from text)) ≡ map_read (made false) (after from (word_parts place level (drop from text)))
   word_at-plain e = ap (after from) (word-plain place level (drop from text) e) ∙ after-mapped from (made false) (word_parts place level (drop from text))
 
 and-both : (p q : Bool) → p && q ≡ true → (p ≡ true) × (q ≡ true)
@@ -152,11 +152,11 @@ expands-room text from e =
 -- where a word's parts begin
 module _ (place : Place) (text : List ℕ) (from start : ℕ) where
   pub word_at : (level : Level) (expand : Bool) → expands (drop from text) ≡ expand → (expand ≡ true → start ≡ from + 3) → (expand ≡ false → start ≡ from)
-      → after from (word place level (drop from text)) ≡ mapped (made expand) (after start (word_parts place level (drop start text)))
+      → after from (word place level (drop from text)) ≡ map_read (made expand) (after start (word_parts place level (drop start text)))
   word_at level true e f g =
-      word_at-expands place level text from e ∙ ap (λ k. mapped (made true) (after k (word_parts place level (drop k text)))) (sym (f refl))
+      word_at-expands place level text from e ∙ ap (λ k. map_read (made true) (after k (word_parts place level (drop k text)))) (sym (f refl))
   word_at level false e f g =
-      word_at-plain place level text from e ∙ ap (λ k. mapped (made false) (after k (word_parts place level (drop k text)))) (sym (g refl))
+      word_at-plain place level text from e ∙ ap (λ k. map_read (made false) (after k (word_parts place level (drop k text)))) (sym (g refl))
 
   pub start-within : (expand : Bool) → expands (drop from text) ≡ expand → (expand ≡ true → start ≡ from + 3) → (expand ≡ false → start ≡ from) →
       from < length text → (from ≤ start) × (start ≤ length text)
@@ -177,7 +177,7 @@ words-one place level b text first n e f = rw (e, words, f)
 
 pub words-more : (place : Place) (level : Level) (b : ℕ) (text : List ℕ) (first : PlainWord) (n : ℕ) → word place level (b ∷ text) ≡ takes first n →
     ends_command place (drop (n + gap 0 (drop n (b ∷ text))) (b ∷ text)) ≡ false →
-    words place level 0 (b ∷ text) ≡ after 1 (mapped (λ others. first ∷ others) (words place level (pred (n + gap 0 (drop n (b ∷ text)))) text))
+    words place level 0 (b ∷ text) ≡ after 1 (map_read (λ others. first ∷ others) (words place level (pred (n + gap 0 (drop n (b ∷ text)))) text))
 unfolding words
 words-more place level b text first n e f = rw (e, words, f)
 
@@ -237,7 +237,7 @@ module _ (place : Place) (level : Level) (text : List ℕ) (from : ℕ) (h : fro
         ∙ ap (takes (first ∷ [])) same
 
     pub words_at-more : from < end → ends_command place (drop next text) ≡ false →
-        after from (words place level 0 (drop from text)) ≡ mapped (λ others. first ∷ others) (after next (words place level 0 (drop next text)))
+        after from (words place level 0 (drop from text)) ≡ map_read (λ others. first ∷ others) (after next (words place level 0 (drop next text)))
     words_at-more later g =
         let k : ℕ = pred (end - from + gap 0 (drop (end - from) (get_or text from 0 ∷ drop (from + 1) text))) in
         let count : from + 1 + k ≡ next = omega (arith, at_gap) in
@@ -245,9 +245,9 @@ module _ (place : Place) (level : Level) (text : List ℕ) (from : ℕ) (h : fro
         let cons : List PlainWord → List PlainWord = λ others. first ∷ others in
         ap (λ r. after from (words place level 0 r)) (drop_more text from 0 h)
         ∙ ap (after from) (words-more place level _ (drop (from + 1) text) first (end - from) at_word (ap (ends_command place) at_next ∙ g))
-        ∙ after-after from 1 (mapped cons more_words)
+        ∙ after-after from 1 (map_read cons more_words)
         ∙ after-mapped (from + 1) cons more_words
-        ∙ ap (mapped cons)
+        ∙ ap (map_read cons)
         (ap (after (from + 1)) (words_passes place level k (drop (from + 1) text))
         ∙ after-after (from + 1) k (words place level 0 (drop k (drop (from + 1) text)))
         ∙ ap (λ r. after (from + 1 + k) (words place level 0 r)) (drop-drop k (from + 1) text)

@@ -3,7 +3,7 @@ use Rattle.std.proofs.Common.{◌≡◌, ℕ, List, drop, ap, sym, subst, Result
 use Rattle.std.specs.Prelude.{IsErrAnd}
 use Rattle.tt_script.specs.inside.Parsing.{Answers, Continues, Refuses}
 use Rattle.tt_script.specs.inside.Building.{Adds, Ends}
-use Rattle.tt_script.specs.Reading.{Read, fails, after, mapped, and_then, Level, parts}
+use Rattle.tt_script.specs.Reading.{Read, fails, after, map_read, and_then, Level, parts}
 use Rattle.tt_script.specs.declared.builder.Builder.{Builder}
 use Rattle.tt_script.specs.declared.command.Ending.{Ending}
 use Rattle.tt_script.specs.declared.mode.Mode.{Mode}
@@ -36,9 +36,9 @@ pub refuses-and_then : {A B : Type 0} (e : Stop) (r : Read A) (f : A → ℕ →
 refuses-and_then NoMemory r f h = tt
 refuses-and_then (Fault fault) r f h = ap (λ s. and_then s f) h
 
-pub refuses-mapped : {A B : Type 0} (e : Stop) (f : A → B) (r : Read A) → Refuses e r → Refuses e (mapped f r)
+pub refuses-mapped : {A B : Type 0} (e : Stop) (f : A → B) (r : Read A) → Refuses e r → Refuses e (map_read f r)
 refuses-mapped NoMemory f r h = tt
-refuses-mapped (Fault fault) f r h = ap (mapped f) h
+refuses-mapped (Fault fault) f r h = ap (map_read f) h
 
 pub refuses-same : {A : Type 0} (e : Stop) (r s : Read A) → s ≡ r → Refuses e r → Refuses e s
 refuses-same e r s same h = subst (Refuses e) (sym same) h

@@ -2,7 +2,7 @@
 use Rattle.std.proofs.Common.{◌≡◌, ℕ, ◌+◌, ◌-◌, ◌<◌, ◌≤◌, List, [], ◌∷◌, length, get_or, drop, refl, ap, sym, ◌∙◌, arith}
 use Rattle.std.proofs.lemmas.List.{drop_more, drop-drop, drop_all}
 use Rattle.tt_script.specs.Words.{PlainWord, nothing, bad, command}
-use Rattle.tt_script.specs.Reading.{most_open, takes, fails, after, level, words, skipped, terminator_length, command_at, first, moved}
+use Rattle.tt_script.specs.Reading.{most_open, takes, fails, after, level, words, skipped, terminator_length, command_at, first, first_after}
 use Rattle.tt_script.specs.declared.command.ParseFault.{ParseFault}
 use Rattle.tt_script.specs.declared.command.Place.TheVariants as places
 use Rattle.tt_script.proofs.CommandSteps.{after-takes, after-fails}
@@ -39,25 +39,25 @@ module _ (text : List ℕ) (from start : ℕ) (e : start ≡ from + skipped 0 (d
   at_start : drop (skipped 0 (drop from text)) (drop from text) ≡ drop start text
   at_start = drop-drop (skipped 0 (drop from text)) from text ∙ ap (λ k. drop k text) (sym e)
 
-  pub first_at-nothing : start ≡ length text → moved from (first (drop from text)) ≡ nothing
-  first_at-nothing f = ap (moved from) (first-on (drop from text) ∙ at-nothing (skipped 0 (drop from text)) _ (at_start ∙ drop_all start text (omega arith)))
+  pub first_at-nothing : start ≡ length text → first_after from (first (drop from text)) ≡ nothing
+  first_at-nothing f = ap (first_after from) (first-on (drop from text) ∙ at-nothing (skipped 0 (drop from text)) _ (at_start ∙ drop_all start text (omega arith)))
 
   module _ (h : start < length text) where
     front : drop (skipped 0 (drop from text)) (drop from text) ≡ get_or text start 0 ∷ drop (start + 1) text
     front = at_start ∙ drop_more text start 0 h
 
     pub first_at-fault : (fault : ParseFault) → after start (words places.Script (level most_open) 0 (drop start text)) ≡ fails fault →
-        moved from (first (drop from text)) ≡ bad fault start
+        first_after from (first (drop from text)) ≡ bad fault start
     first_at-fault fault f =
         let read = ap (words places.Script (level most_open) 0) (sym (drop_more text start 0 h))
         ∙ after-fails start (words places.Script (level most_open) 0 (drop start text)) fault f in
-        ap (moved from)
+        ap (first_after from)
         (first-on (drop from text) ∙ ap (command_at (skipped 0 (drop from text))) front
         ∙ at-fault (skipped 0 (drop from text)) _ (drop (start + 1) text) fault read) ∙ ap (bad fault) (sym e)
 
     pub first_at-command : (ws : List PlainWord) (end next : ℕ) → after start (words places.Script (level most_open) 0 (drop start text)) ≡ takes ws end →
         next ≡ end + terminator_length (drop end text) →
-        moved from (first (drop from text)) ≡ command (record { words = ws; start = start; text_end = end; next = next })
+        first_after from (first (drop from text)) ≡ command (record { words = ws; start = start; text_end = end; next = next })
     first_at-command ws end next f g =
         let s : ℕ = skipped 0 (drop from text) in
         let found = after-takes start end (words places.Script (level most_open) 0 (drop start text)) ws f in
@@ -68,5 +68,5 @@ module _ (text : List ℕ) (from start : ℕ) (e : start ≡ from + skipped 0 (d
         ∙ ap (λ k. drop k text) (same_end start end order) in
         let size : terminator_length (drop (end - start) (get_or text start 0 ∷ drop (start + 1) text)) ≡ terminator_length (drop end text) =
         ap terminator_length rest in
-        ap (moved from) (first-on (drop from text) ∙ ap (command_at s) front ∙ at-command s _ (drop (start + 1) text) ws (end - start) read)
+        ap (first_after from) (first-on (drop from text) ∙ ap (command_at s) front ∙ at-command s _ (drop (start + 1) text) ws (end - start) read)
         ∙ same_command ws _ _ _ start end next (sym e) (omega arith) (omega arith)

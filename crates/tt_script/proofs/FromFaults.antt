@@ -6,8 +6,8 @@ use Rattle.std.specs.List.{position_or_len}
 use Rattle.tt_text.specs.Braces.{IsBalanced, IsClosedAt, matching_brace}
 use Rattle.tt_text.proofs.BraceLemmas.{matching_brace_law}
 use Rattle.tt_script.specs.Words.{PlainPart, element, script, PlainParts, with_part, PlainWord}
-use Rattle.tt_script.specs.Reading.{takes, fails, after, mapped, and_then, begins, separates, separated, ends_command}
-use Rattle.tt_script.specs.Reading.{ends_parts, named, Level, level, part, parts, braced_variable, word_parts, word}
+use Rattle.tt_script.specs.Reading.{takes, fails, after, map_read, and_then, begins, separates, before_separator, ends_command}
+use Rattle.tt_script.specs.Reading.{ends_parts, part_of_name, Level, level, part, parts, braced_variable, word_parts, word}
 use Rattle.tt_script.specs.Reading.{words, gap, skipped, commands}
 use Rattle.tt_script.specs.Grammar.{IsGap, IsSkipped, IsNamed}
 use Rattle.tt_script.specs.FaultGrammar.{IsUnclosed, IsPartFault, bracket_too_deep, bracket_fault, index_too_deep}
@@ -61,8 +61,8 @@ name_fails : (text : List ℕ) → position_or_len (λ x. x == 125) text ≡ len
 name_fails text e =
     let n : ℕ = length text in
     let beyond : nat_lt n (length text) ≡ false = le-ltb n (length text) (omega arith) in
-    ap (λ k. if nat_lt k (length text) then takes (named (take k text)) (k + 1) else fails VariableBrace) e
-    ∙ ap (λ v. if v then takes (named (take n text)) (n + 1) else fails VariableBrace) beyond
+    ap (λ k. if nat_lt k (length text) then takes (part_of_name (take k text)) (k + 1) else fails VariableBrace) e
+    ∙ ap (λ v. if v then takes (part_of_name (take n text)) (n + 1) else fails VariableBrace) beyond
 
 this_fails : (depth : ℕ) (ending : Ending) (text : List ℕ) (fault : ParseFault) → ends_parts ending text ≡ false → PartFails depth text fault →
     parts (level depth) ending 0 text ≡ fails fault
@@ -74,7 +74,7 @@ later_fails : (depth : ℕ) (ending : Ending) (first : PlainPart) (text middle :
 later_fails depth ending first [] middle fault e p r = absurd p
 later_fails depth ending first (b ∷ text) middle fault e p r =
     parts-part (level depth) ending b text first p.n e p.read
-    ∙ ap (λ x. after 1 (mapped (with_part first) x))
+    ∙ ap (λ x. after 1 (map_read (with_part first) x))
     (parts_passes (level depth) ending p.n text ∙ ap (λ x. after p.n (parts (level depth) ending 0 x)) p.cut.place ∙ ap (after p.n) r)
 
 -- ---- words ----
@@ -83,7 +83,7 @@ quotes_fail : (depth b : ℕ) (place : Place) (text : List ℕ) (fault : ParseFa
     word_parts place (level depth) (b ∷ text) ≡ fails fault
 quotes_fail depth b place text fault e r =
     parts-quoted place (level depth) (b ∷ text) (eq-eqb b 34 e)
-    ∙ ap (after 1) (quoted-on place (level depth) text ∙ ap (λ x. and_then x (λ v k. separated place AfterQuote text v (k + 1))) r)
+    ∙ ap (after 1) (quoted-on place (level depth) text ∙ ap (λ x. and_then x (λ v k. before_separator place AfterQuote text v (k + 1))) r)
 
 after_quotes_fail : (depth b c : ℕ) (place : Place) (text rest : List ℕ) (value : PlainParts) → b ≡ 34 → separates place rest ≡ false →
     ReadAs (parts (level depth) endings.Quote 0 text) value text (c ∷ rest) → word_parts place (level depth) (b ∷ text) ≡ fails AfterQuote
@@ -91,7 +91,7 @@ after_quotes_fail depth b c place text rest value e f r =
     let cut = cut_one r.n c text rest r.cut in
     parts-quoted place (level depth) (b ∷ text) (eq-eqb b 34 e)
     ∙ ap (after 1)
-    (quoted-on place (level depth) text ∙ ap (λ x. and_then x (λ v k. separated place AfterQuote text v (k + 1))) r.read
+    (quoted-on place (level depth) text ∙ ap (λ x. and_then x (λ v k. before_separator place AfterQuote text v (k + 1))) r.read
     ∙ separated-none place AfterQuote text value (r.n + 1) (ap (separates place) cut.place ∙ f))
 
 no_match : (text : List ℕ) → IsUnclosed text → matching_brace text ≡ None
@@ -132,8 +132,8 @@ later_word_fails depth place (b ∷ text) middle next first fault h shorter r g 
     let after_gap : drop (r.n + gap 0 (drop r.n (b ∷ text))) (b ∷ text) ≡ next = ap (λ m. drop m (b ∷ text)) count ∙ both.place in
     let tail : drop k text ≡ next = ap (λ m. drop m (b ∷ text)) step ∙ both.place in
     words-more place (level depth) b text first r.n r.read (ap (ends_command place) after_gap ∙ e)
-    ∙ ap (λ m. after 1 (mapped (λ v. first ∷ v) (words place (level depth) (pred m) text))) count
-    ∙ ap (λ x. after 1 (mapped (λ v. first ∷ v) x))
+    ∙ ap (λ m. after 1 (map_read (λ v. first ∷ v) (words place (level depth) (pred m) text))) count
+    ∙ ap (λ x. after 1 (map_read (λ v. first ∷ v) x))
     (words_passes place (level depth) k text ∙ ap (λ x. after k (words place (level depth) 0 x)) tail ∙ ap (after k) ws)
 
 -- ---- commands ----
@@ -198,8 +198,8 @@ mutual
   pub word_fails : {depth : ℕ} {place : Place} {text : List ℕ} {fault : ParseFault} → IsWordFault depth place text fault →
       word place (level depth) text ≡ fails fault
   word_fails (expanded_fault {depth} {place} {text} e ps) =
-      word-expands place (level depth) text e ∙ ap (λ x. after 3 (mapped (made true) x)) (word_parts_fail ps)
-  word_fails (whole_fault {depth} {place} {text} e f ps) = word-plain place (level depth) text f ∙ ap (mapped (made false)) (word_parts_fail ps)
+      word-expands place (level depth) text e ∙ ap (λ x. after 3 (map_read (made true) x)) (word_parts_fail ps)
+  word_fails (whole_fault {depth} {place} {text} e f ps) = word-plain place (level depth) text f ∙ ap (map_read (made false)) (word_parts_fail ps)
 
   pub words_fail : {depth : ℕ} {place : Place} {text : List ℕ} {fault : ParseFault} → IsWordsFault depth place text fault →
       words place (level depth) 0 text ≡ fails fault

@@ -9,9 +9,9 @@ use Rattle.tt_text.specs.Backslash.{backslash}
 use Rattle.tt_text.specs.Braces.{IsBalanced, IsClosedAt, matching_brace}
 use Rattle.tt_text.proofs.BraceLemmas.{matching_brace_law}
 use Rattle.tt_script.specs.Words.{PlainPart, variable, element, script, PlainParts, none, with_part, PlainWord}
-use Rattle.tt_script.specs.Reading.{Read, takes, fails, after, mapped, and_then, begins, separates, separated}
-use Rattle.tt_script.specs.Reading.{ends_command, ends_parts, expands, letters_of, joined_lines, name_length, named}
-use Rattle.tt_script.specs.Reading.{Level, level, part, parts, braced_variable, named_variable, word_parts, quoted}
+use Rattle.tt_script.specs.Reading.{Read, takes, fails, after, map_read, and_then, begins, separates, before_separator}
+use Rattle.tt_script.specs.Reading.{ends_command, ends_parts, expands, letters_of, joined_lines, name_length, part_of_name}
+use Rattle.tt_script.specs.Reading.{Level, level, part, parts, braced_variable, named_variable, word_parts, quoted_word}
 use Rattle.tt_script.specs.Reading.{braced, word, words, gap, skipped, commands}
 use Rattle.tt_script.specs.Grammar.{IsGap, IsSkipped, IsNamed, IsPart, byte_part, escape_part, script_part}
 use Rattle.tt_script.specs.Grammar.{variable_part, element_part, braced_part, dollar_part, IsParts, parts_end}
@@ -104,16 +104,16 @@ position_at p (x ∷ xs) d rest e f = go (p x) refl (position_at p xs d rest)
     go false g next = omega (arith, position-more p x (xs ++ (d ∷ rest)) g, next (omega (arith, position-more p x xs g)) f)
 
 braced_read : (text name rest : List ℕ) (d : ℕ) → text ≡ name ++ (d ∷ rest) → d ≡ 125 → position_or_len (λ x. x == 125) name ≡ length name →
-    braced_variable text ≡ takes (named name) (length name + 1)
+    braced_variable text ≡ takes (part_of_name name) (length name + 1)
 braced_read text name rest d e f g =
     let n : ℕ = length name in
     let place : position_or_len (λ x. x == 125) text ≡ n =
     ap (position_or_len (λ x. x == 125)) e ∙ position_at (λ x. x == 125) name d rest g (eq-eqb d 125 f) in
     let room : nat_lt n (length text) ≡ true = lt-ltb n (length text) (omega (arith, ap length e, length-append name (d ∷ rest))) in
     let same : take n text ≡ name = ap (take n) e ∙ take_at name (d ∷ rest) n refl in
-    ap (λ k. if nat_lt k (length text) then takes (named (take k text)) (k + 1) else fails VariableBrace) place
-    ∙ ap (λ v. if v then takes (named (take n text)) (n + 1) else fails VariableBrace) room
-    ∙ ap (λ x. takes (named x) (n + 1)) same
+    ap (λ k. if nat_lt k (length text) then takes (part_of_name (take k text)) (k + 1) else fails VariableBrace) place
+    ∙ ap (λ v. if v then takes (part_of_name (take n text)) (n + 1) else fails VariableBrace) room
+    ∙ ap (λ x. takes (part_of_name x) (n + 1)) same
 
 parts-end_at : (level : Level) (ending : Ending) (text : List ℕ) → ends_parts ending text ≡ true → parts level ending 0 text ≡ takes none 0
 unfolding parts
@@ -129,7 +129,7 @@ parts_step depth ending first [] e p ps w = absurd p
 parts_step depth ending first {middle} {rest} {others} {whole} (b ∷ text) e p ps w = record {
   n = suc (p.n + ps.n);
   read = parts-part (level depth) ending b text first p.n e p.read
-      ∙ ap (λ r. after 1 (mapped (with_part first) r))
+      ∙ ap (λ r. after 1 (map_read (with_part first) r))
       (parts_passes (level depth) ending p.n text ∙ ap (λ r. after p.n (parts (level depth) ending 0 r)) p.cut.place ∙ ap (after p.n) ps.read)
       ∙ ap (takes (with_part first others)) (omega arith) ∙ ap (λ v. takes v (suc (p.n + ps.n))) (sym w);
   cut = cut_more b (cut_cut p.cut ps.cut);
@@ -187,7 +187,7 @@ element_read depth b c d text name inner rest index e f h r =
     }
 
 brace_read : (depth b c d : ℕ) (text name rest : List ℕ) (p : PlainPart) → b ≡ 36 → c ≡ 123 → d ≡ 125 → text ≡ name ++ (d ∷ rest) →
-    position_or_len (λ x. x == 125) name ≡ length name → p ≡ named name → ReadAs (part (level depth) b (c ∷ text)) p (c ∷ text) rest
+    position_or_len (λ x. x == 125) name ≡ length name → p ≡ part_of_name name → ReadAs (part (level depth) b (c ∷ text)) p (c ∷ text) rest
 brace_read depth b c d text name rest p e f g h k m = record {
   n = 1 + (length name + 1);
   read = part-dollar (level depth) b (c ∷ text) (eq-eqb b 36 e) ∙ dollar-braced (level depth) (c ∷ text) (eq-eqb c 123 f)
@@ -203,7 +203,7 @@ word_quoted depth b c place text rest value e f r =
       n = 1 + (r.n + 1);
       read = parts-quoted place (level depth) (b ∷ text) (eq-eqb b 34 e)
           ∙ ap (after 1)
-          (quoted-on place (level depth) text ∙ ap (λ x. and_then x (λ v k. separated place AfterQuote text v (k + 1))) r.read
+          (quoted-on place (level depth) text ∙ ap (λ x. and_then x (λ v k. before_separator place AfterQuote text v (k + 1))) r.read
           ∙ separated-yes place AfterQuote text value (r.n + 1) (ap (separates place) cut.place ∙ f));
       cut = cut_same (omega arith) (cut_more b cut);
     }
@@ -245,7 +245,7 @@ word_expanded : (depth : ℕ) (place : Place) (text rest : List ℕ) (value : Pl
 word_expanded depth place text rest value e r = (
   record {
     n = 3 + r.n;
-    read = word-expands place (level depth) text e ∙ ap (λ x. after 3 (mapped (made true) x)) r.read;
+    read = word-expands place (level depth) text e ∙ ap (λ x. after 3 (map_read (made true) x)) r.read;
     cut = cut_cut (record { place = refl; size = omega (arith, length-drop 3 text, expands_length text e) }) r.cut;
   },
   omega arith,
@@ -277,8 +277,8 @@ words_next depth place (b ∷ text) middle next rest first others h shorter r g 
       record {
         n = r.n + gap 0 middle + ws.n;
         read = words-more place (level depth) b text first r.n r.read (ap (ends_command place) after_gap ∙ e)
-            ∙ ap (λ m. after 1 (mapped (λ v. first ∷ v) (words place (level depth) (pred m) text))) count
-            ∙ ap (λ x. after 1 (mapped (λ v. first ∷ v) x))
+            ∙ ap (λ m. after 1 (map_read (λ v. first ∷ v) (words place (level depth) (pred m) text))) count
+            ∙ ap (λ x. after 1 (map_read (λ v. first ∷ v) x))
             (words_passes place (level depth) k text ∙ ap (λ x. after k (words place (level depth) 0 x)) tail ∙ ap (after k) ws.read)
             ∙ ap (takes (first ∷ others)) (omega arith);
         cut = cut_cut both ws.cut;
@@ -319,18 +319,18 @@ parts_some level ending (b ∷ text) value n h e f = go (part level b text) refl
     go : (r : Read PlainPart) → part level b text ≡ r → 0 < n
     go (fails fault) g = let same = sym (parts-fault level ending b text fault e g) ∙ f in cc
     go (takes first k) g =
-        (after-takes 1 n (mapped (with_part first) (parts level ending k text)) value (sym (parts-part level ending b text first k e g) ∙ f)).1
+        (after-takes 1 n (map_read (with_part first) (parts level ending k text)) value (sym (parts-part level ending b text first k e g) ∙ f)).1
 
 pub word_parts_some : (place : Place) (level : Level) (text : List ℕ) (value : PlainParts) (n : ℕ) → separates place text ≡ false →
     word_parts place level text ≡ takes value n → 0 < n
 word_parts_some place level text value n e f = go (begins 34 text) (begins 123 text) refl refl
   where
     go : (v w : Bool) → begins 34 text ≡ v → begins 123 text ≡ w → 0 < n
-    go true w g h = (after-takes 1 n (quoted place level (drop 1 text)) value (sym (parts-quoted place level text g) ∙ f)).1
+    go true w g h = (after-takes 1 n (quoted_word place level (drop 1 text)) value (sym (parts-quoted place level text g) ∙ f)).1
     go false true g h = (after-takes 1 n (braced place (drop 1 text)) value (sym (parts-braced place level text g h) ∙ f)).1
     go false false g h = parts_some level (endings.Word place) text value n (separates-some place text e) e (sym (parts-bare place level text g h) ∙ f)
 
-pub mapped-takes : {A B : Type 0} (f : A → B) (r : Read A) (value : B) (n : ℕ) → mapped f r ≡ takes value n → (v : A) × (r ≡ takes v n) × (f v ≡ value)
+pub mapped-takes : {A B : Type 0} (f : A → B) (r : Read A) (value : B) (n : ℕ) → map_read f r ≡ takes value n → (v : A) × (r ≡ takes v n) × (f v ≡ value)
 mapped-takes f (takes v k) value n e =
     let size : k ≡ n = cc in
     let same : f v ≡ value = cc in
@@ -340,7 +340,7 @@ mapped-takes f (fails fault) value n e = cc
 word_whole : (depth : ℕ) (place : Place) (text rest : List ℕ) (value : PlainParts) → separates place text ≡ false → expands text ≡ false →
     ReadAs (word_parts place (level depth) text) value text rest → ReadsSome (word place (level depth) text) (made false value) text rest
 word_whole depth place text rest value e f r = (
-  record { n = r.n; read = word-plain place (level depth) text f ∙ ap (mapped (made false)) r.read; cut = r.cut },
+  record { n = r.n; read = word-plain place (level depth) text f ∙ ap (map_read (made false)) r.read; cut = r.cut },
   word_parts_some place
       (level depth) text value r.n e r.read,
 )

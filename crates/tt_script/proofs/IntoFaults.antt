@@ -8,9 +8,9 @@ use Rattle.std.specs.List.{position_or_len}
 use Rattle.tt_text.specs.Braces.{matching_brace}
 use Rattle.tt_text.proofs.BraceLemmas.{matching_brace_law}
 use Rattle.tt_script.specs.Words.{PlainPart, element, script, PlainParts, with_part, PlainWord}
-use Rattle.tt_script.specs.Reading.{Read, takes, fails, after, mapped, and_then, begins, separates, separated}
-use Rattle.tt_script.specs.Reading.{ends_command, ends_parts, expands, name_length, named, level, part, parts}
-use Rattle.tt_script.specs.Reading.{parts_at_end, dollar, braced_variable, word_parts, quoted, braced, word, words, gap}
+use Rattle.tt_script.specs.Reading.{Read, takes, fails, after, map_read, and_then, begins, separates, before_separator}
+use Rattle.tt_script.specs.Reading.{ends_command, ends_parts, expands, name_length, part_of_name, level, part, parts}
+use Rattle.tt_script.specs.Reading.{parts_at_end, dollar, braced_variable, word_parts, quoted_word, braced, word, words, gap}
 use Rattle.tt_script.specs.Reading.{skipped, commands}
 use Rattle.tt_script.specs.Grammar.{IsGap, IsSkipped, skip_ends, IsNamed, IsParts, IsWord, IsWords}
 use Rattle.tt_script.specs.FaultGrammar.{IsUnclosed, IsPartFault, bracket_too_deep, bracket_fault, index_too_deep}
@@ -52,7 +52,7 @@ and_then-fails : {A B : Type 0} (r : Read A) (f : A → ℕ → Read B) (fault :
 and_then-fails (takes v n) f fault never e = absurd (never v n e)
 and_then-fails (fails other) f fault never e = ap fails (same_fault e)
 
-mapped-fails : {A B : Type 0} (f : A → B) (r : Read A) (fault : ParseFault) → mapped f r ≡ fails fault → r ≡ fails fault
+mapped-fails : {A B : Type 0} (f : A → B) (r : Read A) (fault : ParseFault) → map_read f r ≡ fails fault → r ≡ fails fault
 mapped-fails f (takes v n) fault e = absurd (no_fails e)
 mapped-fails f (fails other) fault e = ap fails (same_fault e)
 
@@ -79,8 +79,8 @@ unclosed_name depth b c text fault e f r = go (nat_lt m (length text)) refl
     m : ℕ
     m = position_or_len (λ x. x == 125) text
 
-    here : (v : Bool) → nat_lt m (length text) ≡ v → (if v then takes (named (take m text)) (m + 1) else fails VariableBrace) ≡ fails fault
-    here v g = sym (ap (λ v. if v then takes (named (take m text)) (m + 1) else fails VariableBrace) g) ∙ r
+    here : (v : Bool) → nat_lt m (length text) ≡ v → (if v then takes (part_of_name (take m text)) (m + 1) else fails VariableBrace) ≡ fails fault
+    here v g = sym (ap (λ v. if v then takes (part_of_name (take m text)) (m + 1) else fails VariableBrace) g) ∙ r
 
     go : (v : Bool) → nat_lt m (length text) ≡ v → IsPartFault depth (b ∷ c ∷ text) fault
     go true g = absurd (no_fails (here true g))
@@ -177,17 +177,17 @@ module _ (depth : ℕ) (faulty : Faulty depth) where
       go false e (fails other) f next =
           this_part e (part_fault b text fault (f ∙ ap fails (same_fault (sym (parts-fault (level depth) ending b text other e f) ∙ r))))
       go false e (takes first m) f next =
-          let outer = after-fails 1 (mapped (with_part first) (parts (level depth) ending m text)) fault
+          let outer = after-fails 1 (map_read (with_part first) (parts (level depth) ending m text)) fault
           (sym (parts-part (level depth) ending b text first m e f) ∙ r) in
           later_part e (part_is depth (sound depth) b text first m f) (next m (mapped-fails (with_part first) (parts (level depth) ending m text) fault outer))
 
   -- ---- words ----
 
-  quoted_fault : (place : Place) (b : ℕ) (text : List ℕ) (fault : ParseFault) → b ≡ 34 → quoted place (level depth) text ≡ fails fault →
+  quoted_fault : (place : Place) (b : ℕ) (text : List ℕ) (fault : ParseFault) → b ≡ 34 → quoted_word place (level depth) text ≡ fails fault →
       IsWordPartsFault depth place (b ∷ text) fault
   quoted_fault place b text fault e r = go (parts (level depth) endings.Quote 0 text) refl
     where
-      closed : (w : PlainParts) (m : ℕ) → parts (level depth) endings.Quote 0 text ≡ takes w m → separated place AfterQuote text w (m + 1) ≡ fails fault →
+      closed : (w : PlainParts) (m : ℕ) → parts (level depth) endings.Quote 0 text ≡ takes w m → before_separator place AfterQuote text w (m + 1) ≡ fails fault →
           (v : Bool) → separates place (drop (m + 1) text) ≡ v → IsWordPartsFault depth place (b ∷ text) fault
       closed w m f g true h = absurd (no_fails (sym (separated-yes place AfterQuote text w (m + 1) h) ∙ g))
       closed w m f g false h =
@@ -197,8 +197,8 @@ module _ (depth : ℕ) (faulty : Faulty depth) where
           (after_quotes e closing.1 (subst (IsParts depth endings.Quote text w) closing.2 derived) h)
 
       here : (q : Read PlainParts) → parts (level depth) endings.Quote 0 text ≡ q →
-          and_then q (λ value n. separated place AfterQuote text value (n + 1)) ≡ fails fault
-      here q f = ap (λ x. and_then x (λ value n. separated place AfterQuote text value (n + 1))) (sym f) ∙ sym (quoted-on place (level depth) text) ∙ r
+          and_then q (λ value n. before_separator place AfterQuote text value (n + 1)) ≡ fails fault
+      here q f = ap (λ x. and_then x (λ value n. before_separator place AfterQuote text value (n + 1))) (sym f) ∙ sym (quoted-on place (level depth) text) ∙ r
 
       go : (q : Read PlainParts) → parts (level depth) endings.Quote 0 text ≡ q → IsWordPartsFault depth place (b ∷ text) fault
       go (fails other) f = quotes_fault e (parts_fault endings.Quote 0 text fault (f ∙ ap fails (same_fault (here (fails other) f))))
@@ -236,7 +236,7 @@ module _ (depth : ℕ) (faulty : Faulty depth) where
       go : (v w : Bool) → (b == 34) ≡ v → (b == 123) ≡ w → IsWordPartsFault depth place (b ∷ text) fault
       go true w e f =
           quoted_fault place b text fault (eqb-true b 34 e)
-          (after-fails 1 (quoted place (level depth) text) fault (sym (parts-quoted place (level depth) (b ∷ text) e) ∙ r))
+          (after-fails 1 (quoted_word place (level depth) text) fault (sym (parts-quoted place (level depth) (b ∷ text) e) ∙ r))
       go false true e f =
           brace_fault place b text fault (eqb-true b 123 f)
           (after-fails 1 (braced place text) fault (sym (parts-braced place (level depth) (b ∷ text) e f) ∙ r))
@@ -248,7 +248,7 @@ module _ (depth : ℕ) (faulty : Faulty depth) where
     where
       go : (v : Bool) → expands text ≡ v → IsWordFault depth place text fault
       go true e =
-          let outer = after-fails 3 (mapped (made true) (word_parts place (level depth) (drop 3 text))) fault
+          let outer = after-fails 3 (map_read (made true) (word_parts place (level depth) (drop 3 text))) fault
           (sym (word-expands place (level depth) text e) ∙ r) in
           expanded_fault e (word_parts_fault place (drop 3 text) fault (mapped-fails (made true) (word_parts place (level depth) (drop 3 text)) fault outer))
       go false e =
@@ -288,7 +288,7 @@ module _ (depth : ℕ) (faulty : Faulty depth) where
               let gap_here : IsGap (drop m xs) (drop j text) = subst (IsGap (drop m xs)) (next_place ∙ front) (gap_is 0 (drop m xs)) in
               let unended : ends_command place (drop j text) ≡ false = ap (ends_command place) (sym front) ∙ f in
               let begins_word : separates place (drop j text) ≡ false = word_begins place (drop j text) (gap_end-none gap_here) unended in
-              let outer = after-fails 1 (mapped (λ others. first ∷ others) (words place (level depth) j text)) fault
+              let outer = after-fails 1 (map_read (λ others. first ∷ others) (words place (level depth) j text)) fault
               (sym (words-more place (level depth) b text first m e f) ∙ r) in
               later_word this.0 gap_here unended (next j begins_word (mapped-fails (λ others. first ∷ others) (words place (level depth) j text) fault outer))
 

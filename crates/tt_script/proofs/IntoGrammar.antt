@@ -10,10 +10,10 @@ use Rattle.tt_text.specs.Characters.{is_white_space, is_blank}
 use Rattle.tt_text.specs.Braces.{matching_brace}
 use Rattle.tt_text.proofs.BraceLemmas.{matching_brace_law}
 use Rattle.tt_script.specs.Words.{PlainPart, element, script, PlainParts, with_part, PlainWord}
-use Rattle.tt_script.specs.Reading.{Read, takes, fails, after, mapped, and_then, begins, separates, separated}
+use Rattle.tt_script.specs.Reading.{Read, takes, fails, after, map_read, and_then, begins, separates, before_separator}
 use Rattle.tt_script.specs.Reading.{continues_line, ends_command, ends_parts, expands, letters_of, joined_lines}
-use Rattle.tt_script.specs.Reading.{name_length, is_name_byte, named, Level, level, part, parts, parts_at_end, dollar}
-use Rattle.tt_script.specs.Reading.{braced_variable, word_parts, quoted, braced, word, words, gap, skipped, commands}
+use Rattle.tt_script.specs.Reading.{name_length, is_name_byte, part_of_name, Level, level, part, parts, parts_at_end, dollar}
+use Rattle.tt_script.specs.Reading.{braced_variable, word_parts, quoted_word, braced, word, words, gap, skipped, commands}
 use Rattle.tt_script.specs.Grammar.{IsGap, begins_gap, begins_skipped, IsNamed, IsPart, byte_part, escape_part}
 use Rattle.tt_script.specs.Grammar.{script_part, variable_part, element_part, braced_part, dollar_part, IsParts}
 use Rattle.tt_script.specs.Grammar.{parts_end, parts_more, IsWordParts, in_quotes, in_braces, bare, IsWord, expanded}
@@ -143,9 +143,9 @@ braced_is depth b c text p n e f r = go (nat_lt m (length text)) refl
     m = position_or_len (λ x. x == 125) text
 
     go : (v : Bool) → nat_lt m (length text) ≡ v → IsPart depth (b ∷ c ∷ text) p (drop n text)
-    go false g = absurd (no_takes (sym (ap (λ v. if v then takes (named (take m text)) (m + 1) else fails VariableBrace) g) ∙ r))
+    go false g = absurd (no_takes (sym (ap (λ v. if v then takes (part_of_name (take m text)) (m + 1) else fails VariableBrace) g) ∙ r))
     go true g =
-        let same = sym (ap (λ v. if v then takes (named (take m text)) (m + 1) else fails VariableBrace) g) ∙ r in
+        let same = sym (ap (λ v. if v then takes (part_of_name (take m text)) (m + 1) else fails VariableBrace) g) ∙ r in
         let count : m + 1 ≡ n = takes-count same in
         let closing = byte_at m 125 text (position_stop text (ltb-true m (length text) g)) in
         braced_part (take m text) e f closing.1 (joined m text ∙ ap (λ t. take m text ++ t) (closing.2 ∙ ap (λ k. closing.0 ∷ drop k text) count))
@@ -327,7 +327,7 @@ module _ (depth : ℕ) (sound : Sound depth) where
           (subst (λ v. IsParts depth ending (b ∷ text) v (b ∷ text)) (takes-value same) (parts_end e))
       go false e (fails fault) f next = absurd (no_takes (sym (parts-fault (level depth) ending b text fault e f) ∙ r))
       go false e (takes first m) f next =
-          let outer = after-takes 1 n (mapped (with_part first) (parts (level depth) ending m text)) value
+          let outer = after-takes 1 n (map_read (with_part first) (parts (level depth) ending m text)) value
           (sym (parts-part (level depth) ending b text first m e f) ∙ r) in
           let inner = mapped-takes (with_part first) (parts (level depth) ending m text) value (n - 1) outer.0 in
           let count : suc (n - 1) ≡ n = omega (arith, outer.1) in
@@ -343,13 +343,13 @@ module _ (depth : ℕ) (sound : Sound depth) where
       let closing = byte_at m 34 text (parts_closed derived) in
       in_quotes e closing.1 (subst (IsParts depth endings.Quote text value) closing.2 derived) f
 
-  quoted_is : (place : Place) (b : ℕ) (text : List ℕ) (value : PlainParts) (n : ℕ) → b ≡ 34 → quoted place (level depth) text ≡ takes value n →
+  quoted_is : (place : Place) (b : ℕ) (text : List ℕ) (value : PlainParts) (n : ℕ) → b ≡ 34 → quoted_word place (level depth) text ≡ takes value n →
       IsWordParts depth place (b ∷ text) value (drop n text)
   quoted_is place b text value n e r =
       let found = and_then-takes (parts (level depth) endings.Quote 0 text) _ value n (sym (quoted-on place (level depth) text) ∙ r) in
       go found.0 found.1 found.2 found.3 (separates place (drop (found.1 + 1) text)) refl
     where
-      go : (w : PlainParts) (m : ℕ) → parts (level depth) endings.Quote 0 text ≡ takes w m → separated place AfterQuote text w (m + 1) ≡ takes value n →
+      go : (w : PlainParts) (m : ℕ) → parts (level depth) endings.Quote 0 text ≡ takes w m → before_separator place AfterQuote text w (m + 1) ≡ takes value n →
           (v : Bool) → separates place (drop (m + 1) text) ≡ v → IsWordParts depth place (b ∷ text) value (drop n text)
       go w m f g false h = absurd (no_takes (sym (separated-none place AfterQuote text w (m + 1) h) ∙ g))
       go w m f g true h =
@@ -387,7 +387,7 @@ module _ (depth : ℕ) (sound : Sound depth) where
     where
       go : (v w : Bool) → (b == 34) ≡ v → (b == 123) ≡ w → IsWordParts depth place (b ∷ text) value (drop n (b ∷ text))
       go true w e f =
-          let read = after-takes 1 n (quoted place (level depth) text) value (sym (parts-quoted place (level depth) (b ∷ text) e) ∙ r) in
+          let read = after-takes 1 n (quoted_word place (level depth) text) value (sym (parts-quoted place (level depth) (b ∷ text) e) ∙ r) in
           let count : suc (n - 1) ≡ n = omega (arith, read.1) in
           subst (λ j. IsWordParts depth place (b ∷ text) value (drop j (b ∷ text))) count (quoted_is place b text value (n - 1) (eqb-true b 34 e) read.0)
       go false true e f =
@@ -402,7 +402,7 @@ module _ (depth : ℕ) (sound : Sound depth) where
     where
       go : (v : Bool) → expands text ≡ v → IsWord depth place text w (drop n text) × (0 < n)
       go true e =
-          let outer = after-takes 3 n (mapped (made true) (word_parts place (level depth) (drop 3 text))) w
+          let outer = after-takes 3 n (map_read (made true) (word_parts place (level depth) (drop 3 text))) w
           (sym (word-expands place (level depth) text e) ∙ r) in
           let inner = mapped-takes (made true) (word_parts place (level depth) (drop 3 text)) w (n - 3) outer.0 in
           let count : 3 + (n - 3) ≡ n = omega (arith, outer.1) in (
@@ -458,7 +458,7 @@ module _ (depth : ℕ) (sound : Sound depth) where
               let gap_here : IsGap (drop m xs) (drop j text) = subst (IsGap (drop m xs)) (next_place ∙ front) (gap_is 0 (drop m xs)) in
               let unended : ends_command place (drop j text) ≡ false = ap (ends_command place) (sym front) ∙ f in
               let begins_word : separates place (drop j text) ≡ false = word_begins place (drop j text) (gap_end-none gap_here) unended in
-              let outer = after-takes 1 n (mapped (λ others. first ∷ others) (words place (level depth) j text)) ws
+              let outer = after-takes 1 n (map_read (λ others. first ∷ others) (words place (level depth) j text)) ws
               (sym (words-more place (level depth) b text first m e f) ∙ r) in
               let inner = mapped-takes (λ others. first ∷ others) (words place (level depth) j text) ws (n - 1) outer.0 in
               let size : suc (n - 1) ≡ n = omega (arith, outer.1) in

@@ -4,7 +4,7 @@ use Rattle.std.proofs.lemmas.List.{append_assoc}
 use Rattle.tt_script.specs.Words.{PlainWord}
 use Rattle.tt_script.specs.inside.Parsing.{Answers}
 use Rattle.tt_script.specs.Plain.{plain_word, plain_words}
-use Rattle.tt_script.specs.Reading.{Read, takes, fails, after, mapped, Level, words}
+use Rattle.tt_script.specs.Reading.{Read, takes, fails, after, map_read, Level, words}
 use Rattle.tt_script.specs.declared.command.Place.{Place}
 use Rattle.tt_script.specs.declared.command.Word.{Word}
 use Rattle.tt_script.specs.declared.mode.Mode.{Mode}
@@ -15,7 +15,7 @@ use Rattle.tt_script.proofs.Builds.{plain_words-push}
 pub kept : {X A : Type 0} (view : X → A) (x : X × ℕ) (read : Read A) → Answers Keep view (Ok x) read → read ≡ takes (view x.0) x.1
 kept view x read answer = answer.1 ∙ ap (λ value. takes value x.1) (sym (answer.2 refl))
 
-pub mapped-itself : {A : Type 0} (read : Read A) → read ≡ mapped (λ value. value) read
+pub mapped-itself : {A : Type 0} (read : Read A) → read ≡ map_read (λ value. value) read
 mapped-itself (takes value n) = refl
 mapped-itself (fails fault) = refl
 
@@ -23,7 +23,7 @@ mapped-itself (fails fault) = refl
 abbrev pub Gathered : Place → Level → List ℕ → Mode → List Word → ℕ → ℕ → Type 0
 Gathered place level text mode gathered from at =
     (add : List PlainWord → List PlainWord)
-    × (after from (words place level 0 (drop from text)) ≡ mapped add (after at (words place level 0 (drop at text))))
+    × (after from (words place level 0 (drop from text)) ≡ map_read add (after at (words place level 0 (drop at text))))
     × (mode ≡ Keep → (rest : List PlainWord) → plain_words gathered ++ rest ≡ add rest)
 
 -- a word more

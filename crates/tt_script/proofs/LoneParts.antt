@@ -4,7 +4,7 @@ use Rattle.std.proofs.lemmas.List.{drop_more}
 use Rattle.std.proofs.lemmas.Bool.{ne_eqb, eqb-true}
 use Rattle.tt_script.specs.Words.{PlainPart, variable, script, none, more, with_part}
 use Rattle.tt_script.specs.Plain.{plain_part, plain_parts}
-use Rattle.tt_script.specs.Reading.{takes, fails, after, mapped, begins, Level, parts, separates, name_length}
+use Rattle.tt_script.specs.Reading.{takes, fails, after, map_read, begins, Level, parts, separates, name_length}
 use Rattle.tt_script.specs.declared.command.Part.{Part}
 use Rattle.tt_script.specs.declared.command.ParseFault.{ParseFault}
 use Rattle.tt_script.specs.declared.command.Place.{Place}
@@ -66,12 +66,12 @@ module _ (level : Level) (place : Place) (text : List ℕ) (from : ℕ) where
       ∙ dollar_at-variable level text (from + 1) end (named-braceless (drop (from + 1) text) (omega arith)) f (omega arith)
       (separates-parenless place (drop end text) ends))
       (omega arith)
-      ∙ ap (mapped (with_part (variable name))) (ended_at (endings.Word place) text end within ends level)
+      ∙ ap (map_read (with_part (variable name))) (ended_at (endings.Word place) text end within ends level)
 
   module _ (bracket : begins 91 (drop from text) ≡ true) where
     -- a script in brackets, and the parts after it
     pub more_script_at : (inside : List ℕ) (close : ℕ) → after (from + 1) (level.brackets (drop (from + 1) text)) ≡ takes inside close → from < close
-        → after from (parts level (endings.Word place) 0 (drop from text)) ≡ mapped (with_part (script inside))
+        → after from (parts level (endings.Word place) 0 (drop from text)) ≡ map_read (with_part (script inside))
         (after (close + 1) (parts level (endings.Word place) 0 (drop (close + 1) text)))
     more_script_at inside close e later =
         parts_at-part level (endings.Word place) text from (close + 1) (script inside) (begins_at 91 text from bracket)
@@ -83,7 +83,7 @@ module _ (level : Level) (place : Place) (text : List ℕ) (from : ℕ) where
         close + 1 ≤ length text → separates place (drop (close + 1) text) ≡ true
         → after from (parts level (endings.Word place) 0 (drop from text)) ≡ takes (more (script inside) none) (close + 1)
     lone_script_at inside close e later within ends =
-        more_script_at inside close e later ∙ ap (mapped (with_part (script inside))) (ended_at (endings.Word place) text (close + 1) within ends level)
+        more_script_at inside close e later ∙ ap (map_read (with_part (script inside))) (ended_at (endings.Word place) text (close + 1) within ends level)
 
     pub script_at-fault : (fault : ParseFault) → after (from + 1) (level.brackets (drop (from + 1) text)) ≡ fails fault →
         after from (parts level (endings.Word place) 0 (drop from text)) ≡ fails fault

@@ -7,9 +7,9 @@ use Rattle.std.specs.Prelude.{nat_lt, if◌then◌else◌}
 use Rattle.std.specs.List.{prefix_len, position_or_len}
 use Rattle.tt_text.specs.Backslash.{backslash}
 use Rattle.tt_script.specs.Words.{PlainPart, letters, variable, element, script, PlainParts, none, with_letters, with_part}
-use Rattle.tt_script.specs.Reading.{Read, takes, fails, after, mapped, and_then, begins, Level, level, part, parts}
+use Rattle.tt_script.specs.Reading.{Read, takes, fails, after, map_read, and_then, begins, Level, level, part, parts}
 use Rattle.tt_script.specs.Reading.{parts_at_end, ends_parts, separates, is_terminator, continues_line, dollar}
-use Rattle.tt_script.specs.Reading.{named_variable, braced_variable, named, name_length, letters_of}
+use Rattle.tt_script.specs.Reading.{named_variable, braced_variable, part_of_name, name_length, letters_of}
 use Rattle.tt_lanes.specs.Classes.{is_special, is_special_in_quotes, is_special_in_index}
 use Rattle.tt_script.specs.inside.Scanning.{ends_run, is_letter}
 use Rattle.tt_script.specs.declared.command.ParseFault.{ParseFault}
@@ -101,7 +101,7 @@ module _ (level : Level) (ending : Ending) where
   parts-end b text e = rw (e, parts)
 
   pub parts-part : (b : ℕ) (text : List ℕ) (first : PlainPart) (n : ℕ) → ends_parts ending (b ∷ text) ≡ false → part level b text ≡ takes first n →
-      parts level ending 0 (b ∷ text) ≡ after 1 (mapped (with_part first) (parts level ending n text))
+      parts level ending 0 (b ∷ text) ≡ after 1 (map_read (with_part first) (parts level ending n text))
   unfolding parts
   parts-part b text first n e f = rw (e, parts, f)
 
@@ -113,26 +113,26 @@ module _ (level : Level) (ending : Ending) where
   -- a part, and the parts after it
   parts-on : (b : ℕ) (text : List ℕ) (i : ℕ) → ends_parts ending (b ∷ text) ≡ false →
       after i (parts level ending 0 (b ∷ text)) ≡ and_then (after (i + 1) (part level b text))
-      (λ first n. mapped (with_part first) (after n (parts level ending 0 (drop (n - (i + 1)) text))))
+      (λ first n. map_read (with_part first) (after n (parts level ending 0 (drop (n - (i + 1)) text))))
   parts-on b text i e = go (part level b text) refl
     where
       go : (r : Read PlainPart) → part level b text ≡ r →
           after i (parts level ending 0 (b ∷ text)) ≡ and_then (after (i + 1) r)
-          (λ first n. mapped (with_part first) (after n (parts level ending 0 (drop (n - (i + 1)) text))))
+          (λ first n. map_read (with_part first) (after n (parts level ending 0 (drop (n - (i + 1)) text))))
       go (fails fault) f = ap (after i) (parts-fault b text fault e f)
       go (takes first n) f =
           let rest : ℕ → Read PlainParts = λ k. parts level ending 0 (drop k text) in
           let same : i + 1 + n - (i + 1) ≡ n = omega arith in
           ap (after i) (parts-part b text first n e f)
-          ∙ after-after i 1 (mapped (with_part first) (parts level ending n text))
-          ∙ ap (λ r. after (i + 1) (mapped (with_part first) r)) (parts_passes n text)
+          ∙ after-after i 1 (map_read (with_part first) (parts level ending n text))
+          ∙ ap (λ r. after (i + 1) (map_read (with_part first) r)) (parts_passes n text)
           ∙ after-mapped (i + 1) (with_part first) (after n (rest n))
-          ∙ ap (mapped (with_part first)) (after-after (i + 1) n (rest n))
-          ∙ ap (λ k. mapped (with_part first) (after (i + 1 + n) (rest k))) (sym same)
+          ∙ ap (map_read (with_part first)) (after-after (i + 1) n (rest n))
+          ∙ ap (λ k. map_read (with_part first) (after (i + 1 + n) (rest k))) (sym same)
 
   parts_at : (text : List ℕ) (i : ℕ) → i < length text → ends_parts ending (drop i text) ≡ false →
       after i (parts level ending 0 (drop i text)) ≡ and_then (after (i + 1) (part level (get_or text i 0) (drop (i + 1) text)))
-      (λ first n. mapped (with_part first) (after n (parts level ending 0 (drop (n - (i + 1)) (drop (i + 1) text)))))
+      (λ first n. map_read (with_part first) (after n (parts level ending 0 (drop (n - (i + 1)) (drop (i + 1) text)))))
   parts_at text i h e =
       let front = drop_more text i 0 h in
       ap (λ rest. after i (parts level ending 0 rest)) front ∙ parts-on (get_or text i 0) (drop (i + 1) text) i (ap (ends_parts ending) (sym front) ∙ e)
@@ -140,17 +140,17 @@ module _ (level : Level) (ending : Ending) where
   -- a part that is read, up to a place
   pub parts_at-part : (text : List ℕ) (i next : ℕ) (first : PlainPart) → i < length text → ends_parts ending (drop i text) ≡ false →
       after (i + 1) (part level (get_or text i 0) (drop (i + 1) text)) ≡ takes first next → i < next →
-      after i (parts level ending 0 (drop i text)) ≡ mapped (with_part first) (after next (parts level ending 0 (drop next text)))
+      after i (parts level ending 0 (drop i text)) ≡ map_read (with_part first) (after next (parts level ending 0 (drop next text)))
   parts_at-part text i next first h e f later =
       let same : i + 1 + (next - (i + 1)) ≡ next = omega arith in
       parts_at text i h e
-      ∙ ap (λ r. and_then r (λ v n. mapped (with_part v) (after n (parts level ending 0 (drop (n - (i + 1)) (drop (i + 1) text)))))) f
-      ∙ ap (λ rest. mapped (with_part first) (after next (parts level ending 0 rest))) (drop-drop (next - (i + 1)) (i + 1) text ∙ ap (λ k. drop k text) same)
+      ∙ ap (λ r. and_then r (λ v n. map_read (with_part v) (after n (parts level ending 0 (drop (n - (i + 1)) (drop (i + 1) text)))))) f
+      ∙ ap (λ rest. map_read (with_part first) (after next (parts level ending 0 rest))) (drop-drop (next - (i + 1)) (i + 1) text ∙ ap (λ k. drop k text) same)
 
   pub parts_at-fault : (text : List ℕ) (i : ℕ) (fault : ParseFault) → i < length text → ends_parts ending (drop i text) ≡ false →
       after (i + 1) (part level (get_or text i 0) (drop (i + 1) text)) ≡ fails fault → after i (parts level ending 0 (drop i text)) ≡ fails fault
   parts_at-fault text i fault h e f =
-      parts_at text i h e ∙ ap (λ r. and_then r (λ v n. mapped (with_part v) (after n (parts level ending 0 (drop (n - (i + 1)) (drop (i + 1) text)))))) f
+      parts_at text i h e ∙ ap (λ r. and_then r (λ v n. map_read (with_part v) (after n (parts level ending 0 (drop (n - (i + 1)) (drop (i + 1) text)))))) f
 
   pub parts_at-end : (text : List ℕ) (i : ℕ) → i < length text → ends_parts ending (drop i text) ≡ true →
       after i (parts level ending 0 (drop i text)) ≡ takes none i
@@ -216,7 +216,7 @@ letter-on endings.Parenthesis b text e = unlike is_special_in_index b 41 e refl
 
 -- letters before a read
 one_letter : ℕ → Read PlainParts → Read PlainParts
-one_letter b r = after 1 (mapped (with_letters (b ∷ [])) r)
+one_letter b r = after 1 (map_read (with_letters (b ∷ [])) r)
 
 module _ (level : Level) (ending : Ending) where
   letter_step : (b : ℕ) (text : List ℕ) → is_letter ending b ≡ true → parts level ending 0 (b ∷ text) ≡ one_letter b (parts level ending 0 text)
@@ -227,21 +227,21 @@ module _ (level : Level) (ending : Ending) where
       parts-part level ending b text (letters (b ∷ [])) 0 (letter-on ending b text e)
       (part-letter level b text (unlike p b 36 e ends.0) (unlike p b 91 e ends.1) (unlike p b 92 e ends.2))
 
-  letters_all : (bs : List ℕ) (r : Read PlainParts) → all one_letter bs r ≡ after (length bs) (mapped (with_letters bs) r)
+  letters_all : (bs : List ℕ) (r : Read PlainParts) → all one_letter bs r ≡ after (length bs) (map_read (with_letters bs) r)
   unfolding one_letter
   letters_all [] (takes value k) = ap (takes value) (omega arith)
   letters_all [] (fails fault) = refl
   letters_all (b ∷ bs) r =
       ap (one_letter b) (letters_all bs r)
-      ∙ ap (after 1) (sym (after-mapped (length bs) (with_letters (b ∷ [])) (mapped (with_letters bs) r)))
-      ∙ after-after 1 (length bs) (mapped (with_letters (b ∷ [])) (mapped (with_letters bs) r))
+      ∙ ap (after 1) (sym (after-mapped (length bs) (with_letters (b ∷ [])) (map_read (with_letters bs) r)))
+      ∙ after-after 1 (length bs) (map_read (with_letters (b ∷ [])) (map_read (with_letters bs) r))
       ∙ ap (after (1 + length bs))
       (mapped-mapped (with_letters (b ∷ [])) (with_letters bs) r ∙ mapped-same _ (with_letters (b ∷ bs)) (λ ps. sym (with_letters-++ (b ∷ []) bs ps)) r)
-      ∙ ap (λ n. after n (mapped (with_letters (b ∷ bs)) r)) (omega arith)
+      ∙ ap (λ n. after n (map_read (with_letters (b ∷ bs)) r)) (omega arith)
 
   -- a run of letters from one place to another
   letters_run : (text : List ℕ) (i stop : ℕ) → i ≤ stop → stop ≤ length text → stop ≤ i + prefix_len (is_letter ending) (drop i text) →
-      after i (parts level ending 0 (drop i text)) ≡ mapped (with_letters (take (stop - i) (drop i text))) (after stop (parts level ending 0 (drop stop text)))
+      after i (parts level ending 0 (drop i text)) ≡ map_read (with_letters (take (stop - i) (drop i text))) (after stop (parts level ending 0 (drop stop text)))
   letters_run text i stop order room run =
       let n : ℕ = stop - i in
       let bs : List ℕ = take n (drop i text) in
@@ -249,10 +249,10 @@ module _ (level : Level) (ending : Ending) where
       let rest : drop n (drop i text) ≡ drop stop text = drop-drop n i text ∙ ap (λ k. drop k text) (omega arith) in
       let tail : Read PlainParts = parts level ending 0 (drop n (drop i text)) in
       ap (after i) (passes (is_letter ending) (parts level ending 0) one_letter letter_step n (drop i text) (omega arith) ∙ letters_all bs tail)
-      ∙ after-after i (length bs) (mapped (with_letters bs) tail)
-      ∙ ap (λ k. after k (mapped (with_letters bs) tail)) (omega arith)
+      ∙ after-after i (length bs) (map_read (with_letters bs) tail)
+      ∙ ap (λ k. after k (map_read (with_letters bs) tail)) (omega arith)
       ∙ after-mapped stop (with_letters bs) tail
-      ∙ ap (λ r. mapped (with_letters bs) (after stop (parts level ending 0 r))) rest
+      ∙ ap (λ r. map_read (with_letters bs) (after stop (parts level ending 0 r))) rest
 
 -- ---- where parts end ----
 
@@ -284,7 +284,7 @@ pub plain_parts_at : (level : Level) (ending : Ending) (text : List ℕ) (from e
     after from (parts level ending 0 (drop from text)) ≡ takes (letters_of (take (end - from) (drop from text))) end
 plain_parts_at level ending text from end order within run ends =
     letters_run level ending text from end order within run
-    ∙ ap (mapped (with_letters (take (end - from) (drop from text)))) (ended_at ending text end within ends level)
+    ∙ ap (map_read (with_letters (take (end - from) (drop from text)))) (ended_at ending text end within ends level)
 
 -- ---- what `$` begins, at a place ----
 
@@ -351,15 +351,15 @@ module _ (level : Level) (text : List ℕ) (from : ℕ) where
 
 -- what `${` begins, if a `}` closes it
 pub braced_variable_at : (text : List ℕ) (from end : ℕ) → end ≡ from + position_or_len (λ b. b == 125) (drop from text) → end ≤ length text → end ≢ length text
-    → after from (braced_variable (drop from text)) ≡ takes (named (take (end - from) (drop from text))) (end + 1)
+    → after from (braced_variable (drop from text)) ≡ takes (part_of_name (take (end - from) (drop from text))) (end + 1)
 braced_variable_at text from end e within apart =
     let rest : List ℕ = drop from text in
     let n : ℕ = position_or_len (λ b. b == 125) rest in
     let room : nat_lt n (length rest) ≡ true = lt-ltb n (length rest) (omega (arith, length-drop from text)) in
     let size : n ≡ end - from = omega arith in
     let place : from + (n + 1) ≡ end + 1 = omega arith in
-    ap (λ v. after from (if v then takes (named (take n rest)) (n + 1) else fails VariableBrace)) room
-    ∙ ap (takes (named (take n rest))) place ∙ ap (λ k. takes (named (take k rest)) (end + 1)) size
+    ap (λ v. after from (if v then takes (part_of_name (take n rest)) (n + 1) else fails VariableBrace)) room
+    ∙ ap (takes (part_of_name (take n rest))) place ∙ ap (λ k. takes (part_of_name (take k rest)) (end + 1)) size
 
 -- ---- a part at a place ----
 
@@ -402,7 +402,7 @@ module _ (level : Level) (text : List ℕ) (at : ℕ) where
 module _ (level : Level) (ending : Ending) (text : List ℕ) (at : ℕ) (h : at < length text) (goes_on : ends_parts ending (drop at text) ≡ false) where
   pub parts_at-letters : (next : ℕ) → get_or text at 0 ≢ 36 → get_or text at 0 ≢ 91 → get_or text at 0 ≢ 92
       → at + 1 ≤ next → next ≤ length text → next ≤ at + 1 + prefix_len (is_letter ending) (drop (at + 1) text)
-      → after at (parts level ending 0 (drop at text)) ≡ mapped (with_letters (take (next - at) (drop at text)))
+      → after at (parts level ending 0 (drop at text)) ≡ map_read (with_letters (take (next - at) (drop at text)))
       (after next (parts level ending 0 (drop next text)))
   parts_at-letters next e f g later room run =
       let b : ℕ = get_or text at 0 in
@@ -412,7 +412,7 @@ module _ (level : Level) (ending : Ending) (text : List ℕ) (at : ℕ) (h : at 
       ap (after (at + 1)) (part_at-letter level text at e f g) ∙ ap (takes (letters (b ∷ []))) (omega arith) in
       let bytes : take (next - at) (drop at text) ≡ b ∷ bs = slice-more text at next h (omega arith) in
       parts_at-part level ending text at (at + 1) (letters (b ∷ [])) h goes_on one (omega arith)
-      ∙ ap (mapped (with_letters (b ∷ []))) (letters_run level ending text (at + 1) next later room run)
+      ∙ ap (map_read (with_letters (b ∷ []))) (letters_run level ending text (at + 1) next later room run)
       ∙ mapped-mapped (with_letters (b ∷ [])) (with_letters bs) rest
       ∙ mapped-same _ (with_letters (take (next - at) (drop at text)))
       (λ ps. sym (with_letters-++ (b ∷ []) bs ps) ∙ ap (λ cs. with_letters cs ps) (sym bytes)) rest

@@ -3,7 +3,7 @@ use Rattle.std.proofs.Common.{◌≡◌, ℕ, ◌+◌, ◌-◌, true, false, Lis
 use Rattle.std.proofs.lemmas.List.{drop-drop}
 use Rattle.tt_text.specs.Braces.{matching_brace, further}
 use Rattle.tt_script.proofs.Bracing.{further-none, further-some}
-use Rattle.tt_script.specs.Reading.{Read, takes, fails, after, mapped, separates, separated, braced, letters_of, joined_lines}
+use Rattle.tt_script.specs.Reading.{Read, takes, fails, after, map_read, separates, before_separator, braced, letters_of, joined_lines}
 use Rattle.tt_script.specs.declared.command.ParseFault.TheVariants.{CloseBrace, AfterBrace}
 use Rattle.tt_script.specs.declared.command.Place.{Place}
 
@@ -17,15 +17,15 @@ pub after-zero : {A : Type 0} (r : Read A) → after 0 r ≡ r
 after-zero (takes value k) = ap (takes value) (omega arith)
 after-zero (fails fault) = refl
 
-pub after-mapped : {A B : Type 0} (n : ℕ) (f : A → B) (r : Read A) → after n (mapped f r) ≡ mapped f (after n r)
+pub after-mapped : {A B : Type 0} (n : ℕ) (f : A → B) (r : Read A) → after n (map_read f r) ≡ map_read f (after n r)
 after-mapped n f (takes value k) = refl
 after-mapped n f (fails fault) = refl
 
-pub mapped-mapped : {A B C : Type 0} (f : B → C) (g : A → B) (r : Read A) → mapped f (mapped g r) ≡ mapped (λ x. f (g x)) r
+pub mapped-mapped : {A B C : Type 0} (f : B → C) (g : A → B) (r : Read A) → map_read f (map_read g r) ≡ map_read (λ x. f (g x)) r
 mapped-mapped f g (takes value k) = refl
 mapped-mapped f g (fails fault) = refl
 
-pub mapped-same : {A B : Type 0} (f g : A → B) → ((x : A) → f x ≡ g x) → (r : Read A) → mapped f r ≡ mapped g r
+pub mapped-same : {A B : Type 0} (f g : A → B) → ((x : A) → f x ≡ g x) → (r : Read A) → map_read f r ≡ map_read g r
 mapped-same f g same (takes value k) = ap (λ v. takes v k) (same value)
 mapped-same f g same (fails fault) = refl
 
@@ -34,12 +34,12 @@ mapped-same f g same (fails fault) = refl
 pub braced-closed : (place : Place) (text : List ℕ) (n : ℕ) → matching_brace text ≡ Some n → separates place (drop (n + 1) text) ≡ true →
     braced place text ≡ takes (letters_of (joined_lines 0 (take n text))) (n + 1)
 unfolding braced
-braced-closed place text n e f = rw (e, braced, f, separated)
+braced-closed place text n e f = rw (e, braced, f, before_separator)
 
 pub braced-after : (place : Place) (text : List ℕ) (n : ℕ) → matching_brace text ≡ Some n → separates place (drop (n + 1) text) ≡ false →
     braced place text ≡ fails AfterBrace
 unfolding braced
-braced-after place text n e f = rw (e, braced, f, separated)
+braced-after place text n e f = rw (e, braced, f, before_separator)
 
 pub braced-open : (place : Place) (text : List ℕ) → matching_brace text ≡ None → braced place text ≡ fails CloseBrace
 unfolding braced

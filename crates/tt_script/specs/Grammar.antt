@@ -9,7 +9,7 @@ use Rattle.tt_text.specs.Braces.{IsBalanced}
 use Rattle.tt_script.specs.Words.{PlainPart, letters, variable, element, script, PlainParts, none, with_part, PlainWord}
 use Rattle.tt_script.specs.Words.{PlainCommand}
 use Rattle.tt_script.specs.Reading.{most_open, begins, continues_line, separates, ends_command, ends_parts, expands}
-use Rattle.tt_script.specs.Reading.{letters_of, joined_lines, is_name_byte, named}
+use Rattle.tt_script.specs.Reading.{letters_of, joined_lines, is_name_byte, part_of_name}
 use Rattle.tt_script.specs.declared.command.Place.{Place}
 use Rattle.tt_script.specs.declared.command.Place.TheVariants as places
 use Rattle.tt_script.specs.declared.command.Ending.{Ending}
@@ -154,7 +154,7 @@ mutual
         → d ≡ 125
         → text ≡ name ++ (d ∷ rest)
         → position_or_len (λ x. x == 125) name ≡ length name
-        → part ≡ named name
+        → part ≡ part_of_name name
         → IsPart depth (b ∷ c ∷ text) part rest
     -- a `$` before anything else is itself (rule 8)
     dollar_part : {depth b : ℕ} {text : List ℕ}

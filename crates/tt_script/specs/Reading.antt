@@ -29,9 +29,9 @@ after n (takes value m) = takes value (n + m)
 after n (fails fault) = fails fault
 
 -- the same with another value
-abbrev pub mapped : {A B : Type 0} → (A → B) → Read A → Read B
-mapped f (takes value n) = takes (f value) n
-mapped f (fails fault) = fails fault
+abbrev pub map_read : {A B : Type 0} → (A → B) → Read A → Read B
+map_read f (takes value n) = takes (f value) n
+map_read f (fails fault) = fails fault
 
 -- what comes after it
 abbrev pub and_then : {A B : Type 0} → Read A → (A → ℕ → Read B) → Read B
@@ -136,8 +136,8 @@ abbrev pub index_start : List ℕ → Option ℕ
 index_start name = if begins 41 (drop (length name - 1) name) then position (λ b. b == 40) name else None
 
 -- a name in braces is one that a command is given: a(b) is the element b of a, from the first ( to a last ) (rule 8)
-abbrev pub named : List ℕ → PlainPart
-named name =
+abbrev pub part_of_name : List ℕ → PlainPart
+part_of_name name =
     elim (index_start name) [
       | None ↦ variable name
       | Some start ↦ element (take start name) (letters_of (slice_range name (start + 1) (length name - 1)))
@@ -147,7 +147,7 @@ named name =
 abbrev pub braced_variable : List ℕ → Read PlainPart
 braced_variable text =
     let n = position_or_len (λ b. b == 125) text in
-    if nat_lt n (length text) then takes (named (take n text)) (n + 1) else fails VariableBrace
+    if nat_lt n (length text) then takes (part_of_name (take n text)) (n + 1) else fails VariableBrace
 
 -- how what a bracket or an index opens is read: by readers that are one level in
 pub record Level : Type 0 where
@@ -210,7 +210,7 @@ parts level ending zero (b ∷ text) =
     elim (ends_parts ending (b ∷ text)) [
       | true ↦ takes none 0
       | false ↦ elim (part level b text) [
-        | takes first n ↦ after 1 (mapped (with_part first) (parts level ending n text))
+        | takes first n ↦ after 1 (map_read (with_part first) (parts level ending n text))
         | fails fault ↦ fails fault
       ]
     ]
@@ -218,19 +218,20 @@ parts level ending zero (b ∷ text) =
 -- ---- words ----
 
 -- a value that takes so many bytes, if a separator follows it
-abbrev pub separated : Place → ParseFault → List ℕ → PlainParts → ℕ → Read PlainParts
-separated place fault text value n = elim (separates place (drop n text)) [ true ↦ takes value n | false ↦ fails fault ]
+abbrev pub before_separator : Place → ParseFault → List ℕ → PlainParts → ℕ → Read PlainParts
+before_separator place fault text value n =
+    elim (separates place (drop n text)) [ true ↦ takes value n | false ↦ fails fault ]
 
 -- a word in quotes, with the text after the quote (rule 4)
-unfoldable pub quoted : Place → Level → List ℕ → Read PlainParts
-quoted place level text =
-    and_then (parts level endings.Quote 0 text) (λ value n. separated place AfterQuote text value (n + 1))
+unfoldable pub quoted_word : Place → Level → List ℕ → Read PlainParts
+quoted_word place level text =
+    and_then (parts level endings.Quote 0 text) (λ value n. before_separator place AfterQuote text value (n + 1))
 
 -- a word in braces, with the text after the brace (rule 6)
 unfoldable pub braced : Place → List ℕ → Read PlainParts
 braced place text =
     elim (matching_brace text) [
-      | Some n ↦ separated place AfterBrace text (letters_of (joined_lines 0 (take n text))) (n + 1)
+      | Some n ↦ before_separator place AfterBrace text (letters_of (joined_lines 0 (take n text))) (n + 1)
       | None ↦ fails CloseBrace
     ]
 
@@ -238,7 +239,7 @@ braced place text =
 unfoldable pub word_parts : Place → Level → List ℕ → Read PlainParts
 word_parts place level text =
     elim (begins 34 text) [
-      | true ↦ after 1 (quoted place level (drop 1 text))
+      | true ↦ after 1 (quoted_word place level (drop 1 text))
       | false ↦ elim (begins 123 text) [
         | true ↦ after 1 (braced place (drop 1 text))
         | false ↦ parts level (endings.Word place) 0 text
@@ -259,8 +260,8 @@ unfoldable pub word : Place → Level → List ℕ → Read PlainWord
 word place level text =
     elim (expands text) [
       | true ↦
-          after 3 (mapped (λ value. record { expand = true; parts = value }) (word_parts place level (drop 3 text)))
-      | false ↦ mapped (λ value. record { expand = false; parts = value }) (word_parts place level text)
+          after 3 (map_read (λ value. record { expand = true; parts = value }) (word_parts place level (drop 3 text)))
+      | false ↦ map_read (λ value. record { expand = false; parts = value }) (word_parts place level text)
     ]
 
 -- the words of a command, parted by gaps, up to the end of the last one (rules 1 and 3)
@@ -273,7 +274,7 @@ words place level zero (b ∷ text) =
           let next = n + gap 0 (drop n (b ∷ text)) in
           elim (ends_command place (drop next (b ∷ text))) [
             | true ↦ takes (first ∷ []) n
-            | false ↦ after 1 (mapped (λ others. first ∷ others) (words place level (pred next) text))
+            | false ↦ after 1 (map_read (λ others. first ∷ others) (words place level (pred next) text))
           ]
       | fails fault ↦ fails fault
     ]
@@ -332,8 +333,8 @@ unfoldable pub first : List ℕ → PlainFirst
 first text = command_at (skipped 0 text) (drop (skipped 0 text) text)
 
 -- the same with its places in a text that has n bytes more at its front
-abbrev pub moved : ℕ → PlainFirst → PlainFirst
-moved n nothing = nothing
-moved n (bad fault start) = bad fault (n + start)
-moved n (command c) =
+abbrev pub first_after : ℕ → PlainFirst → PlainFirst
+first_after n nothing = nothing
+first_after n (bad fault start) = bad fault (n + start)
+first_after n (command c) =
     command (record { words = c.words; start = n + c.start; text_end = n + c.text_end; next = n + c.next })

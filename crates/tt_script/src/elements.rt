@@ -60,7 +60,7 @@ pub fn plain_name(name: &[u8]) -> &[u8]
 
 /// The variable of a name in braces: `a(b)` is an element of an array (Tcl(n), rule 8).
 pub(crate) fn named(alloc: Global, name: &[u8], mode: Mode) -> Result<Part, NoMemory>
-    ensures { mode ≡ Mode.Keep → IfOk result (λ part. plain_part part ≡ reading.named name.now) }
+    ensures { mode ≡ Mode.Keep → IfOk result (λ part. plain_part part ≡ reading.part_of_name name.now) }
 {
     let Some((array, index)) = split_name(name) else {
         return Ok(Part::Variable(mode.text(alloc, name)?));

@@ -6,7 +6,7 @@ use crate::command::ParseFault;
 impl ParseFault {
     /// The text of the error that a command gives which can't be read (Tcl(n)).
     pub fn message(self) -> &'static [u8]
-        ensures told { result.now ≡ parse_message self }
+        ensures message { result.now ≡ parse_message self }
     {
         match self {
             ParseFault::CloseBrace => b"missing close-brace",

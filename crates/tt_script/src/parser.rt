@@ -306,7 +306,7 @@ fn quoted(
 ) -> Result<(Vec<Part>, usize), Stop>
     requires { from ≤ length text.now }
     ensures read { Answers mode (λ parts. plain_parts parts.items) result
-        (reading.after from (reading.quoted place (reading.level depth) (drop from text.now))) }
+        (reading.after from (reading.quoted_word place (reading.level depth) (drop from text.now))) }
     ensures within { IfOk result (λ r. (from < r.1) × (r.1 ≤ length text.now)) }
 {
     let (parts, end) = parts(alloc, text, from, Ending::Quote, depth, mode)?;

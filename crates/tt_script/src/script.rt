@@ -19,7 +19,8 @@ pub const DEPTH: usize = 1000;
 /// `NoMemory` if the memory for the answer is refused.
 pub fn first_command(alloc: Global, text: &[u8], from: usize) -> Result<First, NoMemory>
     requires { from ≤ length text.now }
-    ensures exact { IfOk result (λ first. plain_first first ≡ reading.moved from (reading.first (drop from text.now))) }
+    ensures exact { IfOk result (λ first.
+        plain_first first ≡ reading.first_after from (reading.first (drop from text.now))) }
 {
     let start = skip_end(text, from);
     if start == text.len() {

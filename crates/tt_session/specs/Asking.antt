@@ -31,14 +31,14 @@ generate_setup named = record {
 -- the script is there
 pub record BeginsPlain (named : Plain) (names : Option Names) (setup : Setup) (mode : Mode) : Type 0 where
   pub script : List ℕ
-  pub told : Tells names named.script (Some script)
+  pub script_is : Tells names named.script (Some script)
   pub begins : setup ≡ plain_setup named script
   pub chosen : mode ≡ Freely named.steps
 
 -- the script and the schedule's text are there
 pub record AreThere (named : Replay) (names : Option Names) (script text : List ℕ) : Type 0 where
-  pub script_told : Tells names named.script (Some script)
-  pub text_told : Tells names named.schedule (Some text)
+  pub script_is : Tells names named.script (Some script)
+  pub text_is : Tells names named.schedule (Some text)
 
 -- and the text is that of the list that is followed
 pub record BeginsReplay (named : Replay) (names : Option Names) (setup : Setup) (mode : Mode) : Type 0 where

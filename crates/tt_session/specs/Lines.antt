@@ -26,11 +26,11 @@ status_message WriteFault = codes "write fault"
 status_message NoMemory = codes "no memory"
 
 -- a line: the program's name, what is reported, and a newline
-abbrev pub framed : (message : List ℕ) → List ℕ
-framed message = codes "tclthread: " ++ (message ++ (10 ∷ []))
+abbrev pub program_line : (message : List ℕ) → List ℕ
+program_line message = codes "tclthread: " ++ (message ++ (10 ∷ []))
 
 abbrev pub line_of : Status → List ℕ
-line_of status = framed (status_message status)
+line_of status = program_line (status_message status)
 
 module _ {E : Type 0} (errors : OfSink E) where
   -- a run that is over has no line, and after a failure of standard error nothing is put: its count of faults was this

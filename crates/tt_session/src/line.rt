@@ -2,7 +2,7 @@ ghost use Rattle.std.specs.Prelude.{◌≡◌, ◌++◌, ◌↔◌, OnOk, OnErr,
 ghost use Rattle.std.specs.Fmt.{decimal};
 ghost use Rattle.tt_devices.specs.Faults.{Rises};
 ghost use Rattle.tt_devices.specs.Streams.{Grows, GrowsByPart};
-ghost use Rattle.tt_session.specs.Lines.{HasNoLine, PutsLine, framed, line_of};
+ghost use Rattle.tt_session.specs.Lines.{HasNoLine, PutsLine, program_line, line_of};
 
 use crate::status::{Place, Status};
 use itoa::Buffer;
@@ -71,9 +71,10 @@ fn put_place<E: Sink>(errors: &mut E, place: Place) -> Result<(), Failed>
 
 /// Puts a line of words and a number.
 fn put_number<E: Sink>(errors: &mut E, words: &[u8], number: u64) -> Result<(), Failed>
-    ensures put { OnOk result (Grows (E.got errors.old) (E.got errors.new) (framed (words.now ++ decimal number))) }
+    ensures put { OnOk result
+        (Grows (E.got errors.old) (E.got errors.new) (program_line (words.now ++ decimal number))) }
     ensures part { OnErr result
-        (GrowsByPart (E.got errors.old) (E.got errors.new) (framed (words.now ++ decimal number))) }
+        (GrowsByPart (E.got errors.old) (E.got errors.new) (program_line (words.now ++ decimal number))) }
     ensures steady { OnOk result (E.fault_count errors.new ≡ E.fault_count errors.old) }
     ensures cause { OnErr result (Rises (E.fault_count errors.old) (E.fault_count errors.new)) }
 {
@@ -84,8 +85,9 @@ fn put_number<E: Sink>(errors: &mut E, words: &[u8], number: u64) -> Result<(), 
 
 /// Puts a line of words and what follows them, piece by piece.
 fn put_words<E: Sink>(errors: &mut E, words: &[u8], more: &[u8]) -> Result<(), Failed>
-    ensures put { OnOk result (Grows (E.got errors.old) (E.got errors.new) (framed (words.now ++ more.now))) }
-    ensures part { OnErr result (GrowsByPart (E.got errors.old) (E.got errors.new) (framed (words.now ++ more.now))) }
+    ensures put { OnOk result (Grows (E.got errors.old) (E.got errors.new) (program_line (words.now ++ more.now))) }
+    ensures part { OnErr result
+        (GrowsByPart (E.got errors.old) (E.got errors.new) (program_line (words.now ++ more.now))) }
     ensures steady { OnOk result (E.fault_count errors.new ≡ E.fault_count errors.old) }
     ensures cause { OnErr result (Rises (E.fault_count errors.old) (E.fault_count errors.new)) }
 {

@@ -22,13 +22,14 @@ use Rattle.tt_locks.specs.Calls as locks
 use Rattle.tt_pools.specs.Calls as pools
 use Rattle.tt_pools.specs.declared.step.PoolStep.{PoolStep}
 use Rattle.tt_shared.specs.Ends.{ends, exits}
-use Rattle.tt_shared.specs.Sends.{awaits, broadcasts, delivers, mailed, names_procedure, reports, sends, takes}
+use Rattle.tt_shared.specs.Sends.{awaits, broadcasts, delivers, state_with_event, names_procedure, reports, sends}
+use Rattle.tt_shared.specs.Sends.{takes}
 use Rattle.tt_shared.specs.State.{Acted, State, answer, answers, is_marked, is_not_asked, refuses, reply_of, room}
 use Rattle.tt_shared.specs.State.{truth, with_thread}
 use Rattle.tt_shared.specs.declared.applied.Line.{Line}
 use Rattle.tt_shared.specs.declared.applied.Line.TheVariants as line
 use Rattle.tt_threads.specs.Requests as threads
-use Rattle.tt_threads.specs.Rows.{linked, living, most_living, new_row, row_of}
+use Rattle.tt_threads.specs.Rows.{linked_thread, living, most_living, new_row, row_of}
 use Rattle.tt_threads.specs.declared.row.Row.{Row}
 use Rattle.tt_tsv.specs.Calls as arrays
 
@@ -87,11 +88,12 @@ is_unheld (Some row) = elim row.count [ pos n ↦ n == 0 | negsuc n ↦ true ]
 abbrev pub stops_unheld : State → (number : Option ℕ) → State
 stops_unheld state None = state
 stops_unheld state (Some number) =
-    if is_unheld (row_of state.rows number) then mailed state number false event.Stop else state
+    if is_unheld (row_of state.rows number) then state_with_event state number false event.Stop else state
 
 abbrev pub releases : State → ℕ → (text : List ℕ) → threads.Answered → Acted
 releases state t text answered =
-    answers (stops_unheld (record state { rows = answered.rows }) (threads.named state.rows t text)) answered.reply
+    answers (stops_unheld (record state { rows = answered.rows }) (threads.thread_named state.rows t text))
+    answered.reply
 
 abbrev pub asks_release : State → ℕ → (text : List ℕ) → Request → Acted
 asks_release state t text request = releases state t text (threads.act state.rows t request)
@@ -139,12 +141,13 @@ on_pools state t call = pools_after state t (pools.act_or_wait state.pools t (ro
 
 -- the linked thread that a transfer names
 abbrev pub target_of : State → ChanCall → Option ℕ
-target_of state (chan.Transfer text channel) = linked state.rows text
+target_of state (chan.Transfer text channel) = linked_thread state.rows text
 target_of state call = None
 
 -- a channel that is on its way comes by an event of its target
 abbrev pub moves : State → ChanCall → (target : Option ℕ) → Reply → State
-moves state (chan.Transfer text channel) (Some target) reply.Go = mailed state target false (event.Moved channel)
+moves state (chan.Transfer text channel) (Some target) reply.Go =
+    state_with_event state target false (event.Moved channel)
 moves state call target answered = state
 
 abbrev pub on_channels : State → ℕ → ChanCall → Acted

@@ -14,7 +14,7 @@ use Rattle.tt_shared.specs.Mail.{first_of, scripts_of}
 use Rattle.tt_shared.specs.State.{State, is_marked}
 use Rattle.tt_slots.specs.Waiting.{is_waiting, slot_of}
 use Rattle.tt_slots.specs.declared.slot.Slot.{Slot}
-use Rattle.tt_threads.specs.Rows.{is_living, linked, row_of}
+use Rattle.tt_threads.specs.Rows.{is_living, linked_thread, row_of}
 use Rattle.tt_threads.specs.declared.row.Row.{Row}
 use Rattle.tt_tsv.specs.Calls as arrays
 
@@ -56,7 +56,7 @@ can_pool state t call =
 -- the table: all others are always enabled
 abbrev pub enabled : State → ℕ → Request → Bool
 enabled state t (ask.AwaitEnd thread) = not (is_living state.rows thread)
-enabled state t (ask.Send id script mode variable head) = can_send state t mode (linked state.rows id)
+enabled state t (ask.Send id script mode variable head) = can_send state t mode (linked_thread state.rows id)
 enabled state t (ask.Await n) = not (is_own_waiting t (slot_of state.posts.slots n))
 enabled state t ask.Take = has_event state t
 enabled state t (ask.Tsv call) = not (arrays.waits state.arrays t call)

@@ -12,7 +12,7 @@ use Rattle.tt_calls.specs.declared.start.Start.TheVariants.{Script, Worker}
 use Rattle.tt_chans.specs.Channels as channels
 use Rattle.tt_pools.specs.Calls as pools
 use Rattle.tt_pools.specs.Pools.{PoolTable}
-use Rattle.tt_shared.specs.Mail.{Queues, emptied, posts_after, queued}
+use Rattle.tt_shared.specs.Mail.{Queues, queues_without_events, posts_after, queues_with_event}
 use Rattle.tt_shared.specs.State.{Acted, State, answers}
 use Rattle.tt_shared.specs.declared.posts.VariablePost.{VariablePost}
 use Rattle.tt_threads.specs.Rows.{is_living, row_of, with_end}
@@ -23,13 +23,13 @@ abbrev pub hears : List Row → (t : ℕ) → VariablePost → Bool
 hears rows t post = post.target == t && (not (post.sender == t) && is_living rows post.sender)
 
 -- the variables of posts that the thread leaves unanswered are set, in the order of the posts
-abbrev pub died : (name : List ℕ) → Event
-died name = event.SetVar name (codes "target thread died")
+abbrev pub end_event : (name : List ℕ) → Event
+end_event name = event.SetVar name (codes "target thread died")
 
 abbrev pub with_died_event : List Row → (t : ℕ) → Queues → VariablePost → Queues
 with_died_event rows t queues post =
     if hears rows t post
-    then queued queues post.sender false (died post.name)
+    then queues_with_event queues post.sender false (end_event post.name)
     else queues
 
 abbrev pub tells_died : List Row → (t : ℕ) → List VariablePost → Queues → Queues
@@ -59,18 +59,18 @@ pools_left state t = pools.table_after_end state.pools t (pool_of_row (row_of st
 -- The thread has ended with its code; whoever waits for an answer of it gets the answer that it died; its queue is
 -- emptied; as a worker its job has failed; its channels are closed, and those that were on their way to it go back.
 -- Locks and arrays that it holds stay held.
-abbrev pub ended : State → ℕ → ℤ → State
-ended state t code = record state {
+abbrev pub state_after_end : State → ℕ → ℤ → State
+state_after_end state t code = record state {
   over = over_after state.over t code;
   rows = with_end state.rows t code;
-  queues = emptied (tells_died state.rows t (values_of state.posts.variables) state.queues) t;
+  queues = queues_without_events (tells_died state.rows t (values_of state.posts.variables) state.queues) t;
   posts = posts_after state.posts t;
   pools = pools_left state t;
   channels = channels.table_after_end state.channels t;
 }
 
 abbrev pub ends : State → ℕ → ℤ → Acted
-ends state t code = answers (ended state t code) Go
+ends state t code = answers (state_after_end state t code) Go
 
 -- the end of the run, whatever is left
 abbrev pub exits : State → ℤ → Acted

@@ -30,20 +30,20 @@ abbrev pub with_event : (head : Bool) → Event → List Event → List Event
 with_event true event events = event ∷ events
 with_event false event events = events ++ event ∷ []
 
-abbrev pub queued_in : Queues → ℕ → (head : Bool) → Event → Option (List Event) → Queues
-queued_in queues thread head event None = queues
-queued_in queues thread head event (Some events) = with_queue queues thread (with_event head event events)
+abbrev pub queues_with_event_in : Queues → ℕ → (head : Bool) → Event → Option (List Event) → Queues
+queues_with_event_in queues thread head event None = queues
+queues_with_event_in queues thread head event (Some events) = with_queue queues thread (with_event head event events)
 
-abbrev pub queued : Queues → ℕ → (head : Bool) → Event → Queues
-queued queues thread head event = queued_in queues thread head event (queue_of queues thread)
+abbrev pub queues_with_event : Queues → ℕ → (head : Bool) → Event → Queues
+queues_with_event queues thread head event = queues_with_event_in queues thread head event (queue_of queues thread)
 
 -- a thread's queue is emptied
-abbrev pub emptied_in : Queues → ℕ → Option (List Event) → Queues
-emptied_in queues thread None = queues
-emptied_in queues thread (Some events) = with_queue queues thread []
+abbrev pub queues_without_events_in : Queues → ℕ → Option (List Event) → Queues
+queues_without_events_in queues thread None = queues
+queues_without_events_in queues thread (Some events) = with_queue queues thread []
 
-abbrev pub emptied : Queues → ℕ → Queues
-emptied queues thread = emptied_in queues thread (queue_of queues thread)
+abbrev pub queues_without_events : Queues → ℕ → Queues
+queues_without_events queues thread = queues_without_events_in queues thread (queue_of queues thread)
 
 -- the event that a thread takes next, and the queues after that
 abbrev pub first_in : Option (List Event) → Option Event
@@ -109,10 +109,10 @@ abbrev pub without_variable : Posts → ℕ → Posts
 without_variable posts n = record posts { variables = remove_entry (is_at (nat_cmp n)) posts.variables }
 
 -- the posts with the next one: its sender waits, or the answer goes to a variable, or nobody asks for it
-abbrev pub posted : Posts → (sender target : ℕ) → Mode → (variable : Option (List ℕ)) → Posts
-posted posts sender target Waits variable = with_wait posts sender target
-posted posts sender target Later None = with_plain posts
-posted posts sender target Later (Some name) = with_variable posts sender target name
+abbrev pub posts_with_next : Posts → (sender target : ℕ) → Mode → (variable : Option (List ℕ)) → Posts
+posts_with_next posts sender target Waits variable = with_wait posts sender target
+posts_with_next posts sender target Later None = with_plain posts
+posts_with_next posts sender target Later (Some name) = with_variable posts sender target name
 
 -- whether somebody asks for the answer
 abbrev pub is_answered : Mode → (variable : Option (List ℕ)) → Bool

@@ -15,7 +15,8 @@ use Rattle.tt_chans.specs.Channels as channels
 use Rattle.tt_ids.specs.Ids.{id}
 use Rattle.tt_ids.specs.declared.id.IdKind.TheVariants.{Thread}
 use Rattle.tt_lists.specs.Spelling.{list_of}
-use Rattle.tt_shared.specs.Mail.{first_of, is_answered, posted, queued, variable_post, with_plain, without_first}
+use Rattle.tt_shared.specs.Mail.{first_of, is_answered, posts_with_next, queues_with_event, variable_post, with_plain}
+use Rattle.tt_shared.specs.Mail.{without_first}
 use Rattle.tt_shared.specs.Mail.{without_variable}
 use Rattle.tt_shared.specs.State.{Acted, State, answer, answers, is_not_asked, no_thread, refuses}
 use Rattle.tt_shared.specs.declared.posts.VariablePost.{VariablePost}
@@ -24,21 +25,21 @@ use Rattle.tt_slots.specs.Waiting.{after_take, is_waiting, slot_of, with_state}
 use Rattle.tt_slots.specs.declared.slot.Slot.{Slot}
 use Rattle.tt_slots.specs.declared.slot.SlotState.{SlotState}
 use Rattle.tt_slots.specs.declared.slot.SlotState.TheVariants as slot
-use Rattle.tt_threads.specs.Rows.{is_linked, is_living, linked, row_of}
+use Rattle.tt_threads.specs.Rows.{is_linked, is_living, linked_thread, row_of}
 use Rattle.tt_threads.specs.declared.row.Row.{Row}
 
 -- ---- thread::send ----
 
 -- an event for a thread, at its queue's tail or head
-abbrev pub mailed : State → (target : ℕ) → (head : Bool) → Event → State
-mailed state target head event = record state { queues = queued state.queues target head event }
+abbrev pub state_with_event : State → (target : ℕ) → (head : Bool) → Event → State
+state_with_event state target head event = record state { queues = queues_with_event state.queues target head event }
 
 abbrev pub sends_to :
     State → (t target : ℕ) → (script : List ℕ) → Mode → Option (List ℕ) → (head : Bool) → Acted
 sends_to state t target script mode variable head =
     let script_event = event.Script state.posts.next script (is_answered mode variable) false in
-    let posts = posted state.posts t target mode variable in
-    answers (mailed (record state { posts = posts }) target head script_event) (reply.Posted state.posts.next)
+    let posts = posts_with_next state.posts t target mode variable in
+    answers (state_with_event (record state { posts = posts }) target head script_event) (reply.Posted state.posts.next)
 
 -- a send to oneself that is waited for is none that a command asks
 abbrev pub sends_linked :
@@ -60,7 +61,7 @@ is_asked Later variable = true
 abbrev pub sends : State → ℕ → (text script : List ℕ) → Mode → Option (List ℕ) → (head : Bool) → Acted
 sends state t text script mode variable head =
     if is_asked mode variable
-    then sends_named state t text script mode variable head (linked state.rows text)
+    then sends_named state t text script mode variable head (linked_thread state.rows text)
     else is_not_asked state
 
 -- ---- its answer ----
@@ -100,14 +101,14 @@ is_failed Returned = false
 is_failed Broke = false
 is_failed Continued = false
 
-abbrev pub served : State → ℕ → Outcome → Reply
-served state t outcome = reply.Served (is_failed outcome.code && unwinds state t)
+abbrev pub reply_to_server : State → ℕ → Outcome → Reply
+reply_to_server state t outcome = reply.Served (is_failed outcome.code && unwinds state t)
 
 -- the variable is set by an event of its own, if the sender has not ended
 abbrev pub sets : State → VariablePost → (value : List ℕ) → State
 sets state post value =
     if is_living state.rows post.sender
-    then mailed state post.sender false (event.SetVar post.name value)
+    then state_with_event state post.sender false (event.SetVar post.name value)
     else state
 
 abbrev pub is_target : ℕ → Option VariablePost → Bool
@@ -120,7 +121,7 @@ delivers_value state t n outcome (Some post) =
     if is_target t (Some post)
     then
     (let rest = record state { posts = without_variable state.posts n } in
-    answers (sets rest post outcome.value) (served state t outcome))
+    answers (sets rest post outcome.value) (reply_to_server state t outcome))
     else is_not_asked state
 
 abbrev pub delivers_to : State → (t n : ℕ) → Outcome → Acted
@@ -136,7 +137,7 @@ delivers_at state t n outcome (Some found) =
     if is_due t found
     then
     (let slots = with_state state.posts.slots n (slot.Result outcome) in
-    answers (record state { posts = record state.posts { slots = slots } }) (served state t outcome))
+    answers (record state { posts = record state.posts { slots = slots } }) (reply_to_server state t outcome))
     else is_not_asked state
 
 -- the outcome goes to the slot that waits, or to the variable
@@ -148,7 +149,7 @@ delivers state t n outcome = delivers_at state t n outcome (slot_of state.posts.
 -- a channel that has come is the thread's
 abbrev pub come : State → ℕ → Event → State
 come state t (event.Moved chan) =
-    record state { channels = channels.given state.channels t chan (channels.channel_of state.channels chan) }
+    record state { channels = channels.after_arrival state.channels t chan (channels.channel_of state.channels chan) }
 come state t other = state
 
 -- the first event is answered
@@ -166,7 +167,7 @@ takes state t = takes_first state t (first_of state.queues t)
 abbrev pub tells : State → (target : ℕ) → (script : List ℕ) → (plain : Bool) → State
 tells state target script plain =
     let script_event = event.Script state.posts.next script false plain in
-    mailed (record state { posts = with_plain state.posts }) target false script_event
+    state_with_event (record state { posts = with_plain state.posts }) target false script_event
 
 abbrev pub is_linked_row : Option Row → Bool
 is_linked_row None = false

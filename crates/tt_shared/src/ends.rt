@@ -1,6 +1,6 @@
 ghost use Rattle.std.specs.Prelude.{◌≡◌, IfOk, IsTrue, OnOk, option_copied};
 ghost use Rattle.std.specs.Map.{values_of};
-ghost use Rattle.tt_shared.specs.Ends.{died, ends, exit_code, exits, hears, pool_of_row, pools_left, tells_died};
+ghost use Rattle.tt_shared.specs.Ends.{end_event, ends, exit_code, exits, hears, pool_of_row, pools_left, tells_died};
 ghost use Rattle.tt_threads.specs.Rows.{is_living, row_of};
 
 use crate::{Applied, Posts, Queues, Shared, VariablePost};
@@ -82,7 +82,7 @@ fn hears(threads: &Threads, thread: u32, post: &VariablePost) -> bool
 }
 
 fn died(alloc: Global, name: &Text) -> Result<Event, NoMemory>
-    ensures { IfOk result (λ event. event ≡ died name.now) }
+    ensures { IfOk result (λ event. event ≡ end_event name.now) }
 {
     Ok(Event::SetVar {
         name: name.copy()?,

@@ -1,5 +1,5 @@
 ghost use Rattle.std.specs.Prelude.{◌≡◌, ◌+◌, ◌^◌, ◌↔◌, OnOk, IsErr, IsSome, Some, option_copied, option_map};
-ghost use Rattle.tt_shared.specs.Mail.{is_owed, no_posts, posted, posts_after, variable_post, with_plain};
+ghost use Rattle.tt_shared.specs.Mail.{is_owed, no_posts, posts_with_next, posts_after, variable_post, with_plain};
 ghost use Rattle.tt_shared.specs.Mail.{without_variable};
 ghost use Rattle.tt_slots.specs.Waiting.{after_take, slot_of, state_of, with_state};
 ghost use Rattle.tt_slots.specs.declared.slot.SlotState.TheVariants.{Result as Answered, Waiting};
@@ -70,7 +70,7 @@ impl Posts {
         mode: Mode,
         variable: Option<Text>,
     ) -> Result<(), NoMemory>
-        ensures posted { OnOk result (self.new ≡ posted self.old sender target mode variable) }
+        ensures posted { OnOk result (self.new ≡ posts_with_next self.old sender target mode variable) }
     {
         let next = number_after(self.next)?;
         match (mode, variable) {

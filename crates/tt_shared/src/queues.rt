@@ -1,5 +1,6 @@
 ghost use Rattle.std.specs.Prelude.{◌≡◌, ◌<◌, ◌-◌, ◌++◌, ◌∷◌, [], length, IfNone, IfSome, None, OnOk, is_some};
-ghost use Rattle.tt_shared.specs.Mail.{emptied, first_of, with_event, queue_of, queued, scripts_of, without_first};
+ghost use Rattle.tt_shared.specs.Mail.{queues_without_events, first_of, with_event, queue_of, queues_with_event};
+ghost use Rattle.tt_shared.specs.Mail.{scripts_of, without_first};
 
 use std::alloc::Global;
 use std::marker::Model;
@@ -56,7 +57,7 @@ impl Queues {
     ///
     /// `NoMemory` if memory for it is refused.
     pub fn push(&mut self, thread: u32, head: bool, event: Event) -> Result<(), NoMemory>
-        ensures pushed { OnOk result (self.new ≡ queued self.old thread head event) }
+        ensures pushed { OnOk result (self.new ≡ queues_with_event self.old thread head event) }
     {
         match self.place(thread) {
             Some(place) => put(&mut self.queues[place], head, event),
@@ -96,7 +97,7 @@ impl Queues {
 
     /// Drops all events of a thread. It takes no memory.
     pub fn clear(&mut self, thread: u32)
-        ensures cleared { self.new ≡ emptied self.old thread }
+        ensures cleared { self.new ≡ queues_without_events self.old thread }
     {
         if let Some(place) = self.place(thread) {
             let alloc = self.alloc;

@@ -1,6 +1,7 @@
 ghost use Rattle.std.specs.Prelude.{◌≡◌, IfOk, OnOk};
 ghost use Rattle.tt_shared.specs.Mail.{variable_post};
-ghost use Rattle.tt_shared.specs.Sends.{awaits, come, delivers, delivers_to, is_due, is_failed, is_target, served};
+ghost use Rattle.tt_shared.specs.Sends.{awaits, come, delivers, delivers_to, is_due, is_failed, is_target};
+ghost use Rattle.tt_shared.specs.Sends.{reply_to_server};
 ghost use Rattle.tt_shared.specs.Sends.{sets, slot_reply, takes};
 ghost use Rattle.tt_shared.specs.State.{answer};
 
@@ -94,7 +95,7 @@ impl Shared {
 
     // An outcome was handed over.
     fn served(&self, thread: u32, outcome: &Outcome) -> Applied
-        ensures { result ≡ answer self.now (served self.now thread outcome.now) }
+        ensures { result ≡ answer self.now (reply_to_server self.now thread outcome.now) }
     {
         let stops = is_failed(outcome.code) && self.unwinds(thread);
         self.answer(Reply::Served(stops))

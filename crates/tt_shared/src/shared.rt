@@ -161,7 +161,7 @@ impl Shared {
 
     // A script for a thread, of which nobody asks the answer.
     pub(crate) fn tell(&mut self, target: u32, script: Text, plain: bool) -> Result<(), NoMemory>
-        ensures told { OnOk result (self.new ≡ tells self.old target script plain) }
+        ensures state { OnOk result (self.new ≡ tells self.old target script plain) }
     {
         let n = self.posts.next();
         self.posts.pass()?;

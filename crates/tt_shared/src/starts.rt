@@ -96,7 +96,7 @@ impl Shared {
 
     // The thread of an id, the empty one being the asker's.
     fn named(&self, thread: u32, id: &Text) -> Option<u32>
-        ensures { result ≡ threads.named self.now.rows thread id.now }
+        ensures { result ≡ threads.thread_named self.now.rows thread id.now }
     {
         if id.is_empty() {
             return Some(thread);

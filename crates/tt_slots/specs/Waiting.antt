@@ -57,9 +57,9 @@ after_take slots n Waiting = slots
 after_take slots n answer = record slots { open_slots = remove_entry (is_at (nat_cmp n)) slots.open_slots }
 
 -- the end of a thread: each slot that waits for it has died
-abbrev pub died_with : ℕ → Slot → Slot
-died_with target slot = if slot.target == target && is_waiting slot.state then put_state Died slot else slot
+abbrev pub slot_after_end : ℕ → Slot → Slot
+slot_after_end target slot = if slot.target == target && is_waiting slot.state then put_state Died slot else slot
 
 abbrev pub after_end : OpenSlots → ℕ → OpenSlots
 after_end slots target =
-    record slots { open_slots = map (λ entry. (entry.0, died_with target entry.1)) slots.open_slots }
+    record slots { open_slots = map (λ entry. (entry.0, slot_after_end target entry.1)) slots.open_slots }

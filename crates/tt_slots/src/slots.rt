@@ -1,5 +1,6 @@
 ghost use Rattle.std.specs.Prelude.{◌≡◌, ◌<◌, false, None, Some, OnOk, OnErr, IsSome, option_copied, option_map};
-ghost use Rattle.tt_slots.specs.Waiting.{after_end, after_take, died_with, is_waiting, no_slots, slot_of, state_of};
+ghost use Rattle.tt_slots.specs.Waiting.{after_end, after_take, slot_after_end, is_waiting, no_slots, slot_of};
+ghost use Rattle.tt_slots.specs.Waiting.{state_of};
 ghost use Rattle.tt_slots.specs.Waiting.{with_slot, with_state};
 ghost use Rattle.tt_slots.specs.declared.slot.SlotState.TheVariants.{Died, Result, Waiting};
 
@@ -106,7 +107,7 @@ impl Slots {
 }
 
 fn die(slot: &mut Slot, target: u32)
-    ensures { slot.new ≡ died_with target slot.old }
+    ensures { slot.new ≡ slot_after_end target slot.old }
 {
     if slot.target == target && slot.is_waiting() {
         slot.state = SlotState::Died;

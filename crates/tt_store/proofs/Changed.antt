@@ -1,7 +1,7 @@
 -- What is reported of a value that was changed where it stands is what is made of the value that was found.
 use Rattle.std.proofs.Common.{◌≡◌, ℕ, List, [], Result, Ok, Err, IfOk, refl, ap, sym, subst, ◌∙◌}
 use Rattle.tt_calls.specs.declared.outcome.Outcome.{Outcome}
-use Rattle.tt_calls.specs.Outcomes.{failed, fine}
+use Rattle.tt_calls.specs.Outcomes.{error_outcome, fine}
 use Rattle.tt_lists.specs.declared.answer.ListAnswer.{ListAnswer}
 use Rattle.tt_lists.specs.declared.answer.ListAnswer.TheVariants.{Made, Bad}
 use Rattle.tt_vars.specs.declared.answers.VarFault.{VarFault}
@@ -11,7 +11,7 @@ use Rattle.tt_vars.specs.Variables.{result_of}
 use Rattle.tt_store.specs.Held.{AreMarked, Held, place}
 use Rattle.tt_store.specs.Levels.{with_frames}
 use Rattle.tt_store.specs.Messages.{cannot_read}
-use Rattle.tt_store.specs.Scalars.{Changes, GivesMade, counting, made_of}
+use Rattle.tt_store.specs.Scalars.{Changes, GivesMade, counting, answer_of_value}
 use Rattle.tt_store.specs.Spots.{spot_of}
 
 same_ok : {x y : ListAnswer} → ◌≡◌ {A = Result ListAnswer VarFault} (Ok x) (Ok y) → x ≡ y
@@ -25,7 +25,7 @@ ok_is_err h = cc
 
 -- the value that was found, if one was made longer
 found : (change : List ℕ → ListAnswer) (missing : List ℕ) (word : List ℕ) (old : Held) (answer : ListAnswer) (read : Result (List ℕ) VarFault)
-    → Ok answer ≡ result_of change read → answer ≡ made_of word change (counting missing read)
+    → Ok answer ≡ result_of change read → answer ≡ answer_of_value word change (counting missing read)
 found change missing word old answer (Ok value) is = same_ok is
 found change missing word old answer (Err fault) is = absurd (ok_is_err is)
 
@@ -40,7 +40,7 @@ module _ (change : List ℕ → ListAnswer) (missing : List ℕ) (word : List �
       → variables.Changes change old.levels.frames (place old (spot_of word)) new.levels.frames (Ok answer) → GivesMade word answer old outcome new
       → Changes word missing change old outcome new
   from-made new answer outcome changed-at gives =
-      let read = variables.read_at old.levels.frames (spot_of word).index changed-at.0.0 in (
+      let read = variables.reading_at old.levels.frames (spot_of word).index changed-at.0.0 in (
         counting missing read,
         (read, (changed-at.0.0, changed-at.0.1, refl), refl),
         subst (λ a. GivesMade word a old outcome new)
@@ -63,27 +63,27 @@ module _ (change : List ℕ → ListAnswer) (missing : List ℕ) (word : List �
   pub bad : (new : Held) (message : List ℕ) (outcome : Outcome)
       → variables.Changes change old.levels.frames (place old (spot_of word)) new.levels.frames (Ok (Bad message))
       → new.levels ≡ with_frames old.levels new.levels.frames → new.watches ≡ old.watches
-      → outcome ≡ failed message → Changes word missing change old outcome new
+      → outcome ≡ error_outcome message → Changes word missing change old outcome new
   bad new message outcome changed-at rest watches told = from-made new (Bad message) outcome changed-at (told, same new rest changed-at.1 watches)
 
   from-missed : (mid new : Held) (fault : VarFault) → variables.Changes change old.levels.frames (place old (spot_of word)) mid.levels.frames (Err fault)
-      → (outcome : Outcome) → GivesMade word (made_of word change (counting missing (Err fault))) old outcome new
+      → (outcome : Outcome) → GivesMade word (answer_of_value word change (counting missing (Err fault))) old outcome new
       → Changes word missing change old outcome new
   from-missed mid new fault changed-at outcome gives =
-      let read = variables.read_at old.levels.frames (spot_of word).index changed-at.0.0 in (
+      let read = variables.reading_at old.levels.frames (spot_of word).index changed-at.0.0 in (
         counting missing read,
         (read, (changed-at.0.0, changed-at.0.1, refl), refl),
-        subst (λ r. GivesMade word (made_of word change (counting missing r)) old outcome new) (sym (missed change missing fault read changed-at.0.2)) gives,
+        subst (λ r. GivesMade word (answer_of_value word change (counting missing r)) old outcome new) (sym (missed change missing fault read changed-at.0.2)) gives,
       )
 
   pub unread : (new : Held) (fault : VarFault) (outcome : Outcome)
       → variables.Changes change old.levels.frames (place old (spot_of word)) new.levels.frames (Err fault)
       → new.levels ≡ with_frames old.levels new.levels.frames → new.watches ≡ old.watches
-      → counting missing (Err fault) ≡ Err fault → outcome ≡ failed (cannot_read word fault)
+      → counting missing (Err fault) ≡ Err fault → outcome ≡ error_outcome (cannot_read word fault)
       → Changes word missing change old outcome new
   unread new fault outcome changed-at rest watches counts told =
       from-missed new new fault changed-at outcome
-      (subst (λ r. GivesMade word (made_of word change r) old outcome new) (sym counts) (told, same new rest changed-at.1 watches))
+      (subst (λ r. GivesMade word (answer_of_value word change r) old outcome new) (sym counts) (told, same new rest changed-at.1 watches))
 
   pub begun : (mid new : Held) (fault : VarFault) (outcome : Outcome)
       → variables.Changes change old.levels.frames (place old (spot_of word)) mid.levels.frames (Err fault)
@@ -91,7 +91,7 @@ module _ (change : List ℕ → ListAnswer) (missing : List ℕ) (word : List �
       → counting missing (Err fault) ≡ Ok missing → GivesMade word (change missing) mid outcome new
       → Changes word missing change old outcome new
   begun mid new fault outcome changed-at rest watches counts gives =
-      from-missed mid new fault changed-at outcome (subst (λ r. GivesMade word (made_of word change r) old outcome new) (sym counts)
+      from-missed mid new fault changed-at outcome (subst (λ r. GivesMade word (answer_of_value word change r) old outcome new) (sym counts)
       (subst (λ held. GivesMade word (change missing) held outcome new) (same mid rest changed-at.1 watches) gives))
 
   pub begun-ok : {E : Type 0} (mid new : Held) (fault : VarFault) (result : Result Outcome E)
@@ -105,14 +105,14 @@ module _ (change : List ℕ → ListAnswer) (missing : List ℕ) (word : List �
   pub bad-ok : {E : Type 0} (new : Held) (message : List ℕ) (result : Result Outcome E)
       → variables.Changes change old.levels.frames (place old (spot_of word)) new.levels.frames (Ok (Bad message))
       → new.levels ≡ with_frames old.levels new.levels.frames → new.watches ≡ old.watches
-      → IfOk result (λ outcome. outcome ≡ failed message) → IfOk result (λ outcome. Changes word missing change old outcome new)
+      → IfOk result (λ outcome. outcome ≡ error_outcome message) → IfOk result (λ outcome. Changes word missing change old outcome new)
   bad-ok new message (Ok outcome) changed-at rest watches told = bad new message outcome changed-at rest watches told
   bad-ok new message (Err e) changed-at rest watches told = told
 
   pub unread-ok : {E : Type 0} (new : Held) (fault : VarFault) (result : Result Outcome E)
       → variables.Changes change old.levels.frames (place old (spot_of word)) new.levels.frames (Err fault)
       → new.levels ≡ with_frames old.levels new.levels.frames → new.watches ≡ old.watches
-      → counting missing (Err fault) ≡ Err fault → IfOk result (λ outcome. outcome ≡ failed (cannot_read word fault))
+      → counting missing (Err fault) ≡ Err fault → IfOk result (λ outcome. outcome ≡ error_outcome (cannot_read word fault))
       → IfOk result (λ outcome. Changes word missing change old outcome new)
   unread-ok new fault (Ok outcome) changed-at rest watches counts told = unread new fault outcome changed-at rest watches counts told
   unread-ok new fault (Err e) changed-at rest watches counts told = told

@@ -3,7 +3,7 @@ use Rattle.std.specs.Prelude.{◌≡◌, ℕ, Bool, true, false, bytes_eq, List,
 use Rattle.std.specs.Prelude.{if◌then◌else◌}
 use Rattle.std.specs.List.{find}
 use Rattle.tt_calls.specs.declared.outcome.Outcome.{Outcome}
-use Rattle.tt_calls.specs.Outcomes.{failed, fine}
+use Rattle.tt_calls.specs.Outcomes.{error_outcome, fine}
 use Rattle.tt_list_commands.specs.Concatenating.{concatenation}
 use Rattle.tt_pure.specs.Table as pure
 use Rattle.tt_outcomes.specs.declared.want.Body.TheVariants as body
@@ -12,10 +12,10 @@ use Rattle.tt_store.specs.declared.answers.Answer.TheVariants as answers
 use Rattle.tt_store.specs.declared.command.Command.{Command}
 use Rattle.tt_store.specs.declared.command.Command.TheVariants as command
 use Rattle.tt_store.specs.Held.{Fails, Held, Meaning, Refuses, with_levels}
-use Rattle.tt_store.specs.Levels.{begun_in}
+use Rattle.tt_store.specs.Levels.{with_script_in}
 use Rattle.tt_store.specs.Listed.{lappend, lassign}
 use Rattle.tt_calls.specs.Usages.{bad_option, wrong_number}
-use Rattle.tt_store.specs.Scalars.{append, incr, set, unset}
+use Rattle.tt_store.specs.Scalars.{append, incr, set_meaning, unset_meaning}
 use Rattle.tt_script.specs.Names.{plain_name}
 
 -- what words come to: an answer, and what is held then
@@ -29,10 +29,10 @@ ends meaning usage words old answer new =
 
 -- eval(n): in the current frame
 abbrev pub eval : Coming
-eval usage [] old answer new = (answer ≡ answers.Outcome (failed (wrong_number usage))) × (new ≡ old)
+eval usage [] old answer new = (answer ≡ answers.Outcome (error_outcome (wrong_number usage))) × (new ≡ old)
 eval usage (word ∷ words) old answer new =
     (answer ≡ answers.Body body.Plain (concatenation (word ∷ words)))
-    × (new ≡ with_levels old (begun_in old.levels.current old.levels))
+    × (new ≡ with_levels old (with_script_in old.levels.current old.levels))
 
 -- flush(n): it looks at nothing
 abbrev pub flush : Meaning
@@ -45,18 +45,18 @@ version_of name =
     if bytes_eq name (codes "Thread") then Some (codes "2.8")
     else (if bytes_eq name (codes "Tcl") then Some (codes "8.6") else None)
 
-abbrev pub required : (name : List ℕ) → Option (List ℕ) → Outcome
-required name (Some version) = fine version
-required name None = failed (codes "can't find package " ++ name)
+abbrev pub package_answer : (name : List ℕ) → Option (List ℕ) → Outcome
+package_answer name (Some version) = fine version
+package_answer name None = error_outcome (codes "can't find package " ++ name)
 
 -- a version is not looked at
 abbrev pub PackageBy :
     (known : Bool) → (usage word : List ℕ) → (words : List (List ℕ))
     → (old : Held) → Outcome → (new : Held) → Type 0
 PackageBy false usage word words old outcome new = Fails (bad_option word) old outcome new
-PackageBy true usage word (name ∷ []) old outcome new = (outcome ≡ required name (version_of name)) × (new ≡ old)
+PackageBy true usage word (name ∷ []) old outcome new = (outcome ≡ package_answer name (version_of name)) × (new ≡ old)
 PackageBy true usage word (name ∷ version ∷ []) old outcome new =
-    (outcome ≡ required name (version_of name)) × (new ≡ old)
+    (outcome ≡ package_answer name (version_of name)) × (new ≡ old)
 PackageBy true usage word words old outcome new = Refuses usage old outcome new
 
 abbrev pub package_require : Meaning
@@ -74,8 +74,8 @@ row name usage meaning = record { name = name; usage = usage; meaning = meaning 
 
 -- the table
 abbrev pub row_of : Command → Row
-row_of command.Set = row (codes "set") (codes "set varName ?newValue?") (ends set)
-row_of command.Unset = row (codes "unset") (codes "unset ?-nocomplain? ?varName ...?") (ends unset)
+row_of command.Set = row (codes "set") (codes "set varName ?newValue?") (ends set_meaning)
+row_of command.Unset = row (codes "unset") (codes "unset ?-nocomplain? ?varName ...?") (ends unset_meaning)
 row_of command.Incr = row (codes "incr") (codes "incr varName ?increment?") (ends incr)
 row_of command.Append = row (codes "append") (codes "append varName ?value ...?") (ends append)
 row_of command.Lappend = row (codes "lappend") (codes "lappend varName ?value ...?") (ends lappend)

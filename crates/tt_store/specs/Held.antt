@@ -2,7 +2,7 @@
 use Rattle.std.specs.Prelude.{◌≡◌, ◌<◌, ◌-◌, ◌++◌, ℕ, Bool, true, false, length, take, slice_get, slice_index_or}
 use Rattle.std.specs.Prelude.{◌||◌, List, [], ◌∷◌, Result, Ok, Err, Option, Some, None}
 use Rattle.tt_calls.specs.declared.outcome.Outcome.{Outcome}
-use Rattle.tt_calls.specs.Outcomes.{failed, fine}
+use Rattle.tt_calls.specs.Outcomes.{error_outcome, fine}
 use Rattle.tt_procedures.specs.declared.calling.Argument.{Argument}
 use Rattle.tt_vars.specs.declared.answers.Linked.{Linked}
 use Rattle.tt_vars.specs.declared.answers.VarFault.{VarFault}
@@ -14,7 +14,8 @@ use Rattle.tt_vars.specs.Links as variables
 use Rattle.tt_vars.specs.Variables.{Frame, Name}
 use Rattle.tt_store.specs.declared.spot.Spot.{Spot}
 use Rattle.tt_store.specs.declared.watch.Watch.{Watch}
-use Rattle.tt_store.specs.Levels.{Levels, begun_in, called, global_level, levels_after_end, with_frames}
+use Rattle.tt_store.specs.Levels.{Levels, with_script_in, with_procedure_level, global_level, levels_after_end}
+use Rattle.tt_store.specs.Levels.{with_frames}
 use Rattle.tt_calls.specs.Usages.{wrong_number}
 use Rattle.tt_store.specs.Messages.{cannot_read, cannot_set}
 use Rattle.tt_store.specs.Spots.{place_in, spot, spot_of, full_name}
@@ -31,12 +32,12 @@ abbrev pub with_levels : Held → Levels → Held
 with_levels held levels = record held { levels = levels }
 
 -- a script at global level begins
-abbrev pub entered : Held → Held
-entered held = with_levels held (begun_in 0 held.levels)
+abbrev pub with_global_script : Held → Held
+with_global_script held = with_levels held (with_script_in 0 held.levels)
 
 -- a script in a frame begins
-abbrev pub begun_at : (frame : ℕ) → Held → Held
-begun_at frame held = with_levels held (begun_in frame held.levels)
+abbrev pub with_script_at : (frame : ℕ) → Held → Held
+with_script_at frame held = with_levels held (with_script_in frame held.levels)
 
 -- what was begun last has ended
 abbrev pub after_end : Held → Held
@@ -124,17 +125,17 @@ pub data AreSet : List Argument → (old new : Held) → Type 0 where
 
 -- a procedure is called: its parameters have these values in a frame of its own (proc(n))
 abbrev pub Calls : List Argument → (old new : Held) → Type 0
-Calls arguments old new = AreSet arguments (with_levels old (called old.levels)) new
+Calls arguments old new = AreSet arguments (with_levels old (with_procedure_level old.levels)) new
 
 -- ---- what commands answer ----
 
 abbrev pub value_of : (word : List ℕ) → Result (List ℕ) VarFault → Outcome
 value_of word (Ok text) = fine text
-value_of word (Err fault) = failed (cannot_read word fault)
+value_of word (Err fault) = error_outcome (cannot_read word fault)
 
-abbrev pub stored : (word text : List ℕ) → Written → Outcome
-stored word text Yes = fine text
-stored word text (No fault) = failed (cannot_set word fault)
+abbrev pub write_outcome : (word text : List ℕ) → Written → Outcome
+write_outcome word text Yes = fine text
+write_outcome word text (No fault) = error_outcome (cannot_set word fault)
 
 -- what `$name` and `$name(index)` give
 abbrev pub IsRead : Held → Name → Option Name → Outcome → Type 0
@@ -148,7 +149,7 @@ abbrev pub IsWritten : (old : Held) → Name → Option Name → (text : List �
 IsWritten old name index text outcome new =
     (written : Written)
     × Sets old (spot name index) text new written
-    × (outcome ≡ stored (full_name name index) text written)
+    × (outcome ≡ write_outcome (full_name name index) text written)
 
 -- what a command's word names is read
 abbrev pub ReadsWord : (word : Name) → Held → Outcome → Type 0
@@ -162,11 +163,11 @@ abbrev pub Gives : (word : Name) → (text : List ℕ) → (old : Held) → Outc
 Gives word text old outcome new =
     (written : Written)
     × Sets old (spot_of word) text new written
-    × (outcome ≡ stored word text written)
+    × (outcome ≡ write_outcome word text written)
 
 -- a command fails, and changes nothing
 abbrev pub Fails : (message : List ℕ) → (old : Held) → Outcome → (new : Held) → Type 0
-Fails message old outcome new = (outcome ≡ failed message) × (new ≡ old)
+Fails message old outcome new = (outcome ≡ error_outcome message) × (new ≡ old)
 
 -- what words mean after a command's name: how it ends, and what is held then
 abbrev pub Meaning : Type 1
@@ -181,17 +182,17 @@ Refuses usage old outcome new = Fails (wrong_number usage) old outcome new
 abbrev pub watch_by : Spot → Watch
 watch_by spot = record { name = spot.name; index = spot.index; seen = false }
 
-abbrev pub watched : (word : Name) → Held → Held
-watched word held = record held { watches = held.watches ++ watch_by (spot_of word) ∷ [] }
+abbrev pub with_watch : (word : Name) → Held → Held
+with_watch word held = record held { watches = held.watches ++ watch_by (spot_of word) ∷ [] }
 
 -- the innermost has ended
-abbrev pub unwatched : Held → Held
-unwatched held = record held { watches = take (length held.watches - 1) held.watches }
+abbrev pub without_watch : Held → Held
+without_watch held = record held { watches = take (length held.watches - 1) held.watches }
 
 -- whether the variable of the innermost was written
-abbrev pub seen_by : Option Watch → Bool
-seen_by None = false
-seen_by (Some watch) = watch.seen
+abbrev pub watch_result : Option Watch → Bool
+watch_result None = false
+watch_result (Some watch) = watch.seen
 
 abbrev pub is_seen : Held → Bool
-is_seen held = seen_by (slice_get held.watches (length held.watches - 1))
+is_seen held = watch_result (slice_get held.watches (length held.watches - 1))

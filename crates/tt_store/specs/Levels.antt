@@ -36,8 +36,8 @@ abbrev pub HasDepth : Levels → (depth : ℕ) → Type 0
 HasDepth levels depth = above levels depth levels.current ≡ Some 0
 
 -- a procedure is called: it has a frame of its own
-abbrev pub called : Levels → Levels
-called levels = record {
+abbrev pub with_procedure_level : Levels → Levels
+with_procedure_level levels = record {
   frames = levels.frames ++ [] ∷ [];
   callers = levels.callers ++ levels.current ∷ [];
   current = length levels.frames;
@@ -45,8 +45,8 @@ called levels = record {
 }
 
 -- a script begins in a frame
-abbrev pub begun_in : (frame : ℕ) → Levels → Levels
-begun_in frame levels = record levels { current = frame; begun = Script levels.current ∷ levels.begun }
+abbrev pub with_script_in : (frame : ℕ) → Levels → Levels
+with_script_in frame levels = record levels { current = frame; begun = Script levels.current ∷ levels.begun }
 
 -- what was begun last has ended
 abbrev pub levels_after : Levels → List Begun → Levels

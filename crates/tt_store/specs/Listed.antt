@@ -1,13 +1,13 @@
 -- Commands on variables and lists (lappend(n), lassign(n)).
 use Rattle.std.specs.Prelude.{◌≡◌, ℕ, List, [], ◌∷◌, length, drop, Option, Some, None}
 use Rattle.tt_calls.specs.declared.outcome.Outcome.{Outcome}
-use Rattle.tt_calls.specs.Outcomes.{failed, fine}
+use Rattle.tt_calls.specs.Outcomes.{error_outcome, fine}
 use Rattle.tt_lists.specs.Messages.{list_message}
 use Rattle.tt_lists.specs.Reading.{split_of}
 use Rattle.tt_lists.specs.Spelling.{list_of}
 use Rattle.tt_lists.specs.declared.items.Split.{Split}
 use Rattle.tt_lists.specs.declared.items.Split.TheVariants as split
-use Rattle.tt_value.specs.Growing.{listed}
+use Rattle.tt_value.specs.Growing.{list_with_texts}
 use Rattle.tt_vars.specs.declared.answers.Written.{Written}
 use Rattle.tt_vars.specs.declared.answers.Written.TheVariants.{Yes, No}
 use Rattle.tt_store.specs.Held.{Fails, Held, Meaning, Refuses, Sets}
@@ -17,7 +17,7 @@ use Rattle.tt_store.specs.Spots.{spot_of}
 
 -- lappend(n): without a value it writes the list as it is
 abbrev pub lappend : Meaning
-lappend usage (name ∷ values) old outcome new = Changes name [] (listed values) old outcome new
+lappend usage (name ∷ values) old outcome new = Changes name [] (list_with_texts values) old outcome new
 lappend usage [] old outcome new = Refuses usage old outcome new
 
 -- a text is given to a variable; the message, if it can't be
@@ -48,19 +48,19 @@ first_of [] = []
 first_of (item ∷ items) = item
 
 -- names and items, if an item that is missing is empty
-abbrev pub paired : (names items : List (List ℕ)) → List (List ℕ × List ℕ)
-paired [] items = []
-paired (name ∷ names) items = (name, first_of items) ∷ paired names (drop 1 items)
+abbrev pub names_with_items : (names items : List (List ℕ)) → List (List ℕ × List ℕ)
+names_with_items [] items = []
+names_with_items (name ∷ names) items = (name, first_of items) ∷ names_with_items names (drop 1 items)
 
 abbrev pub rest_outcome : (rest : List (List ℕ)) → (message : Option (List ℕ)) → Outcome
 rest_outcome rest None = fine (list_of rest)
-rest_outcome rest (Some message) = failed message
+rest_outcome rest (Some message) = error_outcome message
 
 abbrev pub AssignsItems : Split → (names : List (List ℕ)) → (old : Held) → Outcome → (new : Held) → Type 0
 AssignsItems (split.Bad fault) names old outcome new = Fails (list_message fault) old outcome new
 AssignsItems (split.Items items) names old outcome new =
     (message : Option (List ℕ))
-    × Assigns (paired names items) old message new
+    × Assigns (names_with_items names items) old message new
     × (outcome ≡ rest_outcome (drop (length names) items) message)
 
 -- lassign(n)

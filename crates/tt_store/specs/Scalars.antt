@@ -5,7 +5,7 @@ use Rattle.std.specs.Fmt.{signed_decimal}
 use Rattle.std.specs.List.{find}
 use Rattle.std.specs.Option.{option_map}
 use Rattle.tt_calls.specs.declared.outcome.Outcome.{Outcome}
-use Rattle.tt_calls.specs.Outcomes.{failed, fine}
+use Rattle.tt_calls.specs.Outcomes.{error_outcome, fine}
 use Rattle.tt_lists.specs.declared.answer.ListAnswer.{ListAnswer}
 use Rattle.tt_lists.specs.declared.answer.ListAnswer.TheVariants.{Made, Bad}
 use Rattle.tt_number.specs.declared.numeral.NumberFault.{NumberFault}
@@ -14,7 +14,7 @@ use Rattle.tt_number.specs.declared.operators.NumOp.TheVariants.{Add}
 use Rattle.tt_number.specs.Messages.{arith_message, number_message}
 use Rattle.tt_number.specs.Numerals.{whole_of}
 use Rattle.tt_number.specs.Operators.{binary_of}
-use Rattle.tt_value.specs.Growing.{appended}
+use Rattle.tt_value.specs.Growing.{text_with_texts}
 use Rattle.tt_vars.specs.declared.answers.VarFault.{VarFault}
 use Rattle.tt_vars.specs.declared.answers.VarFault.TheVariants.{NoSuchVariable, NoSuchElement, IsArray, NotArray}
 use Rattle.tt_store.specs.Held.{Drops, Fails, Finds, Gives, Held, Meaning, ReadsWord, Refuses}
@@ -23,10 +23,10 @@ use Rattle.tt_store.specs.Messages.{cannot_read, cannot_unset}
 use Rattle.tt_store.specs.Spots.{spot_of}
 
 -- set(n)
-abbrev pub set : Meaning
-set usage (name ∷ []) old outcome new = ReadsWord name old outcome × (new ≡ old)
-set usage (name ∷ value ∷ []) old outcome new = Gives name value old outcome new
-set usage words old outcome new = Refuses usage old outcome new
+abbrev pub set_meaning : Meaning
+set_meaning usage (name ∷ []) old outcome new = ReadsWord name old outcome × (new ≡ old)
+set_meaning usage (name ∷ value ∷ []) old outcome new = Gives name value old outcome new
+set_meaning usage words old outcome new = Refuses usage old outcome new
 
 -- ---- a variable is read, and what is made of its value is written ----
 
@@ -39,9 +39,9 @@ counting missing (Err IsArray) = Err IsArray
 counting missing (Err NotArray) = Err NotArray
 
 -- what is made of the value that is found
-abbrev pub made_of : (word : List ℕ) → (List ℕ → ListAnswer) → Result (List ℕ) VarFault → ListAnswer
-made_of word change (Ok text) = change text
-made_of word change (Err fault) = Bad (cannot_read word fault)
+abbrev pub answer_of_value : (word : List ℕ) → (List ℕ → ListAnswer) → Result (List ℕ) VarFault → ListAnswer
+answer_of_value word change (Ok text) = change text
+answer_of_value word change (Err fault) = Bad (cannot_read word fault)
 
 -- it is written
 abbrev pub GivesMade : (word : List ℕ) → ListAnswer → (old : Held) → Outcome → (new : Held) → Type 0
@@ -59,34 +59,35 @@ abbrev pub Changes : (word missing : List ℕ) → (List ℕ → ListAnswer) →
 Changes word missing change old outcome new =
     (found : Result (List ℕ) VarFault)
     × Counts word missing old found
-    × GivesMade word (made_of word change found) old outcome new
+    × GivesMade word (answer_of_value word change found) old outcome new
 
 -- incr(n): the value is read before the increment
 abbrev pub sum_answer : Result ℤ ArithFault → ListAnswer
 sum_answer (Ok sum) = Made (signed_decimal sum)
 sum_answer (Err fault) = Bad (arith_message fault)
 
-abbrev pub stepped : ℤ → (step : List ℕ) → Result ℤ NumberFault → ListAnswer
-stepped number step (Ok more) = sum_answer (binary_of Add number more)
-stepped number step (Err fault) = Bad (number_message fault step)
+abbrev pub sum_with_step : ℤ → (step : List ℕ) → Result ℤ NumberFault → ListAnswer
+sum_with_step number step (Ok more) = sum_answer (binary_of Add number more)
+sum_with_step number step (Err fault) = Bad (number_message fault step)
 
-abbrev pub incremented_by : (step value : List ℕ) → Result ℤ NumberFault → ListAnswer
-incremented_by step value (Ok number) = stepped number step (whole_of step)
-incremented_by step value (Err fault) = Bad (number_message fault value)
+abbrev pub increment_by : (step value : List ℕ) → Result ℤ NumberFault → ListAnswer
+increment_by step value (Ok number) = sum_with_step number step (whole_of step)
+increment_by step value (Err fault) = Bad (number_message fault value)
 
-abbrev pub incremented : (step value : List ℕ) → ListAnswer
-incremented step value = incremented_by step value (whole_of value)
+abbrev pub increment_of : (step value : List ℕ) → ListAnswer
+increment_of step value = increment_by step value (whole_of value)
 
 abbrev pub incr : Meaning
-incr usage (name ∷ []) old outcome new = Changes name (codes "0") (incremented (codes "1")) old outcome new
-incr usage (name ∷ step ∷ []) old outcome new = Changes name (codes "0") (incremented step) old outcome new
+incr usage (name ∷ []) old outcome new = Changes name (codes "0") (increment_of (codes "1")) old outcome new
+incr usage (name ∷ step ∷ []) old outcome new = Changes name (codes "0") (increment_of step) old outcome new
 incr usage words old outcome new = Refuses usage old outcome new
 
 -- append(n): without a value it reads
 abbrev pub append : Meaning
 append usage [] old outcome new = Refuses usage old outcome new
 append usage (name ∷ []) old outcome new = ReadsWord name old outcome × (new ≡ old)
-append usage (name ∷ value ∷ values) old outcome new = Changes name [] (appended (value ∷ values)) old outcome new
+append usage (name ∷ value ∷ values) old outcome new =
+    Changes name [] (text_with_texts (value ∷ values)) old outcome new
 
 -- ---- unset(n) ----
 
@@ -124,7 +125,7 @@ pub data Unsets (nocomplain : Bool) :
 -- the empty result, or the error
 abbrev pub outcome_by : (message : Option (List ℕ)) → Outcome
 outcome_by None = fine []
-outcome_by (Some message) = failed message
+outcome_by (Some message) = error_outcome message
 
 abbrev pub UnsetsAll : (nocomplain : Bool) → (words : List (List ℕ)) → (old : Held) → Outcome → (new : Held) → Type 0
 UnsetsAll nocomplain words old outcome new =
@@ -153,5 +154,5 @@ abbrev pub UnsetsIf :
 UnsetsIf (Some word) words old outcome new = Fails (bad_option word) old outcome new
 UnsetsIf None words old outcome new = UnsetsAll (nat_lt 0 (front words)) (drop (front words) words) old outcome new
 
-abbrev pub unset : Meaning
-unset usage words old outcome new = UnsetsIf (first_unknown words) words old outcome new
+abbrev pub unset_meaning : Meaning
+unset_meaning usage words old outcome new = UnsetsIf (first_unknown words) words old outcome new

@@ -64,7 +64,7 @@ impl Store {
     /// `NoMemory` if memory is refused; then nothing has changed.
     pub fn begin(&mut self, frame: u64) -> Result<(), NoMemory>
         requires lower { frame ≤ self.old.levels.current }
-        ensures begun { OnOk result (self.new ≡ held.begun_at frame self.old) }
+        ensures begun { OnOk result (self.new ≡ held.with_script_at frame self.old) }
         ensures unchanged { OnErr result (self.new ≡ self.old) }
     {
         self.nesting.begin(frame)

@@ -3,7 +3,7 @@ ghost use Rattle.std.specs.Prelude.{◌≡◌, [], IfOk, codes};
 ghost use Rattle.tt_store.specs.Listed as listed;
 ghost use Rattle.tt_store.specs.Scalars as scalars;
 ghost use Rattle.tt_store.specs.Spots.{spot_of};
-ghost use Rattle.tt_value.specs.Growing.{appended, listed as listed_at_end};
+ghost use Rattle.tt_value.specs.Growing.{text_with_texts, list_with_texts as listed_at_end};
 
 use crate::Store;
 use crate::increment::Increment;
@@ -30,7 +30,7 @@ impl Store {
 
     fn append_to(&mut self, word: &Value, values: &[Value]) -> Result<Outcome, NoMemory>
         ensures { IfOk result (λ outcome.
-            scalars.Changes word.now [] (appended values.now) self.old outcome self.new) }
+            scalars.Changes word.now [] (text_with_texts values.now) self.old outcome self.new) }
     {
         let word = word.to_text(self.alloc)?;
         let texts = texts_of(self.alloc, values)?;
@@ -70,7 +70,7 @@ impl Store {
 
     fn increment(&mut self, word: &Value, step: Text) -> Result<Outcome, NoMemory>
         ensures { IfOk result (λ outcome.
-            scalars.Changes word.now (codes "0") (scalars.incremented step) self.old outcome self.new) }
+            scalars.Changes word.now (codes "0") (scalars.increment_of step) self.old outcome self.new) }
     {
         let word = word.to_text(self.alloc)?;
         self.change(&word, b"0", &Increment { step })

@@ -19,7 +19,7 @@ pub(crate) struct Increment {
 }
 
 impl Changing for Increment {
-    ghost meaning = { λ increment text. scalars.incremented increment.step text };
+    ghost meaning = { λ increment text. scalars.increment_of increment.step text };
 
     fn change(&self, alloc: Global, value: &mut Value) -> Result<Made, NoMemory> {
         let made = incremented(alloc, self.step.as_bytes(), value)?;
@@ -34,7 +34,7 @@ impl Changing for Increment {
 }
 
 fn incremented(alloc: Global, step: &[u8], value: &mut Value) -> Result<Made, NoMemory>
-    ensures made { IfOk result (λ made. made ≡ scalars.incremented_by step.now value.old (whole_of value.old)) }
+    ensures made { IfOk result (λ made. made ≡ scalars.increment_by step.now value.old (whole_of value.old)) }
     ensures same { value.new ≡ value.old }
 {
     match value.whole(alloc)? {
@@ -47,7 +47,7 @@ fn incremented(alloc: Global, step: &[u8], value: &mut Value) -> Result<Made, No
 }
 
 fn stepped(alloc: Global, number: i64, step: &[u8]) -> Result<Made, NoMemory>
-    ensures { IfOk result (λ made. made ≡ scalars.stepped number step.now (whole_of step.now)) }
+    ensures { IfOk result (λ made. made ≡ scalars.sum_with_step number step.now (whole_of step.now)) }
 {
     match read_whole(step) {
         Ok(more) => sum(alloc, number, more),

@@ -46,7 +46,7 @@ impl Store {
     // The message, if a variable can't be set.
     fn assign(&mut self, items: &[Text], names: &[Text]) -> Result<Option<Text>, NoMemory>
         ensures { IfOk result (λ message.
-            listed.Assigns (listed.paired names.now items.now) self.old message self.new) }
+            listed.Assigns (listed.names_with_items names.now items.now) self.old message self.new) }
     {
         let mut left = items;
         for name in names {

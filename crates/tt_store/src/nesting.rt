@@ -1,8 +1,9 @@
 ghost use Rattle.std.specs.Prelude.{◌≡◌, ◌<◌, ◌≤◌, length, IfOk, IfSome, OnOk, OnErr, None};
 ghost use Rattle.std.specs.Option.{option_copied};
 ghost use Rattle.tt_vars.specs.Links.{AreSame, Changes, HasNames, HasSize, Links, Reads, Removes, Writes};
-ghost use Rattle.tt_vars.specs.Links.{lent, place_of};
-ghost use Rattle.tt_store.specs.Levels.{HasDepth, above, begun_in, called, caller_of, global_level, levels_after_end};
+ghost use Rattle.tt_vars.specs.Links.{lent_text, place_of};
+ghost use Rattle.tt_store.specs.Levels.{HasDepth, above, with_script_in, with_procedure_level, caller_of};
+ghost use Rattle.tt_store.specs.Levels.{global_level, levels_after_end};
 ghost use Rattle.tt_store.specs.Levels.{with_frames};
 ghost use Rattle.tt_store.specs.Spots.{place_in};
 
@@ -71,7 +72,7 @@ impl Nesting {
 
     /// A procedure is called.
     pub(crate) fn call(&mut self) -> Result<(), NoMemory>
-        ensures called { OnOk result (self.new ≡ called self.old) }
+        ensures called { OnOk result (self.new ≡ with_procedure_level self.old) }
         ensures unchanged { OnErr result (self.new ≡ self.old) }
     {
         self.callers.reserve(1)?;
@@ -86,7 +87,7 @@ impl Nesting {
     /// A script begins in a frame that is there.
     pub(crate) fn begin(&mut self, frame: u64) -> Result<(), NoMemory>
         requires { frame ≤ self.old.current }
-        ensures begun { OnOk result (self.new ≡ begun_in frame self.old) }
+        ensures begun { OnOk result (self.new ≡ with_script_in frame self.old) }
         ensures unchanged { OnErr result (self.new ≡ self.old) }
     {
         self.begun.push(Begun::Script { back: self.current })?;
@@ -96,7 +97,7 @@ impl Nesting {
 
     /// A script begins in the global frame.
     pub(crate) fn begin_global(&mut self) -> Result<(), NoMemory>
-        ensures begun { OnOk result (self.new ≡ begun_in 0 self.old) }
+        ensures begun { OnOk result (self.new ≡ with_script_in 0 self.old) }
         ensures unchanged { OnErr result (self.new ≡ self.old) }
     {
         self.begun.push(Begun::Script { back: self.current })?;
@@ -106,7 +107,7 @@ impl Nesting {
 
     /// A script begins in the current frame.
     pub(crate) fn begin_here(&mut self) -> Result<(), NoMemory>
-        ensures begun { OnOk result (self.new ≡ begun_in self.old.current self.old) }
+        ensures begun { OnOk result (self.new ≡ with_script_in self.old.current self.old) }
         ensures unchanged { OnErr result (self.new ≡ self.old) }
     {
         self.begin(self.current)
@@ -202,7 +203,7 @@ impl Nesting {
 
     /// The value of a name.
     pub(crate) fn read(&self, spot: &Spot) -> Result<&Value, VarFault>
-        ensures { Reads self.now.frames (place_in self.now.current spot.now) (lent result) }
+        ensures { Reads self.now.frames (place_in self.now.current spot.now) (lent_text result) }
     {
         self.vars
             .read(self.frame_of(spot), &spot.name, spot.index.as_ref())

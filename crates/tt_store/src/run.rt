@@ -146,7 +146,7 @@ fn version_of(name: &Text) -> Option<&'static [u8]>
 }
 
 fn required(alloc: Global, name: &Text) -> Result<Outcome, NoMemory>
-    ensures { IfOk result (λ outcome. outcome ≡ table.required name.now (table.version_of name.now)) }
+    ensures { IfOk result (λ outcome. outcome ≡ table.package_answer name.now (table.version_of name.now)) }
 {
     match version_of(name) {
         Some(version) => Ok(Outcome::fine(alloc, Text::from_bytes(alloc, version)?)),

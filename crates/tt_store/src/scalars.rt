@@ -14,7 +14,7 @@ use tt_vars::VarFault;
 
 impl Store {
     pub(crate) fn set(&mut self, usage: &[u8], words: &[Value]) -> Result<Outcome, NoMemory>
-        ensures { IfOk result (λ outcome. scalars.set usage.now words.now self.old outcome self.new) }
+        ensures { IfOk result (λ outcome. scalars.set_meaning usage.now words.now self.old outcome self.new) }
     {
         match words {
             [name] => {

@@ -99,7 +99,7 @@ impl Store {
     ///
     /// `NoMemory` if memory is refused; then nothing has changed.
     pub fn enter(&mut self) -> Result<(), NoMemory>
-        ensures entered { OnOk result (self.new ≡ held.entered self.old) }
+        ensures entered { OnOk result (self.new ≡ held.with_global_script self.old) }
         ensures unchanged { OnErr result (self.new ≡ self.old) }
     {
         self.nesting.begin_global()
@@ -118,7 +118,7 @@ impl Store {
     ///
     /// `NoMemory` if memory is refused; then nothing has changed.
     pub fn watch(&mut self, name: &[u8]) -> Result<(), NoMemory>
-        ensures watched { OnOk result (self.new ≡ held.watched name.now self.old) }
+        ensures watched { OnOk result (self.new ≡ held.with_watch name.now self.old) }
         ensures unchanged { OnErr result (self.new ≡ self.old) }
     {
         let Spot { name, index, .. } = spot_of(self.alloc, name)?;
@@ -143,7 +143,7 @@ impl Store {
 
     /// The innermost wait has ended. If there is none nothing changes.
     pub fn unwatch(&mut self)
-        ensures unwatched { self.new ≡ held.unwatched self.old }
+        ensures unwatched { self.new ≡ held.without_watch self.old }
     {
         drop(self.watches.pop());
     }
@@ -243,7 +243,7 @@ fn value_of(alloc: Global, word: &Text, found: Result<Value, VarFault>) -> Resul
 }
 
 fn stored(alloc: Global, word: &Text, value: Value, written: Written) -> Result<Outcome, NoMemory>
-    ensures { IfOk result (λ outcome. outcome ≡ held.stored word.now value written) }
+    ensures { IfOk result (λ outcome. outcome ≡ held.write_outcome word.now value written) }
 {
     match written {
         Written::Yes => Ok(Outcome::with_result(alloc, value)),

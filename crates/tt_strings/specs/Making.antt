@@ -29,5 +29,5 @@ order_number Equal = pos 0
 order_number Greater = pos 1
 
 -- two texts in the order of their bytes (string(n), string compare)
-abbrev pub compared : List ℕ → List ℕ → ℤ
-compared left right = order_number (slice_cmp nat_cmp left right)
+abbrev pub comparison : List ℕ → List ℕ → ℤ
+comparison left right = order_number (slice_cmp nat_cmp left right)

@@ -3,7 +3,7 @@ ghost use Rattle.std.specs.Prelude.{◌≡◌, ◌*◌, ◌<◌, ◌≤◌, ◌^
 ghost use Rattle.std.specs.Char.{to_ascii_lowercase, to_ascii_uppercase};
 ghost use Rattle.std.specs.List.{repeat};
 ghost use Rattle.tt_text.specs.Characters.{characters};
-ghost use Rattle.tt_strings.specs.Making.{IsRepeated, compared, times};
+ghost use Rattle.tt_strings.specs.Making.{IsRepeated, comparison, times};
 ghost use Rattle.tt_strings.specs.Places.{bytes_of};
 
 use crate::ends::split_last;
@@ -97,7 +97,7 @@ pub fn upper(alloc: Global, text: &[u8]) -> Result<Text, NoMemory>
 /// -1, 0 or 1, as the first text comes before the other, is it, or comes after it, by their bytes (string(n),
 /// string compare).
 pub fn compare(text: &[u8], other: &[u8]) -> i64
-    ensures { result ≡ compared text.now other.now }
+    ensures { result ≡ comparison text.now other.now }
 {
     match text.cmp(other) {
         Ordering::Less => -1,

@@ -13,7 +13,7 @@ use Rattle.tt_ids.specs.Ids.{id}
 use Rattle.tt_ids.specs.declared.id.IdKind.TheVariants.{Thread}
 use Rattle.tt_lists.specs.Spelling.{list_of}
 use Rattle.tt_number.specs.Numerals.{whole_of}
-use Rattle.tt_threads.specs.Rows.{is_linked, linked, row_of, thread_of_id, with_row}
+use Rattle.tt_threads.specs.Rows.{is_linked, linked_thread, row_of, thread_of_id, with_row}
 use Rattle.tt_threads.specs.declared.configure.Settings.{Settings}
 use Rattle.tt_threads.specs.declared.row.Life.{Life}
 use Rattle.tt_threads.specs.declared.row.Life.TheVariants.{Live, Marked, Ended}
@@ -44,9 +44,9 @@ bit b = if b then codes "1" else codes "0"
 -- ---- thread::preserve, thread::release ----
 
 -- the empty id is the asker's own
-abbrev pub named : List Row → ℕ → List ℕ → Option ℕ
-named rows asker [] = Some asker
-named rows asker (byte ∷ text) = linked rows (byte ∷ text)
+abbrev pub thread_named : List Row → ℕ → List ℕ → Option ℕ
+thread_named rows asker [] = Some asker
+thread_named rows asker (byte ∷ text) = linked_thread rows (byte ∷ text)
 
 -- a thread that nobody holds any more is marked
 abbrev pub life_unheld : Life → Life
@@ -57,11 +57,11 @@ abbrev pub life_at : ℤ → Life → Life
 life_at (pos (suc n)) before = before
 life_at count before = life_unheld before
 
-abbrev pub preserved : Row → Row
-preserved row = record row { count = row.count +ℤ pos 1 }
+abbrev pub with_reference : Row → Row
+with_reference row = record row { count = row.count +ℤ pos 1 }
 
-abbrev pub released : Row → Row
-released row = record row { count = row.count +ℤ negsuc 0; life = life_at (row.count +ℤ negsuc 0) row.life }
+abbrev pub without_reference : Row → Row
+without_reference row = record row { count = row.count +ℤ negsuc 0; life = life_at (row.count +ℤ negsuc 0) row.life }
 
 -- the row is changed, and the new count is the answer
 abbrev pub counts_at : (Row → Row) → List Row → ℕ → Option Row → Answered
@@ -187,11 +187,11 @@ configures rows text words (Some number) = configures_of rows number words
 -- Preserve and Release count; a marked thread is asked to stop by the queues, which stand elsewhere. AwaitEnd is asked
 -- of a thread that has ended.
 abbrev pub act : List Row → (asker : ℕ) → Request → Answered
-act rows asker (ask.Preserve text) = counts preserved rows text (named rows asker text)
-act rows asker (ask.Release text) = counts released rows text (named rows asker text)
+act rows asker (ask.Preserve text) = counts with_reference rows text (thread_named rows asker text)
+act rows asker (ask.Release text) = counts without_reference rows text (thread_named rows asker text)
 act rows asker ask.Names = answers rows (list_of (linked_ids 1 rows))
-act rows asker (ask.Exists text) = answers rows (bit (is_some (linked rows text)))
+act rows asker (ask.Exists text) = answers rows (bit (is_some (linked_thread rows text)))
 act rows asker (ask.Join text) = joins_named rows asker text
 act rows asker (ask.AwaitEnd number) = exits rows (row_of rows number)
-act rows asker (ask.Configure text words) = configures rows text words (linked rows text)
+act rows asker (ask.Configure text words) = configures rows text words (linked_thread rows text)
 act rows asker request = is_not_asked rows

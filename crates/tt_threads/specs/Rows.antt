@@ -54,8 +54,8 @@ found_from counts number (row ∷ rows) text =
     else found_from counts (suc number) rows text
 
 -- the linked thread of this id
-abbrev pub linked : List Row → List ℕ → Option ℕ
-linked rows text = found_from is_linked 1 rows text
+abbrev pub linked_thread : List Row → List ℕ → Option ℕ
+linked_thread rows text = found_from is_linked 1 rows text
 
 -- the thread of this id, whatever became of it
 abbrev pub thread_of_id : List Row → List ℕ → Option ℕ

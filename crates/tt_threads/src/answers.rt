@@ -3,9 +3,10 @@ ghost use Rattle.std.specs.Prelude.{is_some};
 ghost use Rattle.tt_calls.specs.declared.reply.Reply.TheVariants.{Value};
 ghost use Rattle.tt_lists.specs.Spelling.{list_of};
 ghost use Rattle.tt_threads.specs.Requests.{act, bit, configures_of, counts_of, exits, has_no_thread, joins_named};
-ghost use Rattle.tt_threads.specs.Requests.{joins_of, linked_ids, named, preserved, released, settings_report};
-ghost use Rattle.tt_threads.specs.inside.Settings.{set};
-ghost use Rattle.tt_threads.specs.Rows.{linked, row_of};
+ghost use Rattle.tt_threads.specs.Requests.{joins_of, linked_ids, thread_named, with_reference, without_reference};
+ghost use Rattle.tt_threads.specs.Requests.{settings_report};
+ghost use Rattle.tt_threads.specs.inside.Settings.{with_settings};
+ghost use Rattle.tt_threads.specs.Rows.{linked_thread, row_of};
 
 use crate::configure::{Settings, bit};
 use crate::{Life, Row, Threads, find};
@@ -49,7 +50,7 @@ impl Threads {
 
     // The thread of this id, the empty one being the asker's.
     fn named(&self, asker: u32, id: &Text) -> Option<u32>
-        ensures { result ≡ named self.now asker id.now }
+        ensures { result ≡ thread_named self.now asker id.now }
     {
         if id.is_empty() {
             return Some(asker);
@@ -75,7 +76,7 @@ impl Threads {
 
     // Whether a linked thread has this id.
     fn exists(&self, id: &Text) -> Result<Reply, NoMemory>
-        ensures { IfOk result (λ reply. reply ≡ Value (bit (is_some (linked self.now id.now)))) }
+        ensures { IfOk result (λ reply. reply ≡ Value (bit (is_some (linked_thread self.now id.now)))) }
     {
         let text = bit(self.alloc, self.linked(id.as_bytes()).is_some())?;
         Ok(Reply::Value(text))
@@ -129,8 +130,8 @@ impl Threads {
     // One hold more of a thread.
     #[tactic(auto, using(crate::proofs::Living::living_same))]
     fn preserve(&mut self, number: u32) -> Result<Reply, NoMemory>
-        ensures rows { OnOk result (self.new ≡ (counts_of preserved self.old number).rows) }
-        ensures reply { IfOk result (λ reply. reply ≡ (counts_of preserved self.old number).reply) }
+        ensures rows { OnOk result (self.new ≡ (counts_of with_reference self.old number).rows) }
+        ensures reply { IfOk result (λ reply. reply ≡ (counts_of with_reference self.old number).reply) }
     {
         let Some(place) = self.place(number) else {
             return Ok(Reply::Refused(Text::new(self.alloc)));
@@ -145,8 +146,8 @@ impl Threads {
     // One hold less of a thread.
     #[tactic(auto, using(crate::proofs::Living::living_same))]
     fn release(&mut self, number: u32) -> Result<Reply, NoMemory>
-        ensures rows { OnOk result (self.new ≡ (counts_of released self.old number).rows) }
-        ensures reply { IfOk result (λ reply. reply ≡ (counts_of released self.old number).reply) }
+        ensures rows { OnOk result (self.new ≡ (counts_of without_reference self.old number).rows) }
+        ensures reply { IfOk result (λ reply. reply ≡ (counts_of without_reference self.old number).reply) }
     {
         let Some(place) = self.place(number) else {
             return Ok(Reply::Refused(Text::new(self.alloc)));
@@ -188,7 +189,7 @@ impl Threads {
     #[tactic(auto, using(crate::proofs::Living::living_same))]
     fn set(&mut self, place: usize, settings: Settings)
         requires { place < length self.old }
-        ensures { self.new ≡ set self.old place settings }
+        ensures { self.new ≡ with_settings self.old place settings }
     {
         let row = &mut self.rows[place];
         row.eventmark = settings.eventmark;

@@ -1,7 +1,7 @@
 ghost use Rattle.std.specs.Prelude.{◌≡◌, ◌≢◌, ◌<◌, ◌≤◌, ◌^◌, ℕ, IfNone, IfSome, length};
 ghost use Rattle.tt_ids.specs.Ids.{id as id_of};
 ghost use Rattle.tt_ids.specs.declared.id.IdKind.TheVariants.{Thread};
-ghost use Rattle.tt_threads.specs.Rows.{linked, thread_of_id};
+ghost use Rattle.tt_threads.specs.Rows.{linked_thread, thread_of_id};
 
 use crate::Row;
 use tt_ids::{IdKind, id_number};
@@ -9,7 +9,7 @@ use tt_ids::{IdKind, id_number};
 /// The linked thread of this id.
 pub(crate) fn linked(rows: &[Row], id: &[u8]) -> Option<u32>
     requires { length rows.now < 2 ^ 32 }
-    ensures { result ≡ linked rows.now id.now }
+    ensures { result ≡ linked_thread rows.now id.now }
 {
     match number_within(id, rows.len()) {
         Some(number) if rows[number as usize - 1].life.is_linked() => Some(number),

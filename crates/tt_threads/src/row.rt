@@ -1,5 +1,5 @@
 ghost use Rattle.std.specs.Prelude.{◌≡◌, OnOk};
-ghost use Rattle.tt_threads.specs.Requests.{life_at, released};
+ghost use Rattle.tt_threads.specs.Requests.{life_at, without_reference};
 ghost use Rattle.tt_threads.specs.Rows.{is_linked, lives, new_row};
 
 use tt_calls::Start;
@@ -81,7 +81,7 @@ impl Row {
 
     // One hold less.
     pub(crate) fn release(&mut self) -> Result<(), NoMemory>
-        ensures released { OnOk result (self.new ≡ released self.old) }
+        ensures released { OnOk result (self.new ≡ without_reference self.old) }
         ensures lives { lives self.new.life ≡ lives self.old.life }
     {
         self.count = count_with(self.count, -1)?;

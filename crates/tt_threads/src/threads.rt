@@ -1,5 +1,6 @@
 ghost use Rattle.std.specs.Prelude.{◌≡◌, [], length, IfOk, OnOk, IsTrue, option_copied};
-ghost use Rattle.tt_threads.specs.Rows.{is_living, linked, living, new_row, number_made, row_of, with_end, with_made};
+ghost use Rattle.tt_threads.specs.Rows.{is_living, linked_thread, living, new_row, number_made, row_of, with_end};
+ghost use Rattle.tt_threads.specs.Rows.{with_made};
 
 use crate::{Life, Row, find};
 use std::alloc::Global;
@@ -74,7 +75,7 @@ impl Threads {
     /// The number of the linked thread of this id; `None` exactly if no thread that lives and isn't marked has it. It
     /// takes no memory.
     pub fn linked(&self, id: &[u8]) -> Option<u32>
-        ensures linked { result ≡ linked self.now id.now }
+        ensures linked { result ≡ linked_thread self.now id.now }
     {
         find::linked(self.rows.as_slice(), id)
     }

@@ -12,12 +12,12 @@ pub record TraceText : Type 0 where
   pub joint : Joint
 
 -- the trace of a new error (error(n))
-abbrev pub started : (message : List ℕ) → TraceText
-started message = record { text = message; joint = WhileExecuting }
+abbrev pub new_trace : (message : List ℕ) → TraceText
+new_trace message = record { text = message; joint = WhileExecuting }
 
 -- a trace that goes on with one that is there: of another thread or job, or the info of error(n)
-abbrev pub started_within : (trace : List ℕ) → TraceText
-started_within trace = record { text = trace; joint = InvokedFromWithin }
+abbrev pub trace_after : (trace : List ℕ) → TraceText
+trace_after trace = record { text = trace; joint = InvokedFromWithin }
 
 -- a line more
 abbrev pub with_line : (text line : List ℕ) → List ℕ
@@ -29,18 +29,21 @@ heading WhileExecuting = codes "    while executing"
 heading InvokedFromWithin = codes "    invoked from within"
 
 -- the text of a command, cut past 150 bytes
-abbrev pub shortened : (command : List ℕ) → List ℕ
-shortened command =
+abbrev pub short_command : (command : List ℕ) → List ℕ
+short_command command =
     if nat_le (length command) LONGEST then command else take LONGEST command ++ codes "..."
 
 -- the command in quotes
-abbrev pub quoted : (command : List ℕ) → List ℕ
-quoted command = codes "\"" ++ (shortened command ++ codes "\"")
+abbrev pub quoted_command : (command : List ℕ) → List ℕ
+quoted_command command = codes "\"" ++ (short_command command ++ codes "\"")
 
 -- a command that ended with the error: a line over it, and its text in quotes
 abbrev pub with_command : TraceText → (command : List ℕ) → TraceText
 with_command trace command =
-    record { text = with_line (with_line trace.text (heading trace.joint)) (quoted command); joint = InvokedFromWithin }
+    record {
+      text = with_line (with_line trace.text (heading trace.joint)) (quoted_command command);
+      joint = InvokedFromWithin;
+    }
 
 -- which line of a procedure's body the command stood in
 abbrev pub place_in_body : (line : ℕ) → List ℕ

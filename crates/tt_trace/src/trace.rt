@@ -1,6 +1,6 @@
 ghost use Rattle.std.specs.Prelude.{◌≡◌, ◌≤◌, ◌++◌, IfOk, OnOk, length, take};
-ghost use Rattle.tt_trace.specs.Lines.{heading, line_at, place_in_body, procedure_line, shortened, started};
-ghost use Rattle.tt_trace.specs.Lines.{started_within, with_command, with_line, with_procedure};
+ghost use Rattle.tt_trace.specs.Lines.{heading, line_at, place_in_body, procedure_line, short_command, new_trace};
+ghost use Rattle.tt_trace.specs.Lines.{trace_after, with_command, with_line, with_procedure};
 
 use itoa::Buffer;
 use std::alloc::Global;
@@ -53,7 +53,7 @@ impl Trace {
     ///
     /// `NoMemory` if memory for it is refused.
     pub fn start(alloc: Global, message: &[u8]) -> Result<Self, NoMemory>
-        ensures started { IfOk result (λ trace. trace ≡ started message.now) }
+        ensures started { IfOk result (λ trace. trace ≡ new_trace message.now) }
     {
         Ok(Trace {
             text: Text::from_bytes(alloc, message)?,
@@ -66,7 +66,7 @@ impl Trace {
     ///
     /// `NoMemory` if memory for it is refused.
     pub fn start_within(alloc: Global, trace: &[u8]) -> Result<Self, NoMemory>
-        ensures started { IfOk result (λ started. started ≡ started_within trace.now) }
+        ensures started { IfOk result (λ new_trace. new_trace ≡ trace_after trace.now) }
     {
         Ok(Trace {
             text: Text::from_bytes(alloc, trace)?,
@@ -116,7 +116,7 @@ impl Trace {
     }
 
     fn push_shortened(&mut self, command: &[u8]) -> Result<(), NoMemory>
-        ensures { OnOk result (self.new ≡ record self.old { text = self.old.text ++ shortened command.now }) }
+        ensures { OnOk result (self.new ≡ record self.old { text = self.old.text ++ short_command command.now }) }
     {
         if command.len() > LONGEST {
             self.text.push_bytes(front(command, LONGEST))?;

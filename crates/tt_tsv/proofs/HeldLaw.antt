@@ -13,12 +13,12 @@ use Rattle.tt_lists.specs.declared.items.Split.{Split}
 use Rattle.tt_lists.specs.declared.items.Split.TheVariants as split
 use Rattle.tt_calls.specs.Replies.{answers, refuses}
 use Rattle.tt_tsv.specs.Calls.{act, array_act, array_asked, changes, empty_answer, exists_message, fills, holds}
-use Rattle.tt_tsv.specs.Calls.{is_held_by_other, is_own, moves_of, refills, run, run_asked, step_after, table_after}
+use Rattle.tt_tsv.specs.Calls.{is_held_by_other, is_own, moves_of, refills, usage_answer, asked_answer, step_after, table_after}
 use Rattle.tt_tsv.specs.Calls.{unholds, unsets, waits_for}
-use Rattle.tt_tsv.specs.Arrays.{Table, added, array_of, changed, changes_in, element_of, emptied, held, is_held, let_go}
+use Rattle.tt_tsv.specs.Arrays.{Table, array_with_items, array_of, table_with_change, changes_in, element_of, array_without_elements, array_with_hold, is_held, array_without_hold}
 use Rattle.tt_tsv.specs.Arrays.{with_array, makes_in, with_element, without_array, without_element}
 use Rattle.tt_tsv.specs.Elements.{change_if}
-use Rattle.tt_tsv.specs.Words.{Asked, array_among, array_in, asked_of}
+use Rattle.tt_tsv.specs.Words.{Asked, array_among, array_in, usage_of_words}
 use Rattle.tt_tsv.specs.declared.array.Array.{Array}
 use Rattle.tt_tsv.specs.declared.change.Change.{Change}
 use Rattle.tt_tsv.specs.declared.change.Change.TheVariants.{Kept, Put, Removed}
@@ -77,7 +77,7 @@ module _ (name other : List ℕ) (apart : bytes_eq name other ≡ false) where
   by_move table key new (Some value) = go (is_some (element_of table other new))
     where
       without : Table
-      without = changed (without_element key) table other
+      without = table_with_change (without_element key) table other
 
       go : (b : Bool) →
           array_of (if b then refuses table (exists_message new) else empty_answer
@@ -89,16 +89,16 @@ module _ (name other : List ℕ) (apart : bytes_eq name other ≡ false) where
   by_unset table None = refl
   by_unset table (Some array) = go (is_held array)
     where
-      go : (b : Bool) → array_of (if b then changed emptied table other else without_array table other) name ≡ array_of table name
-      go true = by_changed emptied table (array_of table other)
+      go : (b : Bool) → array_of (if b then table_with_change array_without_elements table other else without_array table other) name ≡ array_of table name
+      go true = by_changed array_without_elements table (array_of table other)
       go false = by_remove table
 
   by_fill : (table : Table) (list : Split) → array_of (fills table other list).table name ≡ array_of table name
   by_fill table (split.Bad fault) = refl
   by_fill table (split.Items items) = go (length items % 2 == 0)
     where
-      go : (b : Bool) → array_of (if b then empty_answer (with_array (added items) table other) else refuses table (codes "list must have an even number of elements")).table name ≡ array_of table name
-      go true = by_made (added items) table (array_of table other)
+      go : (b : Bool) → array_of (if b then empty_answer (with_array (array_with_items items) table other) else refuses table (codes "list must have an even number of elements")).table name ≡ array_of table name
+      go true = by_made (array_with_items items) table (array_of table other)
       go false = refl
 
   by_refill : (table : Table) (list : Split) → array_of (refills table other list).table name ≡ array_of table name
@@ -106,10 +106,10 @@ module _ (name other : List ℕ) (apart : bytes_eq name other ≡ false) where
   by_refill table (split.Items items) = go (length items % 2 == 0)
     where
       without : Table
-      without = changed emptied table other
+      without = table_with_change array_without_elements table other
 
-      go : (b : Bool) → array_of (if b then empty_answer (with_array (added items) without other) else refuses table (codes "list must have an even number of elements")).table name ≡ array_of table name
-      go true = by_made (added items) without (array_of without other) ∙ by_changed emptied table (array_of table other)
+      go : (b : Bool) → array_of (if b then empty_answer (with_array (array_with_items items) without other) else refuses table (codes "list must have an even number of elements")).table name ≡ array_of table name
+      go true = by_made (array_with_items items) without (array_of without other) ∙ by_changed array_without_elements table (array_of table other)
       go false = refl
 
   by_array : (table : Table) (asked : ArrayUsage) (words : List (List ℕ)) → array_of (array_act table asked other words).table name ≡ array_of table name
@@ -125,7 +125,7 @@ module _ (name other : List ℕ) (apart : bytes_eq name other ≡ false) where
   by_array table array.Reset (list ∷ []) = by_refill table (split_of list)
   by_array table array.Reset (list ∷ word ∷ words) = refl
 
-  by_run : (table : Table) (asked : Usage) (words : List (List ℕ)) → array_of (run table asked (other ∷ words)).table name ≡ array_of table name
+  by_run : (table : Table) (asked : Usage) (words : List (List ℕ)) → array_of (usage_answer table asked (other ∷ words)).table name ≡ array_of table name
   by_run table usage.Names words = refl
   by_run table usage.Find [] = refl
   by_run table usage.Find (key ∷ words) = refl
@@ -141,8 +141,8 @@ module _ (name other : List ℕ) (apart : bytes_eq name other ≡ false) where
   by_unhold : (table : Table) (t : ℕ) → array_of (unholds table t other).table name ≡ array_of table name
   by_unhold table t = go (is_own t (array_of table other))
     where
-      go : (b : Bool) → array_of (if b then answers (changed let_go table other) Go else refuses table []).table name ≡ array_of table name
-      go true = by_changed let_go table (array_of table other)
+      go : (b : Bool) → array_of (if b then answers (table_with_change array_without_hold table other) Go else refuses table []).table name ≡ array_of table name
+      go true = by_changed array_without_hold table (array_of table other)
       go false = refl
 
 module _ (table : Table) (name : List ℕ) (t : ℕ) (is_other : is_held_by_other t (array_of table name) ≡ true) where
@@ -162,30 +162,30 @@ module _ (table : Table) (name : List ℕ) (t : ℕ) (is_other : is_held_by_othe
       go false apart = either (is_held_by_other t (array_of table other)) (leaves apart)
 
   on_usage : (asked : Usage) (words : List (List ℕ)) →
-      array_of (if waits_for table t (array_among asked words) then table else (run table asked words).table) name ≡ array_of table name
+      array_of (if waits_for table t (array_among asked words) then table else (usage_answer table asked words).table) name ≡ array_of table name
   on_usage usage.Names words = refl
   on_usage usage.Find [] = refl
-  on_usage usage.Find (other ∷ words) = if_waits other (run table usage.Find (other ∷ words)).table (λ apart. by_run name other apart table usage.Find words)
+  on_usage usage.Find (other ∷ words) = if_waits other (usage_answer table usage.Find (other ∷ words)).table (λ apart. by_run name other apart table usage.Find words)
   on_usage usage.Exists [] = refl
   on_usage usage.Exists (other ∷ words) =
-      if_waits other (run table usage.Exists (other ∷ words)).table (λ apart. by_run name other apart table usage.Exists words)
+      if_waits other (usage_answer table usage.Exists (other ∷ words)).table (λ apart. by_run name other apart table usage.Exists words)
   on_usage usage.Move [] = refl
-  on_usage usage.Move (other ∷ words) = if_waits other (run table usage.Move (other ∷ words)).table (λ apart. by_run name other apart table usage.Move words)
+  on_usage usage.Move (other ∷ words) = if_waits other (usage_answer table usage.Move (other ∷ words)).table (λ apart. by_run name other apart table usage.Move words)
   on_usage (usage.Array asked) [] = refl
   on_usage (usage.Array asked) (other ∷ words) =
-      if_waits other (run table (usage.Array asked) (other ∷ words)).table (λ apart. by_run name other apart table (usage.Array asked) words)
+      if_waits other (usage_answer table (usage.Array asked) (other ∷ words)).table (λ apart. by_run name other apart table (usage.Array asked) words)
   on_usage (usage.Element asked) [] = refl
   on_usage (usage.Element asked) (other ∷ words) =
-      if_waits other (run table (usage.Element asked) (other ∷ words)).table (λ apart. by_run name other apart table (usage.Element asked) words)
+      if_waits other (usage_answer table (usage.Element asked) (other ∷ words)).table (λ apart. by_run name other apart table (usage.Element asked) words)
 
-  on_asked : (asked : Option Asked) → array_of (if waits_for table t (array_in asked) then table else (run_asked table asked).table) name ≡ array_of table name
+  on_asked : (asked : Option Asked) → array_of (if waits_for table t (array_in asked) then table else (asked_answer table asked).table) name ≡ array_of table name
   on_asked None = refl
   on_asked (Some asked) = on_usage asked.0 asked.1
 
   on_call : (call : TsvCall) → array_of (table_after table t call) name ≡ array_of table name
-  on_call (Hold other) = if_waits other (holds table t other).table (λ apart. by_made name other apart (held t) table (array_of table other))
+  on_call (Hold other) = if_waits other (holds table t other).table (λ apart. by_made name other apart (array_with_hold t) table (array_of table other))
   on_call (Unhold other) = if_waits other (unholds table t other).table (λ apart. by_unhold name other apart table t)
-  on_call (Run words) = on_asked (asked_of words)
+  on_call (Run words) = on_asked (usage_of_words words)
 
 pub closed_to_others : (table : Table) (name : List ℕ) (t : ℕ) (call : TsvCall) → is_held_by_other t (array_of table name) ≡ true →
     array_of (table_after table t call) name ≡ array_of table name

@@ -9,7 +9,7 @@ use Rattle.tt_lists.specs.declared.answer.ListAnswer.TheVariants as answer
 use Rattle.tt_lists.specs.declared.items.ListFault.{ListFault}
 use Rattle.tt_lists.specs.declared.items.Split.{Split}
 use Rattle.tt_lists.specs.declared.items.Split.TheVariants as split
-use Rattle.tt_value.specs.Reading.{count_by, count_of, items_by, items_of, made_by}
+use Rattle.tt_value.specs.Reading.{count_by, count_of, items_by, items_of, text_or_message}
 
 err_is_ok : {X E : Type 0} {e : E} {x : X} → ◌≡◌ {A = Result X E} (Err e) (Ok x) → ⊥
 err_is_ok h = cc
@@ -56,10 +56,10 @@ for_itself (answer.Bad message) = refl
 pub one_item : (text word : List ℕ) → item_answer text (word ∷ []) ≡ item_of text word
 one_item text word = for_itself (item_of text word)
 
-pub is_made : (a : ListAnswer) (text : List ℕ) → made_by a ≡ Ok text → a ≡ answer.Made text
+pub is_made : (a : ListAnswer) (text : List ℕ) → text_or_message a ≡ Ok text → a ≡ answer.Made text
 is_made (answer.Made other) text e = ap answer.Made (same_ok e)
 is_made (answer.Bad message) text e = absurd (err_is_ok e)
 
-pub is_refused : (a : ListAnswer) (message : List ℕ) → made_by a ≡ Err message → a ≡ answer.Bad message
+pub is_refused : (a : ListAnswer) (message : List ℕ) → text_or_message a ≡ Err message → a ≡ answer.Bad message
 is_refused (answer.Made text) message e = absurd (err_is_ok (sym e))
 is_refused (answer.Bad other) message e = ap answer.Bad (same_err e)

@@ -27,8 +27,8 @@ abbrev pub changes_in : (Array → Array) → Table → (name : List ℕ) → Op
 changes_in change table name None = table
 changes_in change table name (Some array) = set_value (bytes_eq name) table (change array)
 
-abbrev pub changed : (Array → Array) → Table → (name : List ℕ) → Table
-changed change table name = changes_in change table name (array_of table name)
+abbrev pub table_with_change : (Array → Array) → Table → (name : List ℕ) → Table
+table_with_change change table name = changes_in change table name (array_of table name)
 
 -- an array is changed in its place; a missing one is made first, and goes last
 abbrev pub makes_in : (Array → Array) → Table → (name : List ℕ) → Option Array → Table
@@ -62,17 +62,17 @@ abbrev pub without_element : (key : List ℕ) → Array → Array
 without_element key array = with_elements array (remove_entry (bytes_eq key) array.elements)
 
 -- elements and those of a list of keys and values, put in one after the other
-abbrev pub filled : Pairs → (items : List (List ℕ)) → Pairs
-filled elements [] = elements
-filled elements (key ∷ []) = elements
-filled elements (key ∷ value ∷ items) = filled (insert_entry bytes_eq elements key value) items
+abbrev pub pairs_with_items : Pairs → (items : List (List ℕ)) → Pairs
+pairs_with_items elements [] = elements
+pairs_with_items elements (key ∷ []) = elements
+pairs_with_items elements (key ∷ value ∷ items) = pairs_with_items (insert_entry bytes_eq elements key value) items
 
-abbrev pub added : (items : List (List ℕ)) → Array → Array
-added items array = with_elements array (filled array.elements items)
+abbrev pub array_with_items : (items : List (List ℕ)) → Array → Array
+array_with_items items array = with_elements array (pairs_with_items array.elements items)
 
 -- no elements any more
-abbrev pub emptied : Array → Array
-emptied array = with_elements array []
+abbrev pub array_without_elements : Array → Array
+array_without_elements array = with_elements array []
 
 -- ---- holds (tsv(n), tsv::lock) ----
 
@@ -83,12 +83,12 @@ abbrev pub is_held_by : ℕ → Array → Bool
 is_held_by t array = elim array.holder [ None ↦ false | Some holder ↦ holder == t ]
 
 -- one hold more, by a thread
-abbrev pub held : ℕ → Array → Array
-held t array = record array { holder = Some t; depth = array.depth + 1 }
+abbrev pub array_with_hold : ℕ → Array → Array
+array_with_hold t array = record array { holder = Some t; depth = array.depth + 1 }
 
 -- one hold less, after the last of which nobody holds it
-abbrev pub let_go : Array → Array
-let_go array =
+abbrev pub array_without_hold : Array → Array
+array_without_hold array =
     if nat_le array.depth 1
     then record array { holder = None; depth = 0 }
     else record array { depth = array.depth - 1 }

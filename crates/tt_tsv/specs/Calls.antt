@@ -19,10 +19,12 @@ use Rattle.tt_lists.specs.declared.answer.ListAnswer.{ListAnswer}
 use Rattle.tt_lists.specs.declared.answer.ListAnswer.TheVariants.{Made, Bad}
 use Rattle.tt_lists.specs.declared.items.Split.{Split}
 use Rattle.tt_lists.specs.declared.items.Split.TheVariants as split
-use Rattle.tt_tsv.specs.Arrays.{Pairs, Table, added, array_of, changed, element_of, emptied, elements_of, held, is_held}
-use Rattle.tt_tsv.specs.Arrays.{is_held_by, let_go, with_array, with_element, without_array, without_element}
+use Rattle.tt_tsv.specs.Arrays.{Pairs, Table, array_with_items, array_of, table_with_change, element_of}
+use Rattle.tt_tsv.specs.Arrays.{array_without_elements, elements_of, array_with_hold, is_held}
+use Rattle.tt_tsv.specs.Arrays.{is_held_by, array_without_hold, with_array, with_element, without_array}
+use Rattle.tt_tsv.specs.Arrays.{without_element}
 use Rattle.tt_tsv.specs.Elements.{change_if, missing_message}
-use Rattle.tt_tsv.specs.Words.{Asked, array_in, asked_of}
+use Rattle.tt_tsv.specs.Words.{Asked, array_in, usage_of_words}
 use Rattle.tt_tsv.specs.declared.array.Array.{Array}
 use Rattle.tt_tsv.specs.declared.change.Change.{Change}
 use Rattle.tt_tsv.specs.declared.change.Change.TheVariants.{Kept, Put, Removed}
@@ -38,7 +40,7 @@ use Rattle.tt_tsv.specs.declared.usage.Usage.TheVariants as usage
 abbrev pub array_asked : TsvCall → Option (List ℕ)
 array_asked (Hold array) = Some array
 array_asked (Unhold array) = Some array
-array_asked (Run words) = array_in (asked_of words)
+array_asked (Run words) = array_in (usage_of_words words)
 
 abbrev pub is_held_by_other : ℕ → Option Array → Bool
 is_held_by_other t None = false
@@ -69,7 +71,7 @@ truth is = if is then codes "1" else codes "0"
 -- tsv::lock: a hold, which makes a missing array, and its end; an end of what the thread doesn't hold is none that a
 -- command asks
 abbrev pub holds : Table → ℕ → (name : List ℕ) → Answered Table
-holds table t name = answers (with_array (held t) table name) Go
+holds table t name = answers (with_array (array_with_hold t) table name) Go
 
 abbrev pub is_own : ℕ → Option Array → Bool
 is_own t None = false
@@ -78,7 +80,7 @@ is_own t (Some array) = is_held_by t array
 abbrev pub unholds : Table → ℕ → (name : List ℕ) → Answered Table
 unholds table t name =
     if is_own t (array_of table name)
-    then answers (changed let_go table name) Go
+    then answers (table_with_change array_without_hold table name) Go
     else refuses table []
 
 -- ---- commands on an element ----
@@ -86,7 +88,7 @@ unholds table t name =
 abbrev pub changes : Table → (name key : List ℕ) → Change → Answered Table
 changes table name key (Kept answer) = answers table (list_reply answer)
 changes table name key (Put value answer) = answers (with_array (with_element key value) table name) (Value answer)
-changes table name key (Removed answer) = answers (changed (without_element key) table name) (Value answer)
+changes table name key (Removed answer) = answers (table_with_change (without_element key) table name) (Value answer)
 
 abbrev pub changes_by : Table → ElementUsage → (name key : List ℕ) → (words : List (List ℕ)) → Answered Table
 changes_by table asked name key words =
@@ -105,7 +107,7 @@ abbrev pub moves_of : Table → (name key new : List ℕ) → Option (List ℕ) 
 moves_of table name key new None = refuses table (missing_message name key)
 moves_of table name key new (Some value) =
     if is_some (element_of table name new) then refuses table (exists_message new) else
-    empty_answer (with_array (with_element new value) (changed (without_element key) table name) name)
+    empty_answer (with_array (with_element new value) (table_with_change (without_element key) table name) name)
 
 abbrev pub moves : Table → (name key new : List ℕ) → Answered Table
 moves table name key new = moves_of table name key new (element_of table name key)
@@ -121,22 +123,23 @@ abbrev pub names_like : (pattern : List (List ℕ)) → List (List ℕ) → List
 names_like pattern names = filter (is_like pattern) names
 
 -- of an element its key and its value, if the key is like the pattern
-abbrev pub listed : (pattern : List (List ℕ)) → (List ℕ × List ℕ) → List (List ℕ)
-listed pattern pair = if is_like pattern pair.0 then pair.0 ∷ pair.1 ∷ [] else []
+abbrev pub pair_if_like : (pattern : List (List ℕ)) → (List ℕ × List ℕ) → List (List ℕ)
+pair_if_like pattern pair = if is_like pattern pair.0 then pair.0 ∷ pair.1 ∷ [] else []
 
 abbrev pub pairs_like : (pattern : List (List ℕ)) → Pairs → List (List ℕ)
-pairs_like pattern pairs = flat_map (listed pattern) pairs
+pairs_like pattern pairs = flat_map (pair_if_like pattern) pairs
 
 -- tsv::unset a: a held array is emptied and kept
 abbrev pub unsets : Table → (name : List ℕ) → Option Array → Table
 unsets table name None = table
-unsets table name (Some array) = if is_held array then changed emptied table name else without_array table name
+unsets table name (Some array) =
+    if is_held array then table_with_change array_without_elements table name else without_array table name
 
 -- tsv::array set: the elements of a list are put in; a missing array is made
 abbrev pub fills_from : Table → (name : List ℕ) → (items : List (List ℕ)) → Answered Table
 fills_from table name items =
     if length items % 2 == 0
-    then empty_answer (with_array (added items) table name)
+    then empty_answer (with_array (array_with_items items) table name)
     else refuses table (codes "list must have an even number of elements")
 
 abbrev pub fills : Table → (name : List ℕ) → Split → Answered Table
@@ -151,7 +154,7 @@ sets table name words = refuses table []
 abbrev pub refills_from : Table → (name : List ℕ) → (items : List (List ℕ)) → Answered Table
 refills_from table name items =
     if length items % 2 == 0
-    then empty_answer (with_array (added items) (changed emptied table name) name)
+    then empty_answer (with_array (array_with_items items) (table_with_change array_without_elements table name) name)
     else refuses table (codes "list must have an even number of elements")
 
 abbrev pub refills : Table → (name : List ℕ) → Split → Answered Table
@@ -182,24 +185,25 @@ array_act table array.Reset name words = resets table name words
 -- ---- all commands ----
 
 -- by a usage and the words after the command's name
-abbrev pub run : Table → Usage → (words : List (List ℕ)) → Answered Table
-run table usage.Names words = answers table (Value (list_of (names_like words (keys_of table))))
-run table usage.Find (name ∷ key ∷ words) = answers table (found (element_of table name key))
-run table usage.Exists (name ∷ key ∷ words) = answers table (Value (truth (is_some (element_of table name key))))
-run table usage.Move (name ∷ key ∷ new ∷ words) = moves table name key new
-run table (usage.Array asked) (name ∷ words) = array_act table asked name words
-run table (usage.Element asked) (name ∷ key ∷ words) = changes_by table asked name key words
-run table usage words = refuses table []
+abbrev pub usage_answer : Table → Usage → (words : List (List ℕ)) → Answered Table
+usage_answer table usage.Names words = answers table (Value (list_of (names_like words (keys_of table))))
+usage_answer table usage.Find (name ∷ key ∷ words) = answers table (found (element_of table name key))
+usage_answer table usage.Exists (name ∷ key ∷ words) =
+    answers table (Value (truth (is_some (element_of table name key))))
+usage_answer table usage.Move (name ∷ key ∷ new ∷ words) = moves table name key new
+usage_answer table (usage.Array asked) (name ∷ words) = array_act table asked name words
+usage_answer table (usage.Element asked) (name ∷ key ∷ words) = changes_by table asked name key words
+usage_answer table usage words = refuses table []
 
 -- words that no command asks are refused
-abbrev pub run_asked : Table → Option Asked → Answered Table
-run_asked table None = refuses table []
-run_asked table (Some asked) = run table asked.0 asked.1
+abbrev pub asked_answer : Table → Option Asked → Answered Table
+asked_answer table None = refuses table []
+asked_answer table (Some asked) = usage_answer table asked.0 asked.1
 
 abbrev pub act : Table → ℕ → TsvCall → Answered Table
 act table t (Hold name) = holds table t name
 act table t (Unhold name) = unholds table t name
-act table t (Run words) = run_asked table (asked_of words)
+act table t (Run words) = asked_answer table (usage_of_words words)
 
 -- ---- a call whole ----
 

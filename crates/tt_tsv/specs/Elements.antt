@@ -49,17 +49,17 @@ abbrev pub sum_answer : Result ℤ ArithFault → ListAnswer
 sum_answer (Ok sum) = Made (signed_decimal sum)
 sum_answer (Err fault) = Bad (arith_message fault)
 
-abbrev pub stepped : ℤ → (step : List ℕ) → Result ℤ NumberFault → ListAnswer
-stepped number step (Err fault) = Bad (number_message fault step)
-stepped number step (Ok more) = sum_answer (binary_of Add number more)
+abbrev pub sum_with_step : ℤ → (step : List ℕ) → Result ℤ NumberFault → ListAnswer
+sum_with_step number step (Err fault) = Bad (number_message fault step)
+sum_with_step number step (Ok more) = sum_answer (binary_of Add number more)
 
-abbrev pub incremented : (value step : List ℕ) → Result ℤ NumberFault → ListAnswer
-incremented value step (Err fault) = Bad (number_message fault value)
-incremented value step (Ok number) = stepped number step (whole_of step)
+abbrev pub increment_of : (value step : List ℕ) → Result ℤ NumberFault → ListAnswer
+increment_of value step (Err fault) = Bad (number_message fault value)
+increment_of value step (Ok number) = sum_with_step number step (whole_of step)
 
 abbrev pub increments : (value : List ℕ) → (words : List (List ℕ)) → Change
-increments value [] = puts (incremented value (codes "1") (whole_of value))
-increments value (step ∷ []) = puts (incremented value step (whole_of value))
+increments value [] = puts (increment_of value (codes "1") (whole_of value))
+increments value (step ∷ []) = puts (increment_of value step (whole_of value))
 increments value words = not_asked
 
 -- tsv::lrange a k i j

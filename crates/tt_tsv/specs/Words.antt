@@ -98,18 +98,18 @@ Asked = Usage × List (List ℕ)
 abbrev pub first_fitting : List Usage → (name : List ℕ) → (words : List (List ℕ)) → Option Usage
 first_fitting usages name words = find (λ usage. fits usage name words) usages
 
-abbrev pub asked_among : List Usage → (name : List ℕ) → (words : List (List ℕ)) → Option Asked
-asked_among usages name words = option_map (λ usage. (usage, words)) (first_fitting usages name words)
+abbrev pub usage_among : List Usage → (name : List ℕ) → (words : List (List ℕ)) → Option Asked
+usage_among usages name words = option_map (λ usage. (usage, words)) (first_fitting usages name words)
 
 abbrev pub asked_after_array : (words : List (List ℕ)) → Option Asked
 asked_after_array [] = None
-asked_after_array (name ∷ words) = asked_among array_usages name words
+asked_after_array (name ∷ words) = usage_among array_usages name words
 
 -- the usage that words are of; none if no command asks them
-abbrev pub asked_of : (words : List (List ℕ)) → Option Asked
-asked_of [] = None
-asked_of (name ∷ words) =
-    if bytes_eq name (codes "tsv::array") then asked_after_array words else asked_among usages name words
+abbrev pub usage_of_words : (words : List (List ℕ)) → Option Asked
+usage_of_words [] = None
+usage_of_words (name ∷ words) =
+    if bytes_eq name (codes "tsv::array") then asked_after_array words else usage_among usages name words
 
 -- the array that a command is on: all have one but tsv::names
 abbrev pub array_among : Usage → (words : List (List ℕ)) → Option (List ℕ)

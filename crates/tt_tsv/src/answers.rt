@@ -1,9 +1,10 @@
 ghost use Rattle.std.specs.Prelude.{◌≡◌, IfOk, OnOk};
-ghost use Rattle.tt_tsv.specs.Calls.{act, changes, changes_by, holds, moves, run, run_asked, step_after, table_after};
+ghost use Rattle.tt_tsv.specs.Calls.{act, changes, changes_by, holds, moves, usage_answer, asked_answer, step_after};
+ghost use Rattle.tt_tsv.specs.Calls.{table_after};
 ghost use Rattle.tt_tsv.specs.Calls.{unholds};
 ghost use Rattle.tt_tsv.specs.Elements.{change_of_missing, missing_as};
 ghost use Rattle.tt_tsv.specs.inside.Changed.{reply_of, table_ended};
-ghost use Rattle.tt_tsv.specs.Words.{asked_of};
+ghost use Rattle.tt_tsv.specs.Words.{usage_of_words};
 
 use crate::Arrays;
 use crate::change::{Change, change_of, missing_as};
@@ -57,8 +58,8 @@ impl Arrays {
     }
 
     fn run_words(&mut self, words: &[Text]) -> Result<Reply, NoMemory>
-        ensures table { OnOk result (self.new ≡ (run_asked self.old (asked_of words.now)).table) }
-        ensures reply { IfOk result (λ reply. reply ≡ (run_asked self.old (asked_of words.now)).reply) }
+        ensures table { OnOk result (self.new ≡ (asked_answer self.old (usage_of_words words.now)).table) }
+        ensures reply { IfOk result (λ reply. reply ≡ (asked_answer self.old (usage_of_words words.now)).reply) }
     {
         match asked(words) {
             Some((usage, words)) => self.run(usage, words),
@@ -67,8 +68,8 @@ impl Arrays {
     }
 
     fn run(&mut self, usage: Usage, words: &[Text]) -> Result<Reply, NoMemory>
-        ensures table { OnOk result (self.new ≡ (run self.old usage words.now).table) }
-        ensures reply { IfOk result (λ reply. reply ≡ (run self.old usage words.now).reply) }
+        ensures table { OnOk result (self.new ≡ (usage_answer self.old usage words.now).table) }
+        ensures reply { IfOk result (λ reply. reply ≡ (usage_answer self.old usage words.now).reply) }
     {
         match (usage, words) {
             (Usage::Names, _) => {

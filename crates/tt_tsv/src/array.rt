@@ -2,7 +2,8 @@ ghost use Rattle.std.specs.Prelude.{◌≡◌, IfOk, OnOk, Some, bytes_eq};
 ghost use Rattle.std.specs.Map.{lookup};
 ghost use Rattle.std.specs.Option.{option_map};
 ghost use Rattle.tt_tsv.specs.Calls.{is_held_by_other};
-ghost use Rattle.tt_tsv.specs.Arrays.{added, emptied, held, is_held, is_held_by, let_go, new_array, with_element};
+ghost use Rattle.tt_tsv.specs.Arrays.{array_with_items, array_without_elements, array_with_hold, is_held, is_held_by};
+ghost use Rattle.tt_tsv.specs.Arrays.{array_without_hold, new_array, with_element};
 ghost use Rattle.tt_tsv.specs.Arrays.{with_elements, without_element};
 ghost use Rattle.tt_tsv.specs.Elements.{change_of};
 ghost use Rattle.tt_tsv.specs.inside.Changed.{elements_left};
@@ -59,7 +60,7 @@ impl Array {
 
     // One hold more.
     pub(crate) fn hold(&mut self, thread: u32) -> Result<(), NoMemory>
-        ensures { OnOk result (self.new ≡ held thread self.old) }
+        ensures { OnOk result (self.new ≡ array_with_hold thread self.old) }
     {
         self.depth = number_after(self.depth)?;
         self.holder = Some(thread);
@@ -68,7 +69,7 @@ impl Array {
 
     // One hold less.
     pub(crate) fn let_go(&mut self)
-        ensures { self.new ≡ let_go self.old }
+        ensures { self.new ≡ array_without_hold self.old }
     {
         if self.depth <= 1 {
             self.holder = None;
@@ -106,14 +107,14 @@ impl Array {
     }
 
     pub(crate) fn fill(&mut self, items: &[Text]) -> Result<(), NoMemory>
-        ensures { OnOk result (self.new ≡ added items.now self.old) }
+        ensures { OnOk result (self.new ≡ array_with_items items.now self.old) }
     {
         self.elements.fill(items)
     }
 
     // No elements any more.
     pub(crate) fn clear(&mut self, alloc: Global)
-        ensures { self.new ≡ emptied self.old }
+        ensures { self.new ≡ array_without_elements self.old }
     {
         self.elements = Elements::new(alloc);
     }

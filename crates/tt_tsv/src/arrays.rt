@@ -3,7 +3,9 @@ ghost use Rattle.std.specs.Map.{keys_of};
 ghost use Rattle.std.specs.Option.{option_copied, option_map};
 ghost use Rattle.indexmap.specs.IndexMap.{insert_entry};
 ghost use Rattle.tt_tsv.specs.Calls.{is_held_by_other, is_own, unsets, waits};
-ghost use Rattle.tt_tsv.specs.Arrays.{added, array_of, changed, element_of, emptied, held, is_held, let_go, with_array};
+ghost use Rattle.tt_tsv.specs.Arrays.{array_with_items, array_of, table_with_change, element_of};
+ghost use Rattle.tt_tsv.specs.Arrays.{array_without_elements, array_with_hold, is_held, array_without_hold};
+ghost use Rattle.tt_tsv.specs.Arrays.{with_array};
 ghost use Rattle.tt_tsv.specs.Arrays.{with_element, without_array, without_element};
 ghost use Rattle.tt_tsv.specs.Elements.{change_of};
 ghost use Rattle.tt_tsv.specs.inside.Changed.{table_left};
@@ -138,7 +140,7 @@ impl Arrays {
     }
 
     pub(crate) fn remove(&mut self, name: &Text, key: &Text)
-        ensures { self.new ≡ changed (without_element key.now) self.old name.now }
+        ensures { self.new ≡ table_with_change (without_element key.now) self.old name.now }
     {
         if let Some(array) = self.arrays.get_mut(name) {
             array.remove(key);
@@ -147,7 +149,7 @@ impl Arrays {
 
     // Puts in elements; a missing array is made.
     pub(crate) fn fill(&mut self, name: &Text, items: &[Text]) -> Result<(), NoMemory>
-        ensures { OnOk result (self.new ≡ with_array (added items.now) self.old name.now) }
+        ensures { OnOk result (self.new ≡ with_array (array_with_items items.now) self.old name.now) }
     {
         match self.arrays.get_mut(name) {
             Some(array) => array.fill(items),
@@ -188,7 +190,7 @@ impl Arrays {
 
     // No elements any more.
     pub(crate) fn clear(&mut self, name: &Text)
-        ensures { self.new ≡ changed emptied self.old name.now }
+        ensures { self.new ≡ table_with_change array_without_elements self.old name.now }
     {
         let alloc = self.alloc;
         if let Some(array) = self.arrays.get_mut(name) {
@@ -198,7 +200,7 @@ impl Arrays {
 
     // One hold more, which makes a missing array.
     pub(crate) fn hold(&mut self, thread: u32, name: &Text) -> Result<(), NoMemory>
-        ensures { OnOk result (self.new ≡ with_array (held thread) self.old name.now) }
+        ensures { OnOk result (self.new ≡ with_array (array_with_hold thread) self.old name.now) }
     {
         match self.arrays.get_mut(name) {
             Some(array) => { array.hold(thread) }
@@ -222,7 +224,7 @@ impl Arrays {
 
     // One hold less.
     pub(crate) fn let_go(&mut self, name: &Text)
-        ensures { self.new ≡ changed let_go self.old name.now }
+        ensures { self.new ≡ table_with_change array_without_hold self.old name.now }
     {
         if let Some(array) = self.arrays.get_mut(name) {
             array.let_go();

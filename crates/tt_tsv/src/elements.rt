@@ -3,7 +3,7 @@ ghost use Rattle.std.specs.Map.{keys_of, lookup, remove_entry};
 ghost use Rattle.std.specs.Option.{option_copied, option_map};
 ghost use Rattle.indexmap.specs.IndexMap.{insert_entry};
 ghost use Rattle.tt_tsv.specs.Calls.{pairs_like};
-ghost use Rattle.tt_tsv.specs.Arrays.{filled};
+ghost use Rattle.tt_tsv.specs.Arrays.{pairs_with_items};
 ghost use Rattle.tt_tsv.specs.Elements.{change_of};
 ghost use Rattle.tt_tsv.specs.inside.Changed.{elements_left};
 ghost use Rattle.tt_tsv.specs.inside.Pairs.{first_pair};
@@ -120,7 +120,7 @@ impl Elements {
     /// Puts in the elements of a list of keys and values.
     #[tactic(auto, using(crate::proofs::Filling::filled_more, crate::proofs::Filling::filled_all))]
     pub(crate) fn fill(&mut self, items: &[Text]) -> Result<(), NoMemory>
-        ensures { OnOk result (self.new ≡ filled self.old items.now) }
+        ensures { OnOk result (self.new ≡ pairs_with_items self.old items.now) }
     {
         let mut left = items;
         'pairs: while let Some((key, value, later)) = first_pair(left) {

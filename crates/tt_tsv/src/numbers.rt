@@ -5,7 +5,7 @@ ghost use Rattle.tt_number.specs.Messages.{number_message};
 ghost use Rattle.tt_number.specs.Numerals.{whole_of};
 ghost use Rattle.tt_number.specs.Operators.{binary_of};
 ghost use Rattle.tt_number.specs.declared.operators.NumOp.TheVariants.{Add};
-ghost use Rattle.tt_tsv.specs.Elements.{increments, incremented, stepped, sum_answer};
+ghost use Rattle.tt_tsv.specs.Elements.{increments, increment_of, sum_with_step, sum_answer};
 ghost use Rattle.tt_tsv.specs.Elements as table;
 ghost use Rattle.tt_tsv.specs.inside.Changed.{value_left};
 
@@ -34,7 +34,7 @@ pub(crate) fn increment(
 
 fn increment_by(alloc: Global, value: &mut Value, step: &[u8]) -> Result<Change, NoMemory>
     ensures change { IfOk result (λ change.
-        change ≡ table.puts (incremented value.old step.now (whole_of value.old))) }
+        change ≡ table.puts (increment_of value.old step.now (whole_of value.old))) }
     ensures value { IfOk result (λ change. value.new ≡ value_left change value.old) }
 {
     let answer = incremented(alloc, value, step)?;
@@ -42,7 +42,7 @@ fn increment_by(alloc: Global, value: &mut Value, step: &[u8]) -> Result<Change,
 }
 
 fn incremented(alloc: Global, value: &mut Value, step: &[u8]) -> Result<ListAnswer, NoMemory>
-    ensures answer { IfOk result (λ answer. answer ≡ incremented value.old step.now (whole_of value.old)) }
+    ensures answer { IfOk result (λ answer. answer ≡ increment_of value.old step.now (whole_of value.old)) }
     ensures same { value.new ≡ value.old }
 {
     match value.whole(alloc)? {
@@ -55,7 +55,7 @@ fn incremented(alloc: Global, value: &mut Value, step: &[u8]) -> Result<ListAnsw
 }
 
 fn stepped(alloc: Global, number: i64, step: &[u8]) -> Result<ListAnswer, NoMemory>
-    ensures { IfOk result (λ answer. answer ≡ stepped number step.now (whole_of step.now)) }
+    ensures { IfOk result (λ answer. answer ≡ sum_with_step number step.now (whole_of step.now)) }
 {
     match read_whole(step) {
         Ok(more) => sum(alloc, number, more),

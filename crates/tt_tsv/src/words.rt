@@ -100,7 +100,7 @@ fn first_fitting(usages: &[Usage], name: &[u8], words: &[Text]) -> Option<Usage>
 
 /// A command's usage and the words after its name; `None` if no command asks these words.
 pub(crate) fn asked(words: &[Text]) -> Option<(Usage, &[Text])>
-    ensures { option_map (λ asked. (asked.0, asked.1.now)) result ≡ table.asked_of words.now }
+    ensures { option_map (λ asked. (asked.0, asked.1.now)) result ≡ table.usage_of_words words.now }
 {
     let [name, words @ ..] = words else {
         return None;
@@ -124,7 +124,7 @@ fn asked_after_array(words: &[Text]) -> Option<(Usage, &[Text])>
 
 /// The array that a command is on.
 pub(crate) fn array_in(words: &[Text]) -> Option<&Text>
-    ensures { option_copied result ≡ table.array_in (table.asked_of words.now) }
+    ensures { option_copied result ≡ table.array_in (table.usage_of_words words.now) }
 {
     match asked(words)? {
         (Usage::Names, _) => None,

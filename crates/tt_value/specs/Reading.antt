@@ -24,9 +24,9 @@ abbrev pub count_of : (text : List ℕ) → Result ℕ ListFault
 count_of text = count_by (items_of text)
 
 -- an answer as the text that was made, or the message
-abbrev pub made_by : ListAnswer → Result (List ℕ) (List ℕ)
-made_by (Made text) = Ok text
-made_by (Refused message) = Err message
+abbrev pub text_or_message : ListAnswer → Result (List ℕ) (List ℕ)
+text_or_message (Made text) = Ok text
+text_or_message (Refused message) = Err message
 
 -- the answer that is so
 abbrev pub answer_of : Result (List ℕ) (List ℕ) → ListAnswer

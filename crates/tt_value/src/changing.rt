@@ -1,6 +1,6 @@
 //! Ways to change a value where it stands.
 ghost use Rattle.std.specs.Prelude.{◌≡◌, IfOk};
-ghost use Rattle.tt_value.specs.Growing.{appended, listed, value_after};
+ghost use Rattle.tt_value.specs.Growing.{text_with_texts, list_with_texts, value_after};
 
 use crate::{Made, Value};
 use std::alloc::Global;
@@ -28,7 +28,7 @@ pub struct Appending {
 }
 
 impl Changing for Appending {
-    ghost meaning = { λ appending text. appended appending.texts text };
+    ghost meaning = { λ appending text. text_with_texts appending.texts text };
 
     fn change(&self, alloc: Global, value: &mut Value) -> Result<Made, NoMemory> {
         value.append(alloc, self.texts.as_slice())?;
@@ -43,7 +43,7 @@ pub struct Lengthening {
 }
 
 impl Changing for Lengthening {
-    ghost meaning = { λ lengthening text. listed lengthening.items text };
+    ghost meaning = { λ lengthening text. list_with_texts lengthening.items text };
 
     fn change(&self, alloc: Global, value: &mut Value) -> Result<Made, NoMemory> {
         match value.push(alloc, self.items.as_slice())? {

@@ -4,7 +4,7 @@ ghost use Rattle.std.specs.Fmt.{signed_decimal};
 ghost use Rattle.std.specs.List.{flat_map};
 ghost use Rattle.tt_lists.specs.Reading.{split_of};
 ghost use Rattle.tt_number.specs.Numerals.{whole_of};
-ghost use Rattle.tt_value.specs.Growing.{listed};
+ghost use Rattle.tt_value.specs.Growing.{list_with_texts};
 ghost use Rattle.tt_value.specs.Reading.{items_of};
 ghost use Rattle.tt_value.specs.inside.KeptText.{text_of};
 ghost use Rattle.tt_value.specs.inside.Listed.{canonical};
@@ -235,7 +235,7 @@ pub(crate) fn push(
     items: &[Text],
 ) -> Result<Result<(), ListFault>, NoMemory>
     ensures pushed { IfOk result (λ pushed. OnOk pushed
-        (listed items.now (text_of kept.old) ≡ ListAnswer.Made (text_of kept.new))) }
+        (list_with_texts items.now (text_of kept.old) ≡ ListAnswer.Made (text_of kept.new))) }
     ensures fault { IfOk result (λ pushed. IfErr pushed (λ fault. split_of (text_of kept.old) ≡ Split.Bad fault)) }
     ensures stays { IfOk result (λ pushed. OnErr pushed (text_of kept.new ≡ text_of kept.old)) }
 {

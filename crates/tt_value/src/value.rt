@@ -7,9 +7,9 @@ ghost use Rattle.tt_lists.specs.Spelling.{list_of};
 ghost use Rattle.tt_number.specs.Numerals.{whole_of};
 ghost use Rattle.tt_pairs.specs.Pairs as entries;
 ghost use Rattle.tt_pairs.specs.Reading.{reading_of};
-ghost use Rattle.tt_value.specs.Growing.{listed};
+ghost use Rattle.tt_value.specs.Growing.{list_with_texts};
 ghost use Rattle.tt_value.specs.Dictionaries.{after};
-ghost use Rattle.tt_value.specs.Reading.{count_of, items_of, made_by};
+ghost use Rattle.tt_value.specs.Reading.{count_of, items_of, text_or_message};
 
 use crate::items::Items;
 use crate::kept::{self, Kept};
@@ -221,7 +221,7 @@ impl Value {
         first: &[u8],
         last: &[u8],
     ) -> Result<Result<Value, Text>, NoMemory>
-        ensures answer { IfOk result (λ answer. answer ≡ made_by (range_answer self.old first.now last.now)) }
+        ensures answer { IfOk result (λ answer. answer ≡ text_or_message (range_answer self.old first.now last.now)) }
         ensures same { self.new ≡ self.old }
     {
         let items = match self.items(alloc)? {
@@ -250,7 +250,8 @@ impl Value {
     ///
     /// `NoMemory` if memory is refused; then some of the items may be there.
     pub fn push(&mut self, alloc: Global, items: &[Text]) -> Result<Result<(), ListFault>, NoMemory>
-        ensures pushed { IfOk result (λ pushed. OnOk pushed (listed items.now self.old ≡ ListAnswer.Made self.new)) }
+        ensures pushed { IfOk result (λ pushed.
+            OnOk pushed (list_with_texts items.now self.old ≡ ListAnswer.Made self.new)) }
         ensures fault { IfOk result (λ pushed. IfErr pushed (λ fault. split_of self.old ≡ Split.Bad fault)) }
         ensures stays { IfOk result (λ pushed. OnErr pushed (self.new ≡ self.old)) }
     {

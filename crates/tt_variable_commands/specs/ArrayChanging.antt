@@ -4,7 +4,7 @@ use Rattle.std.specs.Prelude.{codes, is_some}
 use Rattle.tt_calls.specs.declared.outcome.Code.{Code}
 use Rattle.tt_calls.specs.declared.outcome.Code.TheVariants.{Failed}
 use Rattle.tt_calls.specs.declared.outcome.Outcome.{Outcome}
-use Rattle.tt_calls.specs.Outcomes.{failed, fine}
+use Rattle.tt_calls.specs.Outcomes.{error_outcome, fine}
 use Rattle.tt_lists.specs.declared.items.Split.{Split}
 use Rattle.tt_lists.specs.declared.items.Split.TheVariants as split
 use Rattle.tt_lists.specs.Messages.{list_message}
@@ -61,7 +61,7 @@ pub data SetsEach (name : Name) :
 -- an element has no elements
 abbrev pub none_set : Name → (items : List (List ℕ)) → Outcome
 none_set name [] = fine []
-none_set name (index ∷ items) = failed (cannot_set (full_name name (Some index)) NotArray)
+none_set name (index ∷ items) = error_outcome (cannot_set (full_name name (Some index)) NotArray)
 
 -- the elements of a list are set
 abbrev pub SetsPairs : (element : Bool) → Name → (items : List (List ℕ)) → Ending
@@ -86,9 +86,9 @@ SetsItems (split.Items items) name old outcome new = SetsIf (is_paired items) na
 SetsItems (split.Bad fault) name old outcome new = Fails (list_message fault) old outcome new
 
 -- array set
-abbrev pub set : Meaning
-set usage (name ∷ list ∷ []) old outcome new = SetsItems (split_of list) name old outcome new
-set usage words old outcome new = Refuses usage old outcome new
+abbrev pub array_set : Meaning
+array_set usage (name ∷ list ∷ []) old outcome new = SetsItems (split_of list) name old outcome new
+array_set usage words old outcome new = Refuses usage old outcome new
 
 -- ---- elements are removed ----
 
@@ -126,7 +126,7 @@ DropsLike pattern name old outcome new =
     × (outcome ≡ fine [])
 
 -- array unset
-abbrev pub unset : Meaning
-unset usage (name ∷ []) old outcome new = DropsWhole name old outcome new
-unset usage (name ∷ pattern ∷ []) old outcome new = DropsLike pattern name old outcome new
-unset usage words old outcome new = Refuses usage old outcome new
+abbrev pub array_unset : Meaning
+array_unset usage (name ∷ []) old outcome new = DropsWhole name old outcome new
+array_unset usage (name ∷ pattern ∷ []) old outcome new = DropsLike pattern name old outcome new
+array_unset usage words old outcome new = Refuses usage old outcome new

@@ -26,9 +26,9 @@ abbrev pub row_of : Subcommand → Row
 row_of subcommand.Exists = row (codes "exists") (codes "array exists a") reading.exists
 row_of subcommand.Get = row (codes "get") (codes "array get a ?pattern?") reading.get
 row_of subcommand.Names = row (codes "names") (codes "array names a ?pattern?") reading.names
-row_of subcommand.Set = row (codes "set") (codes "array set a list") changing.set
+row_of subcommand.Set = row (codes "set") (codes "array set a list") changing.array_set
 row_of subcommand.Size = row (codes "size") (codes "array size a") reading.size
-row_of subcommand.Unset = row (codes "unset") (codes "array unset a ?pattern?") changing.unset
+row_of subcommand.Unset = row (codes "unset") (codes "array unset a ?pattern?") changing.array_unset
 
 abbrev pub subcommands : List Subcommand
 subcommands =

@@ -18,7 +18,7 @@ is_levelled (word ∷ []) = false
 is_levelled (word ∷ next ∷ words) = begins_level word
 
 -- the level that stands first, else 1; and the words without it
-abbrev pub parted : (has_level : Bool) → (words : List (List ℕ)) → List ℕ × List (List ℕ)
-parted true (level ∷ words) = (level, words)
-parted true [] = (codes "1", [])
-parted false words = (codes "1", words)
+abbrev pub level_and_words : (has_level : Bool) → (words : List (List ℕ)) → List ℕ × List (List ℕ)
+level_and_words true (level ∷ words) = (level, words)
+level_and_words true [] = (codes "1", [])
+level_and_words false words = (codes "1", words)

@@ -11,7 +11,7 @@ use Rattle.tt_script.specs.Names.{global_of, plain_name}
 use Rattle.tt_store.specs.Scalars.{outcome_by}
 use Rattle.tt_variable_commands.specs.Counting.{IsFrame}
 use Rattle.tt_variable_commands.specs.LevelMessages.{bad_level, bad_name, in_use, to_itself}
-use Rattle.tt_variable_commands.specs.LevelWords.{is_odd, parted}
+use Rattle.tt_variable_commands.specs.LevelWords.{is_odd, level_and_words}
 use Rattle.tt_variable_commands.specs.Vocabulary.{is_element}
 
 -- ---- one link ----
@@ -104,7 +104,7 @@ LinksFrom (level, names) old outcome new =
 
 abbrev pub UpvarBy : (is_short : Bool) → Meaning
 UpvarBy true usage words old outcome new = Refuses usage old outcome new
-UpvarBy false usage words old outcome new = LinksFrom (parted (is_odd words) words) old outcome new
+UpvarBy false usage words old outcome new = LinksFrom (level_and_words (is_odd words) words) old outcome new
 
 abbrev pub upvar : Meaning
 upvar usage words old outcome new = UpvarBy (nat_lt (length words) 2) usage words old outcome new

@@ -1,7 +1,7 @@
 -- What info(n) reports of variables and levels.
 use Rattle.std.specs.Prelude.{◌≡◌, ℕ, Bool, List, [], ◌∷◌, bytes_eq, codes, decimal, Option, Some, None, if◌then◌else◌}
 use Rattle.tt_calls.specs.declared.outcome.Outcome.{Outcome}
-use Rattle.tt_calls.specs.Outcomes.{failed, fine}
+use Rattle.tt_calls.specs.Outcomes.{error_outcome, fine}
 use Rattle.tt_store.specs.declared.answers.Answer.{Answer}
 use Rattle.tt_store.specs.declared.answers.Answer.TheVariants as answers
 use Rattle.tt_store.specs.Commands.{Coming}
@@ -52,8 +52,8 @@ Tells (Some topic.Level) word words old answer new =
     × level words old outcome new
     × (answer ≡ answers.Outcome outcome)
 Tells (Some topic.Procs) word words old answer new = (answer ≡ answers.Other) × (new ≡ old)
-Tells None word words old answer new = (answer ≡ answers.Outcome (failed (bad_option word))) × (new ≡ old)
+Tells None word words old answer new = (answer ≡ answers.Outcome (error_outcome (bad_option word))) × (new ≡ old)
 
 abbrev pub info : Coming
-info usage [] old answer new = (answer ≡ answers.Outcome (failed (wrong_number usage))) × (new ≡ old)
+info usage [] old answer new = (answer ≡ answers.Outcome (error_outcome (wrong_number usage))) × (new ≡ old)
 info usage (word ∷ words) old answer new = Tells (topic_of word) word words old answer new

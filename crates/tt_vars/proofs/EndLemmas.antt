@@ -9,7 +9,7 @@ use Rattle.std.proofs.lemmas.Bool.{cases_eq}
 use Rattle.tt_vars.specs.declared.variable.Place.{Place}
 use Rattle.tt_vars.specs.declared.variable.Variable.{Variable}
 use Rattle.tt_vars.specs.declared.variable.Variable.TheVariants.{Scalar, Array, Link}
-use Rattle.tt_vars.specs.Variables.{Name, Frame, named, leads, is_set, with}
+use Rattle.tt_vars.specs.Variables.{Name, Frame, variable_named, leads, is_set, with}
 use Rattle.tt_vars.specs.inside.Ending.{rank, KeepsLinks, LeadsOn, LinksEnd, CanLink}
 use Rattle.tt_vars.specs.Links.{frame_at}
 use Rattle.tt_vars.proofs.FrameLemmas.{same_some, none_is_some}
@@ -17,11 +17,11 @@ use Rattle.tt_vars.proofs.LinkLemmas.{link_is_there, rank-with}
 use Rattle.tt_vars.proofs.FollowLemmas.{rank-within}
 
 -- a new name goes last
-rank-new : (es : Frame) (n : Name) (v : Variable) → named es n ≡ None → rank n (with es n v) ≡ length es
+rank-new : (es : Frame) (n : Name) (v : Variable) → variable_named es n ≡ None → rank n (with es n v) ≡ length es
 rank-new [] n v absent = ap (λ b. cond (not b) (1 + 0) 0) (nat_list_eq_equiv.refl n)
 rank-new (e ∷ es) n v absent = by (bytes_eq n e.0) refl absent (rank-new es n v)
   where
-    by : (b : Bool) → bytes_eq n e.0 ≡ b → cond b (Some e.1) (named es n) ≡ None → (named es n ≡ None → rank n (with es n v) ≡ length es)
+    by : (b : Bool) → bytes_eq n e.0 ≡ b → cond b (Some e.1) (variable_named es n) ≡ None → (variable_named es n ≡ None → rank n (with es n v) ≡ length es)
         → rank n (cond b ((e.0, v) ∷ es) (e ∷ with es n v)) ≡ suc (length es)
     by true eq absent rest = absurd (none_is_some (sym absent))
     by false eq absent rest =
@@ -37,15 +37,15 @@ link_or_missing (Some (Array elements)) h = absurd (true≢false h)
 link_or_missing (Some (Link to)) h = inr (to, refl)
 
 unset_local : (frames : List Frame) (frame : ℕ) (name : Name) (stands : Option Place) → CanLink frames frame name stands →
-    is_set (named (frame_at frames frame) name) ≡ false
+    is_set (variable_named (frame_at frames frame) name) ≡ false
 unset_local frames frame name None can = can
 unset_local frames frame name (Some to) can = can.0
 
 -- the links of a frame lead to a lower one, or in it to what is no link or stands after them
 abbrev OwnLinks : ℕ → Frame → Type 0
 OwnLinks i new =
-    (k : Name) (to : Place) → leads (named new k) ≡ Some (Some to) →
-    (to.frame ≤ i) × (to.frame ≡ i → (next : Option Place) → leads (named new to.name) ≡ Some next → rank k new < rank to.name new)
+    (k : Name) (to : Place) → leads (variable_named new k) ≡ Some (Some to) →
+    (to.frame ≤ i) × (to.frame ≡ i → (next : Option Place) → leads (variable_named new to.name) ≡ Some next → rank k new < rank to.name new)
 
 ends-set : (frames : List Frame) (i : ℕ) (new : Frame) → LinksEnd frames → OwnLinks i new → i < length frames → LinksEnd (slice_set frames i new)
 ends-set frames i new ends own lt frame k to h = by (cases_eq frame i)
@@ -58,18 +58,18 @@ ends-set frames i new ends own lt frame k to h = by (cases_eq frame i)
 
     by : (frame ≡ i) ⊎ (frame ≡ i → ⊥) → LeadsOn (slice_set frames i new) frame k to
     by (inl e) =
-        let mine = own k to (ap (λ f. leads (named f k)) (sym (here frame e)) ∙ h) in
+        let mine = own k to (ap (λ f. leads (variable_named f k)) (sym (here frame e)) ∙ h) in
         record {
           within = omega (arith, mine.0, e);
           later = λ s next g. subst (λ f. rank k f < rank to.name f) (sym (here frame e))
-              (mine.1 (s ∙ e) next (ap (λ f. leads (named f to.name)) (sym (here to.frame (s ∙ e))) ∙ g));
+              (mine.1 (s ∙ e) next (ap (λ f. leads (variable_named f to.name)) (sym (here to.frame (s ∙ e))) ∙ g));
         }
     by (inr apart) =
-        let leads_on = ends frame k to (ap (λ f. leads (named f k)) (sym (there frame apart)) ∙ h) in
+        let leads_on = ends frame k to (ap (λ f. leads (variable_named f k)) (sym (there frame apart)) ∙ h) in
         record {
           within = leads_on.within;
           later = λ s next g. subst (λ f. rank k f < rank to.name f) (sym (there frame apart))
-              (leads_on.later s next (ap (λ f. leads (named f to.name)) (sym (there to.frame (λ e. apart (sym s ∙ e)))) ∙ g));
+              (leads_on.later s next (ap (λ f. leads (variable_named f to.name)) (sym (there to.frame (λ e. apart (sym s ∙ e)))) ∙ g));
         }
 
 -- a change that keeps the links of a frame
@@ -77,28 +77,28 @@ pub ends-kept : (frames : List Frame) (i : ℕ) (before new : Frame) → LinksEn
     before ≡ frame_at frames i → LinksEnd (slice_set frames i new)
 ends-kept frames i before new ends lt keeps is =
     ends-set frames i new ends (λ k to h.
-    let was : (q : Name) (next : Option Place) → leads (named new q) ≡ Some next → leads (named (frame_at frames i) q) ≡ Some next =
-    λ q next g. ap (λ f. leads (named f q)) (sym is) ∙ (keeps q next g).0 in
+    let was : (q : Name) (next : Option Place) → leads (variable_named new q) ≡ Some next → leads (variable_named (frame_at frames i) q) ≡ Some next =
+    λ q next g. ap (λ f. leads (variable_named f q)) (sym is) ∙ (keeps q next g).0 in
     let leads_on = ends i k to (was k (Some to) h) in (
       leads_on.within,
       λ same next g.
-          let order = leads_on.later same next (ap (λ m. leads (named (frame_at frames m) to.name)) same ∙ was to.name next g) in
+          let order = leads_on.later same next (ap (λ m. leads (variable_named (frame_at frames m) to.name)) same ∙ was to.name next g) in
           (keeps k (Some to) h).1 to.name next g (subst (λ f. rank k f < rank to.name f) (sym is) order),
     )) lt
 
 module _ (frames : List Frame) (i : ℕ) (name : Name) (stands : Option Place) (new : Frame) (ends : LinksEnd frames) (can : CanLink frames i name stands)
-    (put : new ≡ with (frame_at frames i) name (Link stands)) (others : (q : Name) → named new q ≡ cond (bytes_eq name q) (Some (Link stands)) (named (frame_at frames i) q)) where
-  at_other : (q : Name) → bytes_eq name q ≡ false → named new q ≡ named (frame_at frames i) q
-  at_other q h = others q ∙ ap (λ b. cond b (Some (Link stands)) (named (frame_at frames i) q)) h
+    (put : new ≡ with (frame_at frames i) name (Link stands)) (others : (q : Name) → variable_named new q ≡ cond (bytes_eq name q) (Some (Link stands)) (variable_named (frame_at frames i) q)) where
+  at_other : (q : Name) → bytes_eq name q ≡ false → variable_named new q ≡ variable_named (frame_at frames i) q
+  at_other q h = others q ∙ ap (λ b. cond b (Some (Link stands)) (variable_named (frame_at frames i) q)) h
 
-  at_name : (q : Name) → bytes_eq name q ≡ true → named new q ≡ Some (Link stands)
-  at_name q h = others q ∙ ap (λ b. cond b (Some (Link stands)) (named (frame_at frames i) q)) h
+  at_name : (q : Name) → bytes_eq name q ≡ true → variable_named new q ≡ Some (Link stands)
+  at_name q h = others q ∙ ap (λ b. cond b (Some (Link stands)) (variable_named (frame_at frames i) q)) h
 
-  kept : (q : Name) → is_some (named (frame_at frames i) q) ≡ true → rank q new ≡ rank q (frame_at frames i)
+  kept : (q : Name) → is_some (variable_named (frame_at frames i) q) ≡ true → rank q new ≡ rank q (frame_at frames i)
   kept q there = ap (rank q) put ∙ rank-with (frame_at frames i) name (Link stands) q there
 
   Own : Name → Place → Type 0
-  Own k to = (to.frame ≤ i) × (to.frame ≡ i → (next : Option Place) → leads (named new to.name) ≡ Some next → rank k new < rank to.name new)
+  Own k to = (to.frame ≤ i) × (to.frame ≡ i → (next : Option Place) → leads (variable_named new to.name) ≡ Some next → rank k new < rank to.name new)
 
   -- the new link
   own-new : (k : Name) (to : Place) → CanLink frames i name (Some to) → Own k to
@@ -107,50 +107,50 @@ module _ (frames : List Frame) (i : ℕ) (name : Name) (stands : Option Place) (
     ok.1,
     λ same next g.
         let apart : bytes_eq name to.name ≡ false = sym (ap (λ b. b && bytes_eq name to.name) (ap (λ m. i == m) same ∙ nat_eq_equiv.refl i)) ∙ ok.3 in
-        let nothing : leads (named (frame_at frames i) to.name) ≡ None = ap (λ m. leads (named (frame_at frames m) to.name)) (sym same) ∙ ok.2 in
+        let nothing : leads (variable_named (frame_at frames i) to.name) ≡ None = ap (λ m. leads (variable_named (frame_at frames m) to.name)) (sym same) ∙ ok.2 in
         absurd (none_is_some (sym nothing ∙ ap leads (sym (at_other to.name apart)) ∙ g)),
   )
 
   -- a link that was there
-  own-old : (k : Name) (to : Place) → leads (named (frame_at frames i) k) ≡ Some (Some to) → Own k to
+  own-old : (k : Name) (to : Place) → leads (variable_named (frame_at frames i) k) ≡ Some (Some to) → Own k to
   unfolding Own
   own-old k to h =
       let leads_on = ends i k to h in
-      let there : is_some (named (frame_at frames i) k) ≡ true = link_is_there (named (frame_at frames i) k) (Some to) h in
+      let there : is_some (variable_named (frame_at frames i) k) ≡ true = link_is_there (variable_named (frame_at frames i) k) (Some to) h in
       (leads_on.within, λ same next g. by k to h there same next g (bytes_eq name to.name) refl)
     where
-      later : (k : Name) (to : Place) → leads (named (frame_at frames i) k) ≡ Some (Some to) → to.frame ≡ i → (next : Option Place) →
-          leads (named (frame_at frames i) to.name) ≡ Some next → rank k new < rank to.name new
+      later : (k : Name) (to : Place) → leads (variable_named (frame_at frames i) k) ≡ Some (Some to) → to.frame ≡ i → (next : Option Place) →
+          leads (variable_named (frame_at frames i) to.name) ≡ Some next → rank k new < rank to.name new
       later k to h same next g =
           let order : rank k (frame_at frames i) < rank to.name (frame_at frames i) =
-          (ends i k to h).later same next (ap (λ m. leads (named (frame_at frames m) to.name)) same ∙ g) in
+          (ends i k to h).later same next (ap (λ m. leads (variable_named (frame_at frames m) to.name)) same ∙ g) in
           omega (
             arith,
             order,
-            kept k (link_is_there (named (frame_at frames i) k) (Some to) h),
+            kept k (link_is_there (variable_named (frame_at frames i) k) (Some to) h),
             kept to.name
-                (link_is_there (named (frame_at frames i) to.name) next g),
+                (link_is_there (variable_named (frame_at frames i) to.name) next g),
           )
 
-      by : (k : Name) (to : Place) → leads (named (frame_at frames i) k) ≡ Some (Some to) → is_some (named (frame_at frames i) k) ≡ true → to.frame ≡ i →
-          (next : Option Place) → leads (named new to.name) ≡ Some next → (b : Bool) → bytes_eq name to.name ≡ b → rank k new < rank to.name new
+      by : (k : Name) (to : Place) → leads (variable_named (frame_at frames i) k) ≡ Some (Some to) → is_some (variable_named (frame_at frames i) k) ≡ true → to.frame ≡ i →
+          (next : Option Place) → leads (variable_named new to.name) ≡ Some next → (b : Bool) → bytes_eq name to.name ≡ b → rank k new < rank to.name new
       by k to h there same next g false e = later k to h same next (ap leads (sym (at_other to.name e)) ∙ g)
       by k to h there same next g true e =
           let is : name ≡ to.name = (bytes_decides name to.name).0 e in
-          elim (link_or_missing (named (frame_at frames i) to.name)
-          (ap (λ n. is_set (named (frame_at frames i) n)) (sym is) ∙ unset_local frames i name stands can)) [
+          elim (link_or_missing (variable_named (frame_at frames i) to.name)
+          (ap (λ n. is_set (variable_named (frame_at frames i) n)) (sym is) ∙ unset_local frames i name stands can)) [
             | inl absent ↦
                 let last : rank to.name new ≡ length (frame_at frames i) =
                 ap (λ n. rank n new) (sym is) ∙ ap (rank name) put
-                ∙ rank-new (frame_at frames i) name (Link stands) (ap (named (frame_at frames i)) is ∙ absent) in
+                ∙ rank-new (frame_at frames i) name (Link stands) (ap (variable_named (frame_at frames i)) is ∙ absent) in
                 omega (arith, last, kept k there, rank-within (frame_at frames i) k there)
             | inr link ↦ later k to h same link.0 link.1
           ]
 
-  own : (k : Name) (to : Place) → leads (named new k) ≡ Some (Some to) → Own k to
+  own : (k : Name) (to : Place) → leads (variable_named new k) ≡ Some (Some to) → Own k to
   own k to h = by k to h (bytes_eq name k) refl
     where
-      by : (k : Name) (to : Place) → leads (named new k) ≡ Some (Some to) → (b : Bool) → bytes_eq name k ≡ b → Own k to
+      by : (k : Name) (to : Place) → leads (variable_named new k) ≡ Some (Some to) → (b : Bool) → bytes_eq name k ≡ b → Own k to
       by k to h true e = own-new k to (subst (CanLink frames i name) (same_some (ap leads (sym (at_name k e)) ∙ h)) can)
       by k to h false e = own-old k to (ap leads (sym (at_other k e)) ∙ h)
 
@@ -161,10 +161,10 @@ module _ (frames : List Frame) (i : ℕ) (name : Name) (stands : Option Place) (
 -- a link was made, or memory was refused and nothing has changed
 pub ends-after : {X E : Type 0} (frames : List Frame) (i : ℕ) (name : Name) (stands : Option Place) (before new : Frame) (result : Result X E) →
     LinksEnd frames → CanLink frames i name stands → i < length frames →
-    OnOk result (new ≡ with before name (Link stands)) → OnOk result ((q : Name) → named new q ≡ cond (bytes_eq name q) (Some (Link stands)) (named before q)) →
+    OnOk result (new ≡ with before name (Link stands)) → OnOk result ((q : Name) → variable_named new q ≡ cond (bytes_eq name q) (Some (Link stands)) (variable_named before q)) →
     OnErr result (new ≡ before) → before ≡ frame_at frames i → LinksEnd (slice_set frames i new)
 ends-after frames i name stands before new (Ok x) ends can lt put others same is =
     ends-linked frames i name stands new ends can (put ∙ ap (λ f. with f name (Link stands)) is)
-    (λ q. others q ∙ ap (λ f. cond (bytes_eq name q) (Some (Link stands)) (named f q)) is) lt
+    (λ q. others q ∙ ap (λ f. cond (bytes_eq name q) (Some (Link stands)) (variable_named f q)) is) lt
 ends-after frames i name stands before new (Err e) ends can lt put others same is =
     subst LinksEnd (sym (ap (slice_set frames i) (same ∙ is) ∙ set-get_or frames i [])) ends

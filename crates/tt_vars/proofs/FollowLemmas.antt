@@ -4,7 +4,7 @@ use Rattle.std.proofs.Common.{◌∷◌, Option, Some, None, bytes_eq, length, r
 use Rattle.std.proofs.Common.{is_some}
 use Rattle.std.proofs.lemmas.Bool.{cases_lt}
 use Rattle.tt_vars.specs.declared.variable.Place.{Place}
-use Rattle.tt_vars.specs.Variables.{Name, Frame, named, leads}
+use Rattle.tt_vars.specs.Variables.{Name, Frame, variable_named, leads}
 use Rattle.tt_vars.specs.inside.Ending.{rank, LinksEnd}
 use Rattle.tt_vars.specs.Links.{frame_at, at, element_of, onward, StandsFor, linked}
 use Rattle.tt_vars.proofs.FrameLemmas.{same_some, none_is_some}
@@ -19,7 +19,7 @@ names_below (frame ∷ frames) (suc n) = length frame + names_below frames n
 -- how many names following a link may still reach
 pub left : List Frame → ℕ → Name → ℕ
 left frames frame name =
-    cond (is_some (leads (named (frame_at frames frame) name)))
+    cond (is_some (leads (variable_named (frame_at frames frame) name)))
     (names_below frames frame + (length (frame_at frames frame) - rank name (frame_at frames frame))) 0
 
 below-lower : (frames : List Frame) (m n : ℕ) → m < n → names_below frames m + length (frame_at frames m) ≤ names_below frames n
@@ -29,32 +29,32 @@ below-lower (frame ∷ frames) zero (suc n) lt = omega arith
 below-lower (frame ∷ frames) (suc m) (suc n) lt = let rest : names_below frames m + length (frame_at frames m) ≤ names_below frames n = below-lower frames m n (omega (arith, lt)) in omega (arith, rest)
 below-lower (frame ∷ frames) m zero lt = absurd (omega (arith, lt))
 
-pub rank-within : (es : Frame) (k : Name) → is_some (named es k) ≡ true → rank k es < length es
+pub rank-within : (es : Frame) (k : Name) → is_some (variable_named es k) ≡ true → rank k es < length es
 rank-within [] k there = absurd (true≢false (sym there))
 rank-within (e ∷ es) k there = by (bytes_eq k e.0) there (rank-within es k)
   where
-    by : (b : Bool) → is_some (cond b (Some e.1) (named es k)) ≡ true → (is_some (named es k) ≡ true → rank k es < length es) →
+    by : (b : Bool) → is_some (cond b (Some e.1) (variable_named es k)) ≡ true → (is_some (variable_named es k) ≡ true → rank k es < length es) →
         cond (not b) (1 + rank k es) 0 < suc (length es)
     by true there rest = omega arith
     by false there rest = let shorter : rank k es < length es = rest there in omega (arith, shorter)
 
-left-here : (frames : List Frame) (frame : ℕ) (name : Name) (to : Option Place) → leads (named (frame_at frames frame) name) ≡ Some to →
+left-here : (frames : List Frame) (frame : ℕ) (name : Name) (to : Option Place) → leads (variable_named (frame_at frames frame) name) ≡ Some to →
     left frames frame name ≡ names_below frames frame + (length (frame_at frames frame) - rank name (frame_at frames frame))
 unfolding left
 left-here frames frame name to h =
     ap (λ v. cond (is_some v) (names_below frames frame + (length (frame_at frames frame) - rank name (frame_at frames frame))) 0) h
 
-left-nothing : (frames : List Frame) (frame : ℕ) (name : Name) → leads (named (frame_at frames frame) name) ≡ None → left frames frame name ≡ 0
+left-nothing : (frames : List Frame) (frame : ℕ) (name : Name) → leads (variable_named (frame_at frames frame) name) ≡ None → left frames frame name ≡ 0
 unfolding left
 left-nothing frames frame name h =
     ap (λ v. cond (is_some v) (names_below frames frame + (length (frame_at frames frame) - rank name (frame_at frames frame))) 0) h
 
-module _ (frames : List Frame) (frame : ℕ) (name : Name) (to : Place) (ends : LinksEnd frames) (h : leads (named (frame_at frames frame) name) ≡ Some (Some to)) where
+module _ (frames : List Frame) (frame : ℕ) (name : Name) (to : Place) (ends : LinksEnd frames) (h : leads (variable_named (frame_at frames frame) name) ≡ Some (Some to)) where
   here : left frames frame name ≡ names_below frames frame + (length (frame_at frames frame) - rank name (frame_at frames frame))
   here = left-here frames frame name (Some to) h
 
   there : rank name (frame_at frames frame) < length (frame_at frames frame)
-  there = rank-within (frame_at frames frame) name (link_is_there (named (frame_at frames frame) name) (Some to) h)
+  there = rank-within (frame_at frames frame) name (link_is_there (variable_named (frame_at frames frame) name) (Some to) h)
 
   smaller-lower : to.frame < frame → (next : Option Place) → leads (at frames to) ≡ Some next → left frames to.frame to.name < left frames frame name
   smaller-lower lt next is = omega (arith, here, there, left-here frames to.frame to.name next is, below-lower frames to.frame frame lt)

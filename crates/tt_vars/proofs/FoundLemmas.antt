@@ -9,10 +9,10 @@ use Rattle.tt_vars.specs.declared.answers.VarFault.{VarFault}
 use Rattle.tt_vars.specs.declared.answers.VarFault.TheVariants.{NoSuchElement, IsArray}
 use Rattle.tt_vars.specs.declared.variable.Variable.{Variable}
 use Rattle.tt_vars.specs.declared.variable.Variable.TheVariants.{Scalar, Array, Link}
-use Rattle.tt_vars.specs.Variables.{Name, Frame, named, leads, read, with, without_element, removed, result_of, written}
+use Rattle.tt_vars.specs.Variables.{Name, Frame, variable_named, leads, reading_of, with, without_element, frame_after_removal, result_of, variable_after_write}
 use Rattle.tt_vars.specs.declared.variable.Found.{Found}
 use Rattle.tt_vars.specs.declared.variable.Place.{Place}
-use Rattle.tt_vars.specs.Links.{at, frame_at, with_frame, written_at}
+use Rattle.tt_vars.specs.Links.{at, frame_at, with_frame, frames_after_write}
 use Rattle.tt_vars.specs.inside.Found.{has_element, put_at, put_by, text_at, text_in, removed_in}
 
 err_is_ok : {X E : Type 0} {e : E} {x : X} → Err e ≡ Ok x → ⊥
@@ -40,7 +40,7 @@ no_link_found (Array elements) index is = refl
 no_link_found (Link to) index is = absurd (err_is_ok is)
 
 Faults : VarFault → Frame → Name → Variable → Option Name → VarFault → Type 0
-Faults missing frame n v index fault = (removed missing frame n (Some v) index ≡ Err fault) × (read missing (Some v) index ≡ Err fault)
+Faults missing frame n v index fault = (frame_after_removal missing frame n (Some v) index ≡ Err fault) × (reading_of missing (Some v) index ≡ Err fault)
 
 faults : (missing : VarFault) (frame : Frame) (n : Name) (v : Variable) (index : Option Name) (fault : VarFault) → has_element v index ≡ Err fault →
     Faults missing frame n v index fault
@@ -58,8 +58,8 @@ faults missing frame n (Array elements) (Some index) fault is = by (lookup (byte
 
 Finds : VarFault → Frame → Name → Variable → ℕ → Option Name → Type 0
 Finds missing frame n v i index =
-    (removed missing frame n (Some v) index ≡ Ok (removed_in frame i (Some v) index))
-    × (read missing (Some v) index ≡ ok_or (text_in (Some v) index) IsArray)
+    (frame_after_removal missing frame n (Some v) index ≡ Ok (removed_in frame i (Some v) index))
+    × (reading_of missing (Some v) index ≡ ok_or (text_in (Some v) index) IsArray)
 
 finds : (missing : VarFault) (frame : Frame) (n : Name) (v : Variable) (i : ℕ) (index : Option Name) →
     position (bytes_eq n) (keys_of frame) ≡ Some i → has_element v index ≡ Ok tt → Finds missing frame n v i index
@@ -82,7 +82,7 @@ none_at h = cc
 -- if a text is found, another is written in its stead
 puts : (frame : Frame) (n : Name) (v : Variable) (i : ℕ) (index : Option Name) (old text : List ℕ) →
     position (bytes_eq n) (keys_of frame) ≡ Some i → has_element v index ≡ Ok tt → text_in (Some v) index ≡ Some old →
-    result_of (with frame n) (written (Some v) index text) ≡ Ok (put_by frame i (Some v) index text)
+    result_of (with frame n) (variable_after_write (Some v) index text) ≡ Ok (put_by frame i (Some v) index text)
 puts frame n (Scalar was) i None old text p is there = ap Ok (put_place frame n i p (Scalar text))
 puts frame n (Array elements) i None old text p is there = absurd (none_at there)
 puts frame n (Scalar was) i (Some index) old text p is there = absurd (err_is_ok is)
@@ -90,34 +90,34 @@ puts frame n (Link to) i index old text p is there = absurd (err_is_ok is)
 puts frame n (Array elements) i (Some index) old text p is there =
     ap Ok (put_place frame n i p (Array (insert_entry bytes_eq elements index text)))
 
-module _ (missing : VarFault) (frame : Frame) (n : Name) (v : Variable) (index : Option Name) (named_is : named frame n ≡ Some v) where
-  pub find-fault : (fault : VarFault) → has_element v index ≡ Err fault → removed missing frame n (named frame n) index ≡ Err fault
+module _ (missing : VarFault) (frame : Frame) (n : Name) (v : Variable) (index : Option Name) (named_is : variable_named frame n ≡ Some v) where
+  pub find-fault : (fault : VarFault) → has_element v index ≡ Err fault → frame_after_removal missing frame n (variable_named frame n) index ≡ Err fault
   unfolding Faults
-  find-fault fault is = ap (λ s. removed missing frame n s index) named_is ∙ (faults missing frame n v index fault is).0
+  find-fault fault is = ap (λ s. frame_after_removal missing frame n s index) named_is ∙ (faults missing frame n v index fault is).0
 
-  pub find-no_text : (fault : VarFault) → has_element v index ≡ Err fault → read missing (named frame n) index ≡ Err fault
+  pub find-no_text : (fault : VarFault) → has_element v index ≡ Err fault → reading_of missing (variable_named frame n) index ≡ Err fault
   unfolding Faults
-  find-no_text fault is = ap (λ s. read missing s index) named_is ∙ (faults missing frame n v index fault is).1
+  find-no_text fault is = ap (λ s. reading_of missing s index) named_is ∙ (faults missing frame n v index fault is).1
 
   module _ (i : ℕ) (p : position (bytes_eq n) (keys_of frame) ≡ Some i) (is : has_element v index ≡ Ok tt) where
     there : Some v ≡ slice_get (values_of frame) i
     there = sym named_is ∙ at_place frame n i p
 
-    pub find-removed : removed missing frame n (named frame n) index ≡ Ok (removed_in frame i (slice_get (values_of frame) i) index)
+    pub find-removed : frame_after_removal missing frame n (variable_named frame n) index ≡ Ok (removed_in frame i (slice_get (values_of frame) i) index)
     unfolding Finds
-    find-removed = ap (λ s. removed missing frame n s index) named_is ∙ (finds missing frame n v i index p is).0 ∙ ap (λ s. Ok (removed_in frame i s index)) there
+    find-removed = ap (λ s. frame_after_removal missing frame n s index) named_is ∙ (finds missing frame n v i index p is).0 ∙ ap (λ s. Ok (removed_in frame i s index)) there
 
-    pub find-text : read missing (named frame n) index ≡ ok_or (text_in (slice_get (values_of frame) i) index) IsArray
+    pub find-text : reading_of missing (variable_named frame n) index ≡ ok_or (text_in (slice_get (values_of frame) i) index) IsArray
     unfolding Finds
-    find-text = ap (λ s. read missing s index) named_is ∙ (finds missing frame n v i index p is).1 ∙ ap (λ s. ok_or (text_in s index) IsArray) there
+    find-text = ap (λ s. reading_of missing s index) named_is ∙ (finds missing frame n v i index p is).1 ∙ ap (λ s. ok_or (text_in s index) IsArray) there
 
     pub find-no_link : leads (slice_get (values_of frame) i) ≡ None
     find-no_link = ap leads (sym there) ∙ no_link_found v index is
 
     pub find-written : (old text : List ℕ) → text_in (slice_get (values_of frame) i) index ≡ Some old
-        → result_of (with frame n) (written (named frame n) index text) ≡ Ok (put_by frame i (slice_get (values_of frame) i) index text)
+        → result_of (with frame n) (variable_after_write (variable_named frame n) index text) ≡ Ok (put_by frame i (slice_get (values_of frame) i) index text)
     find-written old text found =
-        ap (λ s. result_of (with frame n) (written s index text)) named_is
+        ap (λ s. result_of (with frame n) (variable_after_write s index text)) named_is
         ∙ puts frame n v i index old text p is (ap (λ s. text_in s index) there ∙ found)
         ∙ ap (λ s. Ok (put_by frame i s index text)) there
 
@@ -131,21 +131,21 @@ written-in frames place (Err fault) after is = absurd (err_is_ok is)
 pub found-written : (frames : List Frame) (stands : Option Place) (place : Place) (frame : Frame) (found : Found) →
     stands ≡ Some place → frame ≡ frame_at frames place.frame →
     ((old text : List ℕ) → text_at frame found ≡ Some old →
-    result_of (with frame place.name) (written (named frame place.name) place.index text) ≡ Ok (put_at frame found text)) →
+    result_of (with frame place.name) (variable_after_write (variable_named frame place.name) place.index text) ≡ Ok (put_at frame found text)) →
     (old text : List ℕ) → text_at (frame_at frames place.frame) found ≡ Some old →
-    written_at frames stands text ≡ Ok (with_frame frames place.frame (put_at (frame_at frames place.frame) found text))
+    frames_after_write frames stands text ≡ Ok (with_frame frames place.frame (put_at (frame_at frames place.frame) found text))
 found-written frames stands place frame found is here each old text there =
-    ap (λ s. written_at frames s text) is
-    ∙ written-in frames place (written (at frames place) place.index text) (put_at (frame_at frames place.frame) found text)
+    ap (λ s. frames_after_write frames s text) is
+    ∙ written-in frames place (variable_after_write (at frames place) place.index text) (put_at (frame_at frames place.frame) found text)
     (subst (λ f. (old text : List ℕ) → text_at f found ≡ Some old →
-    result_of (with f place.name) (written (named f place.name) place.index text) ≡ Ok (put_at f found text)) here each old text there)
+    result_of (with f place.name) (variable_after_write (variable_named f place.name) place.index text) ≡ Ok (put_at f found text)) here each old text there)
 
 -- what is written at a place with an index is written with a copy of the index
 pub written-copy : (frame : Frame) (n : Name) (index copy : Option Name) (place : ℕ) → copy ≡ index →
     ((old text : List ℕ) → text_in (slice_get (values_of frame) place) index ≡ Some old →
-    result_of (with frame n) (written (named frame n) index text) ≡ Ok (put_by frame place (slice_get (values_of frame) place) index text)) →
+    result_of (with frame n) (variable_after_write (variable_named frame n) index text) ≡ Ok (put_by frame place (slice_get (values_of frame) place) index text)) →
     (old text : List ℕ) → text_in (slice_get (values_of frame) place) copy ≡ Some old →
-    result_of (with frame n) (written (named frame n) index text) ≡ Ok (put_by frame place (slice_get (values_of frame) place) copy text)
+    result_of (with frame n) (variable_after_write (variable_named frame n) index text) ≡ Ok (put_by frame place (slice_get (values_of frame) place) copy text)
 written-copy frame n index copy place is each old text there =
     each old text (ap (text_in (slice_get (values_of frame) place)) (sym is) ∙ there)
     ∙ ap (λ e. Ok (put_by frame place (slice_get (values_of frame) place) e text)) (sym is)

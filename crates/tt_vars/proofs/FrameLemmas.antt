@@ -7,7 +7,7 @@ use Rattle.indexmap.specs.IndexMap.{set_value_at, insert_entry}
 use Rattle.tt_vars.specs.declared.answers.VarFault.{VarFault}
 use Rattle.tt_vars.specs.declared.answers.Written.{Written}
 use Rattle.tt_vars.specs.declared.variable.Variable.{Variable}
-use Rattle.tt_vars.specs.Variables.{Name, Frame, named, with, result_of, Puts}
+use Rattle.tt_vars.specs.Variables.{Name, Frame, variable_named, with, result_of, Puts}
 
 pub same_some : {A : Type 0} {x y : A} → Some x ≡ Some y → x ≡ y
 same_some {A} {x} e = ap (λ r. unwrap_or r x) e
@@ -37,14 +37,14 @@ set_value-insert {X} (e ∷ es) n v w at = by (bytes_eq n e.0) at (set_value-ins
     by true at rest = refl
     by false at rest = ap (λ l. e ∷ l) (rest at)
 
-with_same : (frame : Frame) (n : Name) (v : Variable) → named frame n ≡ Some v → with frame n v ≡ frame
+with_same : (frame : Frame) (n : Name) (v : Variable) → variable_named frame n ≡ Some v → with frame n v ≡ frame
 with_same frame n v at = sym (set_value-insert frame n v v at) ∙ set_value_same (bytes_eq n) frame v at
 
 -- what is written to a variable is written to its frame
 pub puts-through : (frame : Frame) (n : Name) (v w : Variable) (made : Result Variable VarFault) (answer : Written) →
-    named frame n ≡ Some v → Puts made v w answer → Puts (result_of (with frame n) made) frame (with frame n w) answer
+    variable_named frame n ≡ Some v → Puts made v w answer → Puts (result_of (with frame n) made) frame (with frame n w) answer
 puts-through frame n v w (Ok made) answer at h = (h.0, ap (with frame n) h.1)
 puts-through frame n v w (Err fault) answer at h = (h.0, ap (with frame n) h.1 ∙ with_same frame n v at)
 
-pub with_same_frame : (frame : Frame) (n : Name) (v w : Variable) → named frame n ≡ Some v → w ≡ v → with frame n w ≡ frame
+pub with_same_frame : (frame : Frame) (n : Name) (v w : Variable) → variable_named frame n ≡ Some v → w ≡ v → with frame n w ≡ frame
 with_same_frame frame n v w at is = ap (with frame n) is ∙ with_same frame n v at

@@ -2,7 +2,7 @@
 use Rattle.std.proofs.Common.{◌≡◌, ℕ, ◌≤◌, Bool, true, false, cond, ◌||◌, List, Option, Some, None, refl, ap, sym, subst, ◌∙◌, arith}
 use Rattle.tt_vars.specs.declared.answers.Linked.TheVariants as answers
 use Rattle.tt_vars.specs.declared.variable.Place.{Place}
-use Rattle.tt_vars.specs.Variables.{Name, Frame, named, leads, is_set}
+use Rattle.tt_vars.specs.Variables.{Name, Frame, variable_named, leads, is_set}
 use Rattle.tt_vars.specs.Links.{frame_at, at, place_of, element_of, onward, StandsFor, itself, nothing, linked, is_of, is_variable, link_answer}
 use Rattle.tt_vars.specs.inside.Ending.{LinksEnd, CanLink}
 use Rattle.tt_vars.proofs.FrameLemmas.{same_some, none_is_some}
@@ -71,8 +71,8 @@ module _ (frames : List Frame) where
   pub can-link : (frame : ℕ) (name : Name) (place : Place) (whole stands : Option Place) → LinksEnd frames → place.frame ≤ frame →
       StandsFor frames (place_of place.frame place.name None) whole → StandsFor frames place stands →
       link_answer frames frame name whole stands ≡ answers.Yes → CanLink frames frame name stands
-  can-link frame name place whole None ends lower w s agrees = (yes-means false (is_set (named (frame_at frames frame) name)) (is_of frame name whole) agrees).0
+  can-link frame name place whole None ends lower w s agrees = (yes-means false (is_set (variable_named (frame_at frames frame) name)) (is_of frame name whole) agrees).0
   can-link frame name place whole (Some t) ends lower w s agrees =
-      let free = yes-means (is_variable frame name (Some t)) (is_set (named (frame_at frames frame) name)) (is_of frame name whole) agrees in
+      let free = yes-means (is_variable frame name (Some t)) (is_set (variable_named (frame_at frames frame) name)) (is_of frame name whole) agrees in
       let element = stands-whole s in
       (free.0, omega (arith, stands-lower ends s, lower), stands-end s, ap (is_of frame name) (sym (stands-once w element.1)) ∙ free.1)

@@ -16,7 +16,8 @@ use Rattle.tt_vars.specs.declared.answers.Linked.TheVariants as answers
 use Rattle.tt_vars.specs.declared.variable.Place.{Place}
 use Rattle.tt_vars.specs.declared.variable.Variable.{Variable}
 use Rattle.tt_vars.specs.declared.variable.Variable.TheVariants.{Link}
-use Rattle.tt_vars.specs.Variables.{Name, Pairs, Frame, named, leads, elements_of, read, written, with, removed}
+use Rattle.tt_vars.specs.Variables.{Name, Pairs, Frame, variable_named, leads, elements_of, reading_of}
+use Rattle.tt_vars.specs.Variables.{variable_after_write, with, frame_after_removal}
 use Rattle.tt_vars.specs.Variables.{result_of, is_set, Puts}
 
 -- the frame with a number, from the global one, 0
@@ -29,7 +30,7 @@ place_of frame name index = record { frame = frame; name = name; index = index }
 
 -- what the name of a place is in its frame
 abbrev pub at : List Frame → Place → Option Variable
-at frames place = named (frame_at frames place.frame) place.name
+at frames place = variable_named (frame_at frames place.frame) place.name
 
 -- an element of a place; an element has none
 abbrev pub element_of : ℕ → Name → Option Name → Name → Option Place
@@ -64,26 +65,26 @@ missing None (Some element) = NoSuchElement
 missing (Some index) element = NoSuchVariable
 
 -- what reading a name answers, by what it stands for
-abbrev pub read_at : List Frame → Option Name → Option Place → Result (List ℕ) VarFault
-read_at frames index None = Err NotArray
-read_at frames index (Some place) = read (missing index place.index) (at frames place) place.index
+abbrev pub reading_at : List Frame → Option Name → Option Place → Result (List ℕ) VarFault
+reading_at frames index None = Err NotArray
+reading_at frames index (Some place) = reading_of (missing index place.index) (at frames place) place.index
 
 abbrev pub Reads : List Frame → Place → Result (List ℕ) VarFault → Type 0
 Reads frames place answer =
     (stands : Option Place)
     × StandsFor frames place stands
-    × (answer ≡ read_at frames place.index stands)
+    × (answer ≡ reading_at frames place.index stands)
 
 -- what the text that is read is read as in its turn, with the faults of reading
 abbrev pub ReadsAs : {X : Type 0} → (List ℕ → X) → List Frame → Place → Result X VarFault → Type 0
 ReadsAs meaning frames place answer =
     (stands : Option Place)
     × StandsFor frames place stands
-    × (answer ≡ result_of meaning (read_at frames place.index stands))
+    × (answer ≡ result_of meaning (reading_at frames place.index stands))
 
 -- a value that was lent, as its text
-abbrev pub lent : Result (Bor (List ℕ)) VarFault → Result (List ℕ) VarFault
-lent answer = result_map_both (λ value. value.now) (λ fault. fault) answer
+abbrev pub lent_text : Result (Bor (List ℕ)) VarFault → Result (List ℕ) VarFault
+lent_text answer = result_map_both (λ value. value.now) (λ fault. fault) answer
 
 -- the elements of a place, if it is an array
 abbrev pub array_at : Option Variable → Option Name → Option Pairs
@@ -115,17 +116,17 @@ abbrev pub with_frame : List Frame → ℕ → Frame → List Frame
 with_frame frames number frame = slice_set frames number frame
 
 -- the frames after a text was written to what a name stands for
-abbrev pub written_at : List Frame → Option Place → List ℕ → Result (List Frame) VarFault
-written_at frames None text = Err NotArray
-written_at frames (Some place) text =
+abbrev pub frames_after_write : List Frame → Option Place → List ℕ → Result (List Frame) VarFault
+frames_after_write frames None text = Err NotArray
+frames_after_write frames (Some place) text =
     result_of (λ variable. with_frame frames place.frame (with (frame_at frames place.frame) place.name variable))
-    (written (at frames place) place.index text)
+    (variable_after_write (at frames place) place.index text)
 
 abbrev pub Writes : List Frame → Place → List ℕ → List Frame → Written → Type 0
 Writes old place text new answer =
     (stands : Option Place)
     × StandsFor old place stands
-    × Puts (written_at old stands text) old new answer
+    × Puts (frames_after_write old stands text) old new answer
 
 -- the text that was made of what is read is written; if none was made nothing has changed
 abbrev pub Takes : Result ListAnswer VarFault → List Frame → Place → List Frame → Type 0
@@ -141,11 +142,12 @@ Changes change old place new answer =
     × Takes answer old place new
 
 -- the frames after what a name stands for was removed
-abbrev pub removed_of : List Frame → Option Name → Option Place → Result (List Frame) VarFault
-removed_of frames index None = Err NotArray
-removed_of frames index (Some place) =
+abbrev pub frames_after_removal : List Frame → Option Name → Option Place → Result (List Frame) VarFault
+frames_after_removal frames index None = Err NotArray
+frames_after_removal frames index (Some place) =
     result_of (with_frame frames place.frame)
-    (removed (missing index place.index) (frame_at frames place.frame) place.name (at frames place) place.index)
+    (frame_after_removal (missing index place.index) (frame_at frames place.frame) place.name
+    (at frames place) place.index)
 
 -- it was removed, or the fault is reported and nothing has changed
 abbrev pub Removed : {X : Type 0} →
@@ -157,7 +159,7 @@ abbrev pub Removes : {X : Type 0} → List Frame → Place → List Frame → Re
 Removes old place new answer =
     (stands : Option Place)
     × StandsFor old place stands
-    × Removed (removed_of old place.index stands) old new answer
+    × Removed (frames_after_removal old place.index stands) old new answer
 
 -- ---- linking ----
 
@@ -175,14 +177,14 @@ is_variable frame name (Some place) = (frame == place.frame) && bytes_eq name pl
 abbrev pub link_answer : List Frame → ℕ → Name → Option Place → Option Place → Linked
 link_answer frames frame name whole stands =
     cond (is_variable frame name stands) answers.Itself
-    (cond (is_set (named (frame_at frames frame) name) || is_of frame name whole) answers.Exists answers.Yes)
+    (cond (is_set (variable_named (frame_at frames frame) name) || is_of frame name whole) answers.Exists answers.Yes)
 
 -- the frames after a link
-abbrev pub linked_by : Linked → List Frame → ℕ → Name → Option Place → List Frame
-linked_by answers.Yes frames frame name stands =
+abbrev pub frames_after_link : Linked → List Frame → ℕ → Name → Option Place → List Frame
+frames_after_link answers.Yes frames frame name stands =
     with_frame frames frame (with (frame_at frames frame) name (Link stands))
-linked_by answers.Exists frames frame name stands = frames
-linked_by answers.Itself frames frame name stands = frames
+frames_after_link answers.Exists frames frame name stands = frames
+frames_after_link answers.Itself frames frame name stands = frames
 
 abbrev pub Links : List Frame → ℕ → Name → Place → List Frame → Linked → Type 0
 Links old frame name other new answer =
@@ -190,7 +192,7 @@ Links old frame name other new answer =
     × StandsFor old (place_of other.frame other.name None) whole
     × StandsFor old other stands
     × (answer ≡ link_answer old frame name whole stands)
-    × (new ≡ linked_by answer old frame name stands)
+    × (new ≡ frames_after_link answer old frame name stands)
 
 -- both stand for the same variable or element
 abbrev pub is_same : Option Place → Option Place → Bool

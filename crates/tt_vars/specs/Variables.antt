@@ -24,8 +24,8 @@ abbrev pub Frame : Type 0
 Frame = List (Name × Variable)
 
 -- what a name is
-abbrev pub named : Frame → Name → Option Variable
-named frame name = lookup (bytes_eq name) frame
+abbrev pub variable_named : Frame → Name → Option Variable
+variable_named frame name = lookup (bytes_eq name) frame
 
 -- where a link leads; None if the name is no link
 abbrev pub leads : Option Variable → Option (Option Place)
@@ -49,23 +49,23 @@ elements_of (Some (Array elements)) = Some elements
 elements_of (Some (Link to)) = None
 
 -- what reading answers; `missing` is the fault if there is no such name
-abbrev pub read : VarFault → Option Variable → Option Name → Result (List ℕ) VarFault
-read missing None index = Err missing
-read missing (Some (Scalar text)) None = Ok text
-read missing (Some (Scalar text)) (Some index) = Err NotArray
-read missing (Some (Array elements)) None = Err IsArray
-read missing (Some (Array elements)) (Some index) = ok_or (lookup (bytes_eq index) elements) NoSuchElement
-read missing (Some (Link to)) index = Err NotArray
+abbrev pub reading_of : VarFault → Option Variable → Option Name → Result (List ℕ) VarFault
+reading_of missing None index = Err missing
+reading_of missing (Some (Scalar text)) None = Ok text
+reading_of missing (Some (Scalar text)) (Some index) = Err NotArray
+reading_of missing (Some (Array elements)) None = Err IsArray
+reading_of missing (Some (Array elements)) (Some index) = ok_or (lookup (bytes_eq index) elements) NoSuchElement
+reading_of missing (Some (Link to)) index = Err NotArray
 
 -- what the name is after a text was written to it
-abbrev pub written : Option Variable → Option Name → List ℕ → Result Variable VarFault
-written None None text = Ok (Scalar text)
-written None (Some index) text = Ok (Array ((index, text) ∷ []))
-written (Some (Scalar old)) None text = Ok (Scalar text)
-written (Some (Scalar old)) (Some index) text = Err NotArray
-written (Some (Array elements)) None text = Err IsArray
-written (Some (Array elements)) (Some index) text = Ok (Array (insert_entry bytes_eq elements index text))
-written (Some (Link to)) index text = Err NotArray
+abbrev pub variable_after_write : Option Variable → Option Name → List ℕ → Result Variable VarFault
+variable_after_write None None text = Ok (Scalar text)
+variable_after_write None (Some index) text = Ok (Array ((index, text) ∷ []))
+variable_after_write (Some (Scalar old)) None text = Ok (Scalar text)
+variable_after_write (Some (Scalar old)) (Some index) text = Err NotArray
+variable_after_write (Some (Array elements)) None text = Err IsArray
+variable_after_write (Some (Array elements)) (Some index) text = Ok (Array (insert_entry bytes_eq elements index text))
+variable_after_write (Some (Link to)) index text = Err NotArray
 
 -- the frame, if the name is this variable: in its place, or last
 abbrev pub with : Frame → Name → Variable → Frame
@@ -82,14 +82,14 @@ without_element frame name elements index (Some text) =
     Ok (with frame name (Array (remove_entry (bytes_eq index) elements)))
 
 -- the frame after the name was removed
-abbrev pub removed : VarFault → Frame → Name → Option Variable → Option Name → Result Frame VarFault
-removed missing frame name None index = Err missing
-removed missing frame name (Some (Scalar text)) None = Ok (without frame name)
-removed missing frame name (Some (Scalar text)) (Some index) = Err NotArray
-removed missing frame name (Some (Array elements)) None = Ok (without frame name)
-removed missing frame name (Some (Array elements)) (Some index) =
+abbrev pub frame_after_removal : VarFault → Frame → Name → Option Variable → Option Name → Result Frame VarFault
+frame_after_removal missing frame name None index = Err missing
+frame_after_removal missing frame name (Some (Scalar text)) None = Ok (without frame name)
+frame_after_removal missing frame name (Some (Scalar text)) (Some index) = Err NotArray
+frame_after_removal missing frame name (Some (Array elements)) None = Ok (without frame name)
+frame_after_removal missing frame name (Some (Array elements)) (Some index) =
     without_element frame name elements index (lookup (bytes_eq index) elements)
-removed missing frame name (Some (Link to)) index = Err NotArray
+frame_after_removal missing frame name (Some (Link to)) index = Err NotArray
 
 -- a result with a change made to what is in it
 abbrev pub result_of : {X Y : Type 0} → (X → Y) → Result X VarFault → Result Y VarFault

@@ -4,7 +4,8 @@ ghost use Rattle.std.specs.Map.{keys_of, values_of};
 ghost use Rattle.std.specs.Option.{option_copied, option_map, ok_or};
 ghost use Rattle.tt_vars.specs.declared.answers.VarFault.TheVariants.{IsArray};
 ghost use Rattle.tt_vars.specs.declared.variable.Variable.TheVariants.{Link};
-ghost use Rattle.tt_vars.specs.Variables.{Name, named, is_set, leads, elements_of, read, written, with, removed};
+ghost use Rattle.tt_vars.specs.Variables.{Name, variable_named, is_set, leads, elements_of, reading_of};
+ghost use Rattle.tt_vars.specs.Variables.{variable_after_write, with, frame_after_removal};
 ghost use Rattle.tt_vars.specs.Variables.{result_of, Puts};
 ghost use Rattle.tt_vars.specs.inside.Found.{after_change, has_element, put_at, put_by, removed_at, removed_in};
 ghost use Rattle.tt_vars.specs.inside.Found.{text_at, text_in};
@@ -58,7 +59,7 @@ impl Frame {
 
     /// Where a link leads; None where the name is no link.
     pub(crate) fn link(&self, name: &Text) -> Option<&Option<Place>>
-        ensures link { option_copied result ≡ leads (named self.now name.now) }
+        ensures link { option_copied result ≡ leads (variable_named self.now name.now) }
     {
         match self.names.get(name)? {
             Variable::Link(to) => Some(to),
@@ -74,9 +75,9 @@ impl Frame {
         missing: VarFault,
     ) -> Result<&Value, VarFault>
         ensures value { IfOk result (λ value.
-            read missing (named self.now name.now) (option_copied index.entry) ≡ Ok value.now) }
+            reading_of missing (variable_named self.now name.now) (option_copied index.entry) ≡ Ok value.now) }
         ensures fault { IfErr result (λ fault.
-            read missing (named self.now name.now) (option_copied index.entry) ≡ Err fault) }
+            reading_of missing (variable_named self.now name.now) (option_copied index.entry) ≡ Err fault) }
     {
         match (self.names.get(name).ok_or(missing)?, index) {
             (Variable::Scalar(value), None) => Ok(value),
@@ -98,7 +99,8 @@ impl Frame {
         value: Value,
     ) -> Result<Written, NoMemory>
         ensures written { IfOk result (λ answer.
-            Puts (result_of (with self.old name) (written (named self.old name) index value)) self.old self.new
+            Puts (result_of (with self.old name)
+            (variable_after_write (variable_named self.old name) index value)) self.old self.new
             answer) }
         ensures unchanged { OnErr result (self.new ≡ self.old) }
         ensures links { KeepsLinks self.old self.new }
@@ -117,7 +119,8 @@ impl Frame {
     pub(crate) fn put_link(&mut self, name: Text, to: Option<Place>) -> Result<(), NoMemory>
         ensures put { OnOk result (self.new ≡ with self.old name (Link to)) }
         ensures named { OnOk result ((other : Name) →
-            named self.new other ≡ cond (bytes_eq name other) (Some (Link to)) (named self.old other)) }
+            variable_named self.new other
+            ≡ cond (bytes_eq name other) (Some (Link to)) (variable_named self.old other)) }
         ensures unchanged { OnErr result (self.new ≡ self.old) }
     {
         self.names.insert(name, Variable::Link(to))?;
@@ -135,20 +138,21 @@ impl Frame {
         missing: VarFault,
     ) -> Result<Result<Found, VarFault>, NoMemory>
         ensures removed { IfOk result (λ answer. IfOk answer (λ found.
-            removed missing self.now name.now (named self.now name.now) (option_copied index.entry)
+            frame_after_removal missing self.now name.now (variable_named self.now name.now) (option_copied index.entry)
             ≡ Ok (removed_at self.now found))) }
         ensures text { IfOk result (λ answer. IfOk answer (λ found.
-            read missing (named self.now name.now) (option_copied index.entry)
+            reading_of missing (variable_named self.now name.now) (option_copied index.entry)
             ≡ ok_or (text_at self.now found) IsArray)) }
         ensures written { IfOk result (λ answer. IfOk answer (λ found.
             (old text : List ℕ) → text_at self.now found ≡ Some old →
             result_of (with self.now name.now)
-            (written (named self.now name.now) (option_copied index.entry) text)
+            (variable_after_write (variable_named self.now name.now) (option_copied index.entry) text)
             ≡ Ok (put_at self.now found text))) }
         ensures fault { IfOk result (λ answer. IfErr answer (λ fault.
-            removed missing self.now name.now (named self.now name.now) (option_copied index.entry) ≡ Err fault)) }
+            frame_after_removal missing self.now name.now (variable_named self.now name.now)
+            (option_copied index.entry) ≡ Err fault)) }
         ensures no_text { IfOk result (λ answer. IfErr answer (λ fault.
-            read missing (named self.now name.now) (option_copied index.entry) ≡ Err fault)) }
+            reading_of missing (variable_named self.now name.now) (option_copied index.entry) ≡ Err fault)) }
     {
         let variable = match self.place(name, index, missing) {
             Ok(variable) => variable,
@@ -161,20 +165,21 @@ impl Frame {
     // Which variable it is.
     fn place(&self, name: &Text, index: Option<&Text>, missing: VarFault) -> Result<usize, VarFault>
         ensures removed { IfOk result (λ place.
-            removed missing self.now name.now (named self.now name.now) (option_copied index.entry)
+            frame_after_removal missing self.now name.now (variable_named self.now name.now) (option_copied index.entry)
             ≡ Ok (removed_in self.now place (slice_get (values_of self.now) place) (option_copied index.entry))) }
         ensures text { IfOk result (λ place.
-            read missing (named self.now name.now) (option_copied index.entry)
+            reading_of missing (variable_named self.now name.now) (option_copied index.entry)
             ≡ ok_or (text_in (slice_get (values_of self.now) place) (option_copied index.entry)) IsArray) }
         ensures written { IfOk result (λ place. (old text : List ℕ) →
             text_in (slice_get (values_of self.now) place) (option_copied index.entry) ≡ Some old →
             result_of (with self.now name.now)
-            (written (named self.now name.now) (option_copied index.entry) text)
+            (variable_after_write (variable_named self.now name.now) (option_copied index.entry) text)
             ≡ Ok (put_by self.now place (slice_get (values_of self.now) place) (option_copied index.entry) text)) }
         ensures fault { IfErr result (λ fault.
-            removed missing self.now name.now (named self.now name.now) (option_copied index.entry) ≡ Err fault) }
+            frame_after_removal missing self.now name.now (variable_named self.now name.now)
+            (option_copied index.entry) ≡ Err fault) }
         ensures no_text { IfErr result (λ fault.
-            read missing (named self.now name.now) (option_copied index.entry) ≡ Err fault) }
+            reading_of missing (variable_named self.now name.now) (option_copied index.entry) ≡ Err fault) }
     {
         let (place, named) = self.names.find(name).ok_or(missing)?;
         has_element(named, index)?;
@@ -254,7 +259,8 @@ impl Frame {
     ///
     /// `NoMemory` if memory for them is refused.
     pub(crate) fn names(&self, name: &Text) -> Result<Option<Texts>, NoMemory>
-        ensures names { IfOk result (λ names. names ≡ option_map keys_of (elements_of (named self.now name.now))) }
+        ensures names { IfOk result (λ names.
+            names ≡ option_map keys_of (elements_of (variable_named self.now name.now))) }
     {
         match self.names.get(name) {
             Some(Variable::Array(elements)) => {
@@ -267,7 +273,7 @@ impl Frame {
 
     /// Whether a name is a scalar or an array.
     pub(crate) fn is_set(&self, name: &Text) -> bool
-        ensures set { result ≡ is_set (named self.now name.now) }
+        ensures set { result ≡ is_set (variable_named self.now name.now) }
     {
         matches!(
             self.names.get(name),
@@ -277,7 +283,7 @@ impl Frame {
 
     /// How many elements an array has; None if the name is no array.
     pub(crate) fn size(&self, name: &Text) -> Option<usize>
-        ensures size { result ≡ option_map length (elements_of (named self.now name.now)) }
+        ensures size { result ≡ option_map length (elements_of (variable_named self.now name.now)) }
     {
         match self.names.get(name)? {
             Variable::Array(elements) => Some(elements.len()),

@@ -1,7 +1,7 @@
 ghost use Rattle.std.specs.Prelude.{◌≡◌, IfOk};
 ghost use Rattle.tt_lists.specs.Commands.{item_of, range_answer};
 ghost use Rattle.tt_number.specs.Numerals.{whole_of};
-ghost use Rattle.tt_value.specs.Reading.{count_of, items_of, made_by};
+ghost use Rattle.tt_value.specs.Reading.{count_of, items_of, text_or_message};
 
 use std::alloc::Global;
 use tt_lists::{ListAnswer, ListFault};
@@ -92,7 +92,7 @@ pub(crate) struct AsRange {
 impl Reading for AsRange {
     type Answer = Result<Value, Text>;
 
-    ghost meaning = { λ range text. made_by (range_answer text range.first range.last) };
+    ghost meaning = { λ range text. text_or_message (range_answer text range.first range.last) };
 
     fn read(&self, alloc: Global, value: &mut Value) -> Result<Self::Answer, NoMemory> {
         value.range(alloc, self.first.as_bytes(), self.last.as_bytes())

@@ -4,7 +4,7 @@ ghost use Rattle.std.specs.Prelude.{◌≡◌, ◌<◌, length, IfOk};
 ghost use Rattle.std.specs.Option.{option_copied};
 ghost use Rattle.tt_lists.specs.Commands.{item_of, range_answer};
 ghost use Rattle.tt_number.specs.Numerals.{whole_of};
-ghost use Rattle.tt_value.specs.Reading.{count_of, items_of, made_by};
+ghost use Rattle.tt_value.specs.Reading.{count_of, items_of, text_or_message};
 ghost use Rattle.tt_vars.specs.Links.{ReadsAs, place_of};
 
 use crate::reading::{AsCount, AsItem, AsItems, AsRange, AsWhole};
@@ -101,7 +101,7 @@ impl Vars {
     ) -> Result<Result<Result<Value, Text>, VarFault>, NoMemory>
         requires { frame < length self.old }
         ensures answer { IfOk result (λ answer.
-            ReadsAs (λ text. made_by (range_answer text first.now last.now)) self.old
+            ReadsAs (λ text. text_or_message (range_answer text first.now last.now)) self.old
             (place_of frame name.now (option_copied index.entry)) answer) }
         ensures same { self.new ≡ self.old }
     {

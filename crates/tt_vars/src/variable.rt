@@ -1,5 +1,5 @@
 ghost use Rattle.std.specs.Prelude.{◌≡◌, Some, None, Ok, IfOk, OnErr};
-ghost use Rattle.tt_vars.specs.Variables.{leads, written, Puts};
+ghost use Rattle.tt_vars.specs.Variables.{leads, variable_after_write, Puts};
 ghost use Rattle.tt_vars.specs.inside.Found.{after_change, put_in, text_in, without_at};
 ghost use Rattle.std.specs.Option.{option_copied, option_map};
 
@@ -42,7 +42,7 @@ pub(crate) fn first_written(
     index: Option<Text>,
     value: Value,
 ) -> Result<Variable, NoMemory>
-    ensures made { IfOk result (λ variable. written None index value ≡ Ok variable) }
+    ensures made { IfOk result (λ variable. variable_after_write None index value ≡ Ok variable) }
     ensures link { IfOk result (λ variable. leads (Some variable) ≡ None) }
 {
     match index {
@@ -63,7 +63,7 @@ pub(crate) fn write_to(
     value: Value,
 ) -> Result<Written, NoMemory>
     ensures written { IfOk result (λ answer.
-        Puts (written (Some variable.old) index value) variable.old variable.new answer) }
+        Puts (variable_after_write (Some variable.old) index value) variable.old variable.new answer) }
     ensures unchanged { OnErr result (variable.new ≡ variable.old) }
     ensures link { leads (Some variable.new) ≡ leads (Some variable.old) }
 {

@@ -4,7 +4,8 @@ ghost use Rattle.std.specs.Option.{option_copied, option_map};
 ghost use Rattle.tt_vars.specs.declared.variable.Variable.TheVariants.{Link};
 ghost use Rattle.tt_vars.specs.Variables.{with, Puts};
 ghost use Rattle.tt_vars.specs.Links.{AreSame, Changes, HasNames, HasSize, Links, Reads, ReadsAs, Removes, Writes};
-ghost use Rattle.tt_vars.specs.Links.{frame_at, lent, link_answer, place_of, read_at, with_frame, written_at};
+ghost use Rattle.tt_vars.specs.Links.{frame_at, lent_text, link_answer, place_of, reading_at, with_frame};
+ghost use Rattle.tt_vars.specs.Links.{frames_after_write};
 ghost use Rattle.tt_vars.specs.inside.Ending.{CanLink, LinksEnd};
 ghost use Rattle.tt_vars.specs.inside.Found.{FindsAt, IsFound, place_at};
 
@@ -91,7 +92,7 @@ impl Vars {
     /// The value of a name (set(n)).
     pub fn read(&self, frame: u64, name: &Text, index: Option<&Text>) -> Result<&Value, VarFault>
         requires { frame < length self.now }
-        ensures read { Reads self.now (place_of frame name.now (option_copied index.entry)) (lent result) }
+        ensures read { Reads self.now (place_of frame name.now (option_copied index.entry)) (lent_text result) }
     {
         let frames = self.frames.as_slice();
         let spot = follow(frames, Spot { frame, name, index });
@@ -344,7 +345,7 @@ fn read_spot<'a>(
     spot: Option<Spot<'_>>,
 ) -> Result<&'a Value, VarFault>
     requires { IfSome spot (λ spot. spot.frame < length frames.now) }
-    ensures { lent result ≡ read_at frames.now (option_copied index.entry) (option_map place_at spot.entry) }
+    ensures { lent_text result ≡ reading_at frames.now (option_copied index.entry) (option_map place_at spot.entry) }
 {
     let Some(spot) = spot else {
         return Err(VarFault::NotArray);
@@ -376,7 +377,7 @@ fn write_place(frames: &mut [Frame], place: Place, value: Value) -> Result<Writt
     requires there { place.frame < length frames.old }
     requires ends { LinksEnd frames.old }
     ensures written { IfOk result (λ answer.
-        Puts (written_at frames.old (Some place) value) frames.old frames.new answer) }
+        Puts (frames_after_write frames.old (Some place) value) frames.old frames.new answer) }
     ensures unchanged { OnErr result (frames.new ≡ frames.old) }
     ensures ends { LinksEnd frames.new }
 {

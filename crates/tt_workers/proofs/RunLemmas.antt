@@ -5,7 +5,7 @@ use Rattle.tt_core.proofs.ActionLemmas as actions
 use Rattle.tt_core.proofs.ActionLemmas.{some-none, told-map}
 use Rattle.tt_core.specs.Faithful.{IsFaithful, is_cut}
 use Rattle.tt_core.specs.inside.Standing.{IsAt}
-use Rattle.tt_run.specs.Desk.{Ground, unread}
+use Rattle.tt_run.specs.Desk.{Ground, input_left}
 use Rattle.tt_run.specs.declared.fault.StepFault.{StepFault}
 use Rattle.tt_devices.proofs.StreamLemmas.{Grows-same}
 use Rattle.tt_devices.specs.declared.sink.Sink.{Ghosts as OfSink}
@@ -107,7 +107,7 @@ module _ {S K E : Type 0} (source : OfSource S) (output : OfSink K) (errors : Of
               (output.got begun.devices.output) (output.got desk.devices.output) (errors.got begun.devices.errors)
               (errors.got desk.devices.errors) machine) tied.counted.kept standing.1.faithful);
           ends = rw (schedule, is)
-              (ends-of begun.steps desk.schedule desk.kept desk.shared (unread source.held desk.devices) end machine tied.counted.kept standing.1.at);
+              (ends-of begun.steps desk.schedule desk.kept desk.shared (input_left source.held desk.devices) end machine tied.counted.kept standing.1.at);
           left = rw devices.0 standing.1.input;
         });
   }

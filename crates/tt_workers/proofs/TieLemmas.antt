@@ -12,7 +12,7 @@ use Rattle.tt_core.proofs.PlaceLemmas.{each-at, each-none}
 use Rattle.tt_core.specs.inside.Crew.{AsksNothing}
 use Rattle.tt_core.specs.inside.Standing.{IsIts}
 use Rattle.tt_run.specs.Acting.{Happens, IsAnswer}
-use Rattle.tt_run.specs.Desk.{Ground, can_act, unread}
+use Rattle.tt_run.specs.Desk.{Ground, can_act, input_left}
 use Rattle.tt_run.specs.declared.desk.Acted.{Acted}
 use Rattle.tt_run.specs.declared.fault.StepFault.{StepFault}
 use Rattle.tt_run.specs.declared.fault.StepFault.TheVariants as fault
@@ -119,7 +119,7 @@ module _ {S K E : Type 0} where
 
   by-place : (held : S → Option (List ℕ)) (desk : Ground S K E) (notes : List (Note S K E)) (places : List Place) (pass number : ℕ)
       (machine : Machine) (found : Option Place)
-      → IsIts desk.shared (unread held desk.devices) machine → AreWhere notes places machine
+      → IsIts desk.shared (input_left held desk.devices) machine → AreWhere notes places machine
       → desk.kept ≡ None → noted_in (slice_get notes (pass - 1)) ≡ None
       → 1 ≤ number → slice_get places (number - 1) ≡ found
       → IsFalse (can_go_at desk number found) → IsFalse (is_elsewhere_at pass found)
@@ -146,7 +146,7 @@ module _ {S K E : Type 0} where
       quiet request serving (subst (λ (thread : Thread). IsNext machine.setup number thread.start thread.replies request serving) (sym same) asks.next))
 
   pub stuck : (held : S → Option (List ℕ)) (desk : Ground S K E) (notes : List (Note S K E)) (places : List Place) (pass : ℕ) (machine : Machine)
-      → IsIts desk.shared (unread held desk.devices) machine → AreWhere notes places machine
+      → IsIts desk.shared (input_left held desk.devices) machine → AreWhere notes places machine
       → desk.kept ≡ None → desk.shared.over ≡ None → noted_in (slice_get notes (pass - 1)) ≡ None
       → ((number : ℕ) → IsFalse (can_go_at desk number (at_number places number)))
       → ((number : ℕ) → IsFalse (is_elsewhere_at pass (at_number places number)))
@@ -332,7 +332,7 @@ module _ {S K E : Type 0} (source : OfSource S) (output : OfSink K) (errors : Of
   -- an end that is no fault is kept
   pub tied-stop : (begun : Beginning S K E) (desk : Ground S K E) (places : List Place) (end : RunEnd) (notes : List (Note S K E)) (i : ℕ) (out : Option Task)
       → end_fault end ≡ None
-      → ((machine : Machine) → IsIts desk.shared (unread source.held desk.devices) machine → AreWhere notes places machine
+      → ((machine : Machine) → IsIts desk.shared (input_left source.held desk.devices) machine → AreWhere notes places machine
       → IsEnd begun.steps desk.schedule end machine)
       → IsTied source output errors (record { begun = begun; desk = desk; places = places; end = None }) notes
       → IsTied source output errors (record { begun = begun; desk = desk; places = places; end = Some end })
@@ -443,7 +443,7 @@ module _ {S K E : Type 0} (source : OfSource S) (output : OfSink K) (errors : Of
       failed = actions.failed source.held output.got errors.got begun.setup begun.devices old new number request
           (serving_of interp.standing) (AreWhere notes places) result is asks was f.failed stood
 
-      at-line : result ≡ Err fault.ReadFault → (machine : Machine) → IsIts old.shared (unread source.held old.devices) machine
+      at-line : result ≡ Err fault.ReadFault → (machine : Machine) → IsIts old.shared (input_left source.held old.devices) machine
           → AreWhere notes places machine → IsAtLine machine
       at-line at machine its are =
           let can = able old number request (could-be old number request result fault.ReadFault f.failed.nothing_met f.failed.refused at (λ one. cc)) in

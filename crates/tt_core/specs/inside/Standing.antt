@@ -1,6 +1,6 @@
 -- Where a run stands: what ties its parts to the machine after its schedule.
 use Rattle.std.specs.Prelude.{◌≡◌, ⊤, ℕ, List, Option, Some, None, IfSome}
-use Rattle.tt_run.specs.Desk.{unread}
+use Rattle.tt_run.specs.Desk.{input_left}
 use Rattle.tt_run.specs.declared.fault.StepFault.{StepFault}
 use Rattle.tt_run.specs.declared.fault.StepFault.TheVariants as fault
 use Rattle.tt_machine.specs.Machine.{Machine, Runs, start_machine}
@@ -31,7 +31,7 @@ pub record Stands {S K E : Type 0}
     (stage : Stage S K E) (Where : Machine → Type 0) (begun machine : Machine) : Type 0 where
   pub setup : machine.setup ≡ stage.setup
   pub ran : Runs begun stage.desk.schedule machine
-  pub at : IsAt stage.desk.kept stage.desk.shared (unread held stage.desk.devices) Where machine
+  pub at : IsAt stage.desk.kept stage.desk.shared (input_left held stage.desk.devices) Where machine
   pub input : HoldsLastPart (held stage.desk.devices.input) machine.input
   pub faithful :
       IsFaithful (is_cut stage.desk.kept) begun stage.desk.schedule

@@ -4,7 +4,7 @@ use Rattle.tt_dict.specs.declared.edit.Step.{Step}
 use Rattle.tt_dict.specs.declared.edit.Step.TheVariants.{Stays, Puts, Removes}
 
 -- the pairs then
-abbrev pub stepped : Step → Pairs → Pairs
-stepped Stays pairs = pairs
-stepped (Puts key text) pairs = with_pair pairs key text
-stepped (Removes key) pairs = without_key pairs key
+abbrev pub after_step : Step → Pairs → Pairs
+after_step Stays pairs = pairs
+after_step (Puts key text) pairs = with_pair pairs key text
+after_step (Removes key) pairs = without_key pairs key

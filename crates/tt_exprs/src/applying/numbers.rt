@@ -1,6 +1,6 @@
 //! Operands that are whole numbers.
 ghost use Rattle.std.specs.Prelude.{◌≡◌, ◌<◌, length};
-ghost use Rattle.tt_exprs.specs.Apply.{extreme_of, on_one_of, on_two_of, picked, whole_operand, wholes};
+ghost use Rattle.tt_exprs.specs.Apply.{extreme_of, on_one_of, on_two_of, extreme_number, whole_operand, wholes};
 
 use super::refusal::Refusal;
 use crate::op::Op;
@@ -52,7 +52,7 @@ pub(super) fn extreme(op: Op, operands: &[Text]) -> Result<i64, Refusal>
 }
 
 pub(super) fn picked(op: Op, a: i64, b: i64) -> i64
-    ensures { result ≡ picked op a b }
+    ensures { result ≡ extreme_number op a b }
 {
     match op {
         Op::Min => a.min(b),

@@ -28,7 +28,7 @@ pub fn apply_to_numbers(op: Op, numbers: &[i64]) -> Result<i64, ArithFault>
 
 /// The greatest of these numbers, or for `Min` the least.
 fn extreme(op: Op, first: i64, later: &[i64]) -> i64
-    ensures { result ≡ fold (apply.picked op) first later.now }
+    ensures { result ≡ fold (apply.extreme_number op) first later.now }
 {
     let mut best = first;
     for number in later {

@@ -14,26 +14,26 @@ use Rattle.tt_format.specs.declared.fields.Part.TheVariants.{Prints, Refuses}
 use Rattle.tt_format.specs.declared.specifier.Specifier.{Specifier}
 
 -- a number, or the greatest of 64 bits if it is past that
-abbrev pub capped : ℕ → ℕ
-capped n = min n (2 ^ 64 - 1)
+abbrev pub at_most_greatest : ℕ → ℕ
+at_most_greatest n = min n (2 ^ 64 - 1)
 
 -- what was read is this specifier
 pub record IsRead (read : Specifier) (s : spec.Specifier) : Type 0 where
   pub flags : read.flags.now ≡ s.flags
-  pub width : read.width ≡ option_map capped s.width
-  pub most : read.most ≡ option_map capped s.most
+  pub width : read.width ≡ option_map at_most_greatest s.width
+  pub most : read.most ≡ option_map at_most_greatest s.most
   pub rest : read.rest.now ≡ s.rest
 
 -- what is asked for is a specifier's field of this width
 pub record IsAsked (asked : Asked) (s : spec.Specifier) (width : ℕ) : Type 0 where
   pub flags : asked.flags.now ≡ s.flags
-  pub most : asked.most ≡ option_map capped s.most
-  pub width_is : asked.width ≡ capped width
+  pub most : asked.most ≡ option_map at_most_greatest s.most
+  pub width_is : asked.width ≡ at_most_greatest width
 
 -- the bytes that a field prints
 pub record IsField (field : Field) (bytes : List ℕ) : Type 0 where
   pub width : ℕ
-  pub width_is : field.width ≡ capped width
+  pub width_is : field.width ≡ at_most_greatest width
   pub prints : bytes ≡ layout field.fill width field.sign.now field.body
 
 -- a part of the code is this piece

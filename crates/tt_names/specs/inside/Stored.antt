@@ -5,6 +5,6 @@ use Rattle.tt_names.specs.declared.storage.Storage.TheVariants.{Few, Many}
 use Rattle.tt_names.specs.Names.{Name}
 
 -- the names, with what stands under them
-abbrev pub stored : {V : Type 0} → Storage V → List (Name × V)
-stored (Few pairs) = pairs.items
-stored (Many map) = map.entries
+abbrev pub stored_pairs : {V : Type 0} → Storage V → List (Name × V)
+stored_pairs (Few pairs) = pairs.items
+stored_pairs (Many map) = map.entries

@@ -18,9 +18,9 @@ abbrev pub Sat : Type 0 → Type 0 → Type 0
 Sat S N = Me (Option S) (View S N)
 
 -- the slots that a pass's seat holds between two calls: the empty one, while its turn is out
-abbrev pub held_with : {S : Type 0} → Option S → List (ℕ × Option S)
-held_with None = []
-held_with (Some state) = (0, None) ∷ []
+abbrev pub held_slots : {S : Type 0} → Option S → List (ℕ × Option S)
+held_slots None = []
+held_slots (Some state) = (0, None) ∷ []
 
 module _ {S N : Type 0} where
   -- the view with these notes, which is the holder's if it has a turn

@@ -6,7 +6,7 @@ use Rattle.std.specs.Int.{w64}
 use Rattle.std.proofs.lemmas.Bool.{cases_Bool, both_ways, false_from_ne_true}
 use Rattle.tt_number.specs.Operators.{fits}
 use Rattle.tt_number.specs.Numerals.{IsSigned, IsSign, Spells, SpellsFloat, IsReading, ReadingLaw, trimmed}
-use Rattle.tt_number.specs.Numerals.{unsigned_part, is_minus_first, number_of, base_and_digits, is_float, cut, read_as}
+use Rattle.tt_number.specs.Numerals.{unsigned_part, is_minus_first, number_of, base_and_digits, is_float, signed_number, signed_reading}
 use Rattle.tt_number.specs.Numerals.{reading_of, whole_of, digit_sum}
 use Rattle.tt_number.specs.declared.numeral.NumberFault.{NumberFault}
 use Rattle.tt_number.specs.declared.numeral.NumberFault.TheVariants.{NotWhole, TooLarge, Float}
@@ -32,10 +32,10 @@ trims_to {sign} text unsigned first rest form s begins plain =
     go (b ∷ sign) p = trimmed_plain form.before b (sign ++ unsigned) form.after form.white_before p form.white_after
 
 read_signed : {sign : List ℕ} {signed : ℕ → ℤ} (unsigned : List ℕ) (first : ℕ) (rest : List ℕ) → IsSign sign signed → unsigned ≡ first ∷ rest →
-    is_sign_byte first ≡ false → reading_of (sign ++ unsigned) ≡ read_as (is_minus_first (sign ++ unsigned)) unsigned (number_of (base_and_digits unsigned))
+    is_sign_byte first ≡ false → reading_of (sign ++ unsigned) ≡ signed_reading (is_minus_first (sign ++ unsigned)) unsigned (number_of (base_and_digits unsigned))
 read_signed {sign} unsigned first rest s e h =
     let part : unsigned_part (sign ++ unsigned) ≡ unsigned = rw e (after_sign s first rest h) in
-    ap (λ t. read_as (is_minus_first (sign ++ unsigned)) t (number_of (base_and_digits t))) part
+    ap (λ t. signed_reading (is_minus_first (sign ++ unsigned)) t (number_of (base_and_digits t))) part
 
 reads_number : (text : List ℕ) (z : ℤ) → Spells text z → whole_of text ≡ bounded z
 unfolding whole_of
@@ -44,8 +44,8 @@ reads_number text z h =
     let number : number_of (base_and_digits h.unsigned) ≡ Some (digit_sum h.base h.digits) = ap number_of r.parts ∙ rw r.numeral refl in
     ap reading_of (trims_to text h.unsigned r.first r.rest h.form h.has_sign r.begins r.plain)
     ∙ read_signed h.unsigned r.first r.rest h.has_sign r.begins r.no_sign
-    ∙ ap (read_as (is_minus_first (h.sign ++ h.unsigned)) h.unsigned) number
-    ∙ ap (λ t. cut (is_minus_first (h.sign ++ t)) (digit_sum h.base h.digits)) r.begins
+    ∙ ap (signed_reading (is_minus_first (h.sign ++ h.unsigned)) h.unsigned) number
+    ∙ ap (λ t. signed_number (is_minus_first (h.sign ++ t)) (digit_sum h.base h.digits)) r.begins
     ∙ signed_cut h.has_sign r.first r.rest (digit_sum h.base h.digits) r.no_sign
     ∙ ap bounded (sym h.value)
 
@@ -55,7 +55,7 @@ reads_float text h =
     let r = read_float h.float in
     ap reading_of (trims_to text h.unsigned r.first r.rest h.form h.has_sign r.begins r.plain)
     ∙ read_signed h.unsigned r.first r.rest h.has_sign r.begins r.no_sign
-    ∙ ap (read_as (is_minus_first (h.sign ++ h.unsigned)) h.unsigned) r.none
+    ∙ ap (signed_reading (is_minus_first (h.sign ++ h.unsigned)) h.unsigned) r.none
     ∙ rw r.is refl
 
 -- ---- what is read is spelled so
@@ -77,7 +77,7 @@ form_of text sign e =
     }
 
 spells : (text : List ℕ) (n : ℕ) → number_of (base_and_digits (unsigned_part (trimmed text))) ≡ Some n → (z : ℤ) × Spells text z
-    × (cut (is_minus_first (trimmed text)) n ≡ bounded z)
+    × (signed_number (is_minus_first (trimmed text)) n ≡ bounded z)
 spells text n h =
     let s = sign_of (trimmed text) in
     let f = find_unsigned (unsigned_part (trimmed text)) n h in (
@@ -135,10 +135,10 @@ sound text = go (number_of (base_and_digits (unsigned_part (trimmed text)))) ref
     go : (o : Option ℕ) → number_of (base_and_digits (unsigned_part (trimmed text))) ≡ o → IsReading text (whole_of text)
     go (Some n) e =
         let s = spells text n e in
-        subst (IsReading text) (sym (ap (λ o. read_as (is_minus_first (trimmed text)) (unsigned_part (trimmed text)) o) e ∙ s.2))
+        subst (IsReading text) (sym (ap (λ o. signed_reading (is_minus_first (trimmed text)) (unsigned_part (trimmed text)) o) e ∙ s.2))
         (bounded_cases s.0 (IsReading text) (λ f. (s.1, f)) (λ f. (s.0, s.1, f)))
     go None e =
-        let none = ap (λ o. read_as (is_minus_first (trimmed text)) (unsigned_part (trimmed text)) o) e in
+        let none = ap (λ o. signed_reading (is_minus_first (trimmed text)) (unsigned_part (trimmed text)) o) e in
         elim (cases_Bool (is_float (unsigned_part (trimmed text)))) [
           | inl p ↦ (let float : whole_of text ≡ Err Float = none ∙ rw p refl in subst (IsReading text) (sym float) (spells_float text p))
           | inr p ↦ (let other : whole_of text ≡ Err NotWhole = none ∙ rw p refl in subst (IsReading text) (sym other) (no_reading text other))

@@ -5,7 +5,7 @@ use Rattle.std.specs.Int.{w64}
 use Rattle.std.specs.Int.RustNames.{FitsSigned}
 use Rattle.tt_number.specs.Operators.{fits}
 use Rattle.tt_number.proofs.Reading.Trimming.{is_plain}
-use Rattle.tt_number.specs.Numerals.{IsSign, is_minus_first, unsigned_part, cut}
+use Rattle.tt_number.specs.Numerals.{IsSign, is_minus_first, unsigned_part, signed_number}
 use Rattle.tt_number.specs.Numerals.IsSign.{none, plus, minus}
 use Rattle.tt_number.specs.declared.numeral.NumberFault.{NumberFault}
 use Rattle.tt_number.specs.declared.numeral.NumberFault.TheVariants.{TooLarge}
@@ -33,7 +33,7 @@ after_sign plus b rest h = refl
 after_sign minus b rest h = refl
 
 pub signed_cut : {sign : List ℕ} {signed : ℕ → ℤ} → IsSign sign signed → (b : ℕ) (rest : List ℕ) (n : ℕ) → is_sign_byte b ≡ false →
-    cut (is_minus_first (sign ++ (b ∷ rest))) n ≡ bounded (signed n)
+    signed_number (is_minus_first (sign ++ (b ∷ rest))) n ≡ bounded (signed n)
 signed_cut none b rest n h = rw ((or_parts (b == 43) (b == 45) h).1)
 signed_cut plus b rest n h = refl
 signed_cut minus b rest n h = refl
@@ -44,7 +44,7 @@ pub record HasSign (text : List ℕ) : Type 0 where
   pub signed : ℕ → ℤ
   pub has : IsSign sign signed
   pub spelled : text ≡ sign ++ unsigned_part text
-  pub cuts : (n : ℕ) → cut (is_minus_first text) n ≡ bounded (signed n)
+  pub cuts : (n : ℕ) → signed_number (is_minus_first text) n ≡ bounded (signed n)
 
 pub sign_of : (text : List ℕ) → HasSign text
 sign_of [] = record { sign = []; signed = pos; has = none; spelled = refl; cuts = λ n. refl }

@@ -2,7 +2,7 @@
 use Rattle.std.specs.Prelude.{◌≡◌, ℕ, List, [], ◌∷◌, drop, Result, Ok, Err}
 use Rattle.tt_script.specs.Words.{letters, PlainParts, more, with_letters}
 use Rattle.tt_script.specs.inside.Parsing.{Refuses}
-use Rattle.tt_script.specs.Reading.{after, mapped, takes, Level, parts}
+use Rattle.tt_script.specs.Reading.{after, map_read, takes, Level, parts}
 use Rattle.tt_script.specs.Plain.{plain_part, plain_parts}
 use Rattle.tt_script.specs.declared.command.Part.{Part}
 use Rattle.tt_script.specs.declared.command.Ending.{Ending}
@@ -28,7 +28,8 @@ apart (b ∷ bs) rest = more (letters (b ∷ bs)) rest
 abbrev pub Adds : Level → Ending → List ℕ → Builder → Builder → Result ℕ Stop → ℕ → Type 0
 Adds level ending text old new (Ok next) at =
     (add : PlainParts → PlainParts)
-    × (after at (parts level ending 0 (drop at text)) ≡ mapped add (after next (parts level ending 0 (drop next text))))
+    × (after at (parts level ending 0 (drop at text))
+    ≡ map_read add (after next (parts level ending 0 (drop next text))))
     × (old.mode ≡ Keep → (rest : PlainParts) → so_far new rest ≡ so_far old (add rest))
 Adds level ending text old new (Err stop) at = Refuses stop (after at (parts level ending 0 (drop at text)))
 

@@ -5,9 +5,9 @@ use Rattle.tt_threads.specs.declared.configure.Settings.{Settings}
 use Rattle.tt_threads.specs.declared.row.Row.{Row}
 
 -- the rows with other settings of the one at this place
-abbrev pub set_found : List Row → ℕ → Settings → Option Row → List Row
-set_found rows place now None = rows
-set_found rows place now (Some row) = slice_set rows place (put_settings row now)
+abbrev pub with_settings_found : List Row → ℕ → Settings → Option Row → List Row
+with_settings_found rows place now None = rows
+with_settings_found rows place now (Some row) = slice_set rows place (put_settings row now)
 
-abbrev pub set : List Row → ℕ → Settings → List Row
-set rows place now = set_found rows place now (slice_get rows place)
+abbrev pub with_settings : List Row → ℕ → Settings → List Row
+with_settings rows place now = with_settings_found rows place now (slice_get rows place)

@@ -3,7 +3,7 @@ use Rattle.std.specs.Prelude.{ℕ, List, Option, Some, None, bytes_eq}
 use Rattle.indexmap.specs.IndexMap.{insert_entry}
 use Rattle.tt_calls.specs.declared.reply.Reply.{Reply}
 use Rattle.tt_calls.specs.declared.reply.Reply.TheVariants.{Value}
-use Rattle.tt_tsv.specs.Arrays.{Pairs, Table, changed, with_array, with_element, without_element}
+use Rattle.tt_tsv.specs.Arrays.{Pairs, Table, table_with_change, with_array, with_element, without_element}
 use Rattle.tt_tsv.specs.Calls.{list_reply}
 use Rattle.tt_tsv.specs.declared.change.Change.{Change}
 use Rattle.tt_tsv.specs.declared.change.Change.TheVariants.{Kept, Put, Removed}
@@ -32,7 +32,7 @@ table_left table name key (Some (Removed answer)) = table
 abbrev pub table_ended : Table → (name key : List ℕ) → Change → Table
 table_ended table name key (Kept answer) = table
 table_ended table name key (Put value answer) = table
-table_ended table name key (Removed answer) = changed (without_element key) table name
+table_ended table name key (Removed answer) = table_with_change (without_element key) table name
 
 -- what is answered
 abbrev pub reply_of : Change → Reply

@@ -20,7 +20,7 @@ pub(crate) fn set(
     usage: &[u8],
     words: &[Text],
 ) -> Result<Outcome, NoMemory>
-    ensures { IfOk result (λ outcome. changing.set usage.now words.now store.old outcome store.new) }
+    ensures { IfOk result (λ outcome. changing.array_set usage.now words.now store.old outcome store.new) }
 {
     match words {
         [name, list] => set_list(alloc, store, name, list),

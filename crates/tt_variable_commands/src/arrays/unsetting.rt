@@ -16,7 +16,7 @@ pub(crate) fn unset(
     usage: &[u8],
     words: &[Text],
 ) -> Result<Outcome, NoMemory>
-    ensures { IfOk result (λ outcome. changing.unset usage.now words.now store.old outcome store.new) }
+    ensures { IfOk result (λ outcome. changing.array_unset usage.now words.now store.old outcome store.new) }
 {
     match words {
         [name] => unset_whole(alloc, store, name),

@@ -1,6 +1,6 @@
 //! The texts of errors.
 ghost use Rattle.std.specs.Prelude.{◌≡◌, IfOk};
-ghost use Rattle.tt_calls.specs.Outcomes.{failed};
+ghost use Rattle.tt_calls.specs.Outcomes.{error_outcome};
 ghost use Rattle.tt_variable_commands.specs.LevelMessages as messages;
 
 use std::alloc::Global;
@@ -9,7 +9,7 @@ use tt_text::{NoMemory, Text, quoting};
 
 /// That a word is no level, or that there is no such frame.
 pub(crate) fn bad_level(alloc: Global, word: &[u8]) -> Result<Outcome, NoMemory>
-    ensures { IfOk result (λ outcome. outcome ≡ failed (messages.bad_level word.now)) }
+    ensures { IfOk result (λ outcome. outcome ≡ error_outcome (messages.bad_level word.now)) }
 {
     let message = quoting(alloc, b"bad level \"", word, b"\"")?;
     let outcome = Outcome::failed(message)?;

@@ -32,8 +32,8 @@ fn begins_level(word: &[u8]) -> bool
 
 /// The level that stands first, else `1`; and the words without it.
 pub(crate) fn parted(has_level: bool, words: &[Text]) -> (&[u8], &[Text])
-    ensures level { result.0.now ≡ (given.parted has_level words.now).0 }
-    ensures rest { result.1.now ≡ (given.parted has_level words.now).1 }
+    ensures level { result.0.now ≡ (given.level_and_words has_level words.now).0 }
+    ensures rest { result.1.now ≡ (given.level_and_words has_level words.now).1 }
 {
     match words {
         [level, rest @ ..] if has_level => (level.as_bytes(), rest),

@@ -3,7 +3,7 @@ use Rattle.std.specs.Prelude.{◌≡◌, ℕ, ◌<◌, ◌≤◌, false, List, O
 use Rattle.std.specs.List.{position_or_len}
 use Rattle.std.specs.Map.{keys_of}
 use Rattle.tt_vars.specs.declared.variable.Place.{Place}
-use Rattle.tt_vars.specs.Variables.{Name, Frame, named, leads, is_set}
+use Rattle.tt_vars.specs.Variables.{Name, Frame, variable_named, leads, is_set}
 use Rattle.tt_vars.specs.Links.{frame_at, at, is_of}
 
 -- how many names stand before this one
@@ -14,10 +14,10 @@ rank name frame = position_or_len (bytes_eq name) (keys_of frame)
 abbrev pub KeepsLinks : Frame → Frame → Type 0
 KeepsLinks old new =
     (name : Name) (to : Option Place) →
-    leads (named new name) ≡ Some to →
-    (leads (named old name) ≡ Some to)
+    leads (variable_named new name) ≡ Some to →
+    (leads (variable_named old name) ≡ Some to)
     × ((other : Name) (next : Option Place) →
-    leads (named new other) ≡ Some next →
+    leads (variable_named new other) ≡ Some next →
     rank name old < rank other old →
     rank name new < rank other new)
 
@@ -33,14 +33,14 @@ pub record LeadsOn (frames : List Frame) (frame : ℕ) (name : Name) (to : Place
 abbrev pub LinksEnd : List Frame → Type 0
 LinksEnd frames =
     (frame : ℕ) (name : Name) (to : Place) →
-    leads (named (frame_at frames frame) name) ≡ Some (Some to) →
+    leads (variable_named (frame_at frames frame) name) ≡ Some (Some to) →
     LeadsOn frames frame name to
 
 -- a name that is no scalar and no array may lead to what is no link, in no higher frame, and not to itself
 abbrev pub CanLink : List Frame → ℕ → Name → Option Place → Type 0
-CanLink frames frame name None = is_set (named (frame_at frames frame) name) ≡ false
+CanLink frames frame name None = is_set (variable_named (frame_at frames frame) name) ≡ false
 CanLink frames frame name (Some to) =
-    (is_set (named (frame_at frames frame) name) ≡ false)
+    (is_set (variable_named (frame_at frames frame) name) ≡ false)
     × (to.frame ≤ frame)
     × (leads (at frames to) ≡ None)
     × (is_of frame name (Some to) ≡ false)

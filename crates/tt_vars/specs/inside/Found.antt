@@ -14,7 +14,8 @@ use Rattle.tt_vars.specs.declared.variable.Place.{Place}
 use Rattle.tt_vars.specs.declared.variable.Variable.{Variable}
 use Rattle.tt_vars.specs.declared.variable.Variable.TheVariants.{Scalar, Array, Link}
 use Rattle.tt_vars.specs.Variables.{Name, Frame, result_of}
-use Rattle.tt_vars.specs.Links.{StandsFor, frame_at, place_of, read_at, removed_of, with_frame, written_at}
+use Rattle.tt_vars.specs.Links.{StandsFor, frame_at, place_of, reading_at, frames_after_removal, with_frame}
+use Rattle.tt_vars.specs.Links.{frames_after_write}
 
 -- whether a variable has what an index names
 abbrev pub has_element : Variable → Option Name → Result Unit VarFault
@@ -81,15 +82,17 @@ place_at spot = place_of spot.frame spot.name.now (option_copied spot.index)
 -- what was found for a name: what is removed by it, what is read, and where a text is written in its stead
 abbrev pub IsFound : List Frame → Option Name → Option Place → Result (ℕ × Found) VarFault → Type 0
 IsFound frames index stands (Err fault) =
-    (removed_of frames index stands ≡ Err fault)
-    × (read_at frames index stands ≡ Err fault)
+    (frames_after_removal frames index stands ≡ Err fault)
+    × (reading_at frames index stands ≡ Err fault)
 IsFound frames index stands (Ok found) =
     (found.0 < length frames)
-    × (removed_of frames index stands ≡ Ok (with_frame frames found.0 (removed_at (frame_at frames found.0) found.1)))
-    × (read_at frames index stands ≡ ok_or (text_at (frame_at frames found.0) found.1) IsArray)
+    × (frames_after_removal frames index stands
+    ≡ Ok (with_frame frames found.0 (removed_at (frame_at frames found.0) found.1)))
+    × (reading_at frames index stands ≡ ok_or (text_at (frame_at frames found.0) found.1) IsArray)
     × ((old text : List ℕ) →
     text_at (frame_at frames found.0) found.1 ≡ Some old →
-    written_at frames stands text ≡ Ok (with_frame frames found.0 (put_at (frame_at frames found.0) found.1 text)))
+    frames_after_write frames stands text
+    ≡ Ok (with_frame frames found.0 (put_at (frame_at frames found.0) found.1 text)))
 
 -- it was found after the links
 abbrev pub FindsAt : List Frame → Place → Result (ℕ × Found) VarFault → Type 0

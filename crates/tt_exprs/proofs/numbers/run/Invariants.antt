@@ -1,11 +1,11 @@
 use Rattle.std.proofs.Common.{◌≡◌, ◌+◌, length}
-use Rattle.tt_exprs.specs.Tokens.{run}
+use Rattle.tt_exprs.specs.Tokens.{digit_count}
 use Rattle.tt_exprs.proofs.numbers.run.Given as goal
 
 abbrev pub invariant-loop-rest : goal.invariant-loop-rest
 invariant-loop-rest l = record {
   within : l.n + length l.rest ≡ length l.text;
-  count : l.n + run l.base l.rest ≡ run l.base l.text;
+  count : l.n + digit_count l.base l.rest ≡ digit_count l.base l.text;
 }
 
 abbrev pub decreases-loop-rest : goal.decreases-loop-rest

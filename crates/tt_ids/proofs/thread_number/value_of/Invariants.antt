@@ -1,8 +1,8 @@
 use Rattle.std.proofs.Common.{◌≡◌, true, drop}
 use Rattle.std.specs.Str.{all_ascii_digits}
-use Rattle.tt_ids.specs.Digits.{read_on}
+use Rattle.tt_ids.specs.Digits.{number_after}
 use Rattle.tt_ids.proofs.thread_number.value_of.Given as goal
 
 abbrev pub invariant-loop-digit : goal.invariant-loop-digit
 invariant-loop-digit l =
-    (read_on l.value (drop l.digit-index l.digits) ≡ read_on 0 l.digits) × (all_ascii_digits (drop l.digit-index l.digits) ≡ true)
+    (number_after l.value (drop l.digit-index l.digits) ≡ number_after 0 l.digits) × (all_ascii_digits (drop l.digit-index l.digits) ≡ true)

@@ -1,6 +1,6 @@
 use Rattle.std.proofs.Common.{◌≡◌, ◌∙◌, arith, ◌-◌, sym, ap, length-drop, drop, take, ◌++◌, ◌+◌, length}
 use Rattle.std.specs.List.{prefix_len}
-use Rattle.tt_lists.specs.Reading.{is_plain, run, stops}
+use Rattle.tt_lists.specs.Reading.{is_plain, front_run, stops}
 use Rattle.tt_lists.proofs.Runs.{escape_read, plain_read, rest_whole, plain_some, backslash_le, joined}
 use Rattle.tt_lists.proofs.run.read_run.Goals as goal
 
@@ -30,7 +30,7 @@ loop-at-preserved c =
     let read = plain_read (stops c.args.stop) text c.loop-at.value at n plain in
     record {
       within = omega (arith, c.plain_length.ensures.within, ap length rest, length-drop at text);
-      run = c.loop-at.invariant.run ∙ read ∙ ap (λ value. joined value (at + n) (run (stops c.args.stop) 0 (drop (at + n) text))) (sym pushed);
+      run = c.loop-at.invariant.run ∙ read ∙ ap (λ value. joined value (at + n) (front_run (stops c.args.stop) 0 (drop (at + n) text))) (sym pushed);
     }
 
 pub loop-at-smaller : goal.loop-at-smaller

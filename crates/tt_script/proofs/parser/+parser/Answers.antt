@@ -7,7 +7,7 @@ use Rattle.tt_script.specs.inside.Building.{so_far}
 use Rattle.tt_script.specs.Plain.{plain_part, plain_parts, plain_words}
 use Rattle.tt_script.specs.declared.command.Part.TheVariants.{Script}
 use Rattle.tt_script.specs.inside.Scanning.{ends_run}
-use Rattle.tt_script.specs.Reading.{takes, after, mapped, level, letters_of}
+use Rattle.tt_script.specs.Reading.{takes, after, map_read, level, letters_of}
 use Rattle.tt_script.proofs.Builds.{plain_letters, plain_variable, plain_element, plain_script}
 use Rattle.tt_script.proofs.Keeping.{mapped-itself, gathered-word}
 use Rattle.tt_script.proofs.Scanning.{run-within}
@@ -109,17 +109,17 @@ push_more-returns-in_err-end-clause-read t c =
 pub push_parts-returns-clause-read : goal.push_parts-returns-clause-read
 push_parts-returns-clause-read t c =
     let reached = c.loop-at.invariant.read in
-    (reached.0 none, reached.1 ∙ ap (mapped reached.0) (c.in_ok-must_end.ensures.ok (level c.args.depth)), λ keep. c.in_ok-finish.ensures ∙ reached.2 keep none)
+    (reached.0 none, reached.1 ∙ ap (map_read reached.0) (c.in_ok-must_end.ensures.ok (level c.args.depth)), λ keep. c.in_ok-finish.ensures ∙ reached.2 keep none)
 
 pub push_parts-returns-in_err-must_end-clause-read : goal.push_parts-returns-in_err-must_end-clause-read
 push_parts-returns-in_err-must_end-clause-read t c =
     ends_exit (level c.args.depth) c.args.ending c.args.text.now c.args.builder.now c.loop-at.builder c.from_residual-in_err-must_end.result _ _ c.from_residual-in_err-must_end.ensures.1
-    (refuses_by _ _ _ (λ fault e. c.loop-at.invariant.read.1 ∙ ap (mapped c.loop-at.invariant.read.0) e) (c.in_err-must_end.ensures.fault (level c.args.depth)))
+    (refuses_by _ _ _ (λ fault e. c.loop-at.invariant.read.1 ∙ ap (map_read c.loop-at.invariant.read.0) e) (c.in_err-must_end.ensures.fault (level c.args.depth)))
 
 pub push_parts-returns-in_err-at-clause-read : goal.push_parts-returns-in_err-at-clause-read
 push_parts-returns-in_err-at-clause-read t c =
     ends_exit (level c.args.depth) c.args.ending c.args.text.now c.args.builder.now c.push_part.new.builder c.from_residual.result _ _ c.from_residual.ensures.1
-    (refuses_by _ _ _ (λ fault e. c.loop-at.invariant.read.1 ∙ ap (mapped c.loop-at.invariant.read.0) e) c.in_err-at.ensures.read)
+    (refuses_by _ _ _ (λ fault e. c.loop-at.invariant.read.1 ∙ ap (map_read c.loop-at.invariant.read.0) e) c.in_err-at.ensures.read)
 
 pub push_part-slice_bounds-push_letters-end-in_default : goal.push_part-slice_bounds-push_letters-end-in_default
 push_part-slice_bounds-push_letters-end-in_default t c =
@@ -270,7 +270,7 @@ word-returns-in_err-parts-clause-read t c =
     (refuses_by _ _ _
     (λ fault e. word_at c.args.place c.args.text.now c.args.from c.after_expansion-start.result (level c.args.depth) c.expands-expand.result
     (sym c.expands-expand.ensures) c.after_expansion-start.ensures.expands c.after_expansion-start.ensures.plain
-    ∙ ap (mapped (made c.expands-expand.result)) e) c.in_err-parts.ensures.read)
+    ∙ ap (map_read (made c.expands-expand.result)) e) c.in_err-parts.ensures.read)
 
 pub word-returns-clause-read : goal.word-returns-clause-read
 word-returns-clause-read t c =
@@ -279,7 +279,7 @@ word-returns-clause-read t c =
       word_at c.args.place c.args.text.now c.args.from c.after_expansion-start.result
           (level c.args.depth) c.expands-expand.result
           (sym c.expands-expand.ensures) c.after_expansion-start.ensures.expands c.after_expansion-start.ensures.plain
-          ∙ ap (mapped (made c.expands-expand.result)) read.1,
+          ∙ ap (map_read (made c.expands-expand.result)) read.1,
       λ keep. ap (made c.expands-expand.result) (read.2 keep),
     )
 
@@ -383,7 +383,7 @@ script_parts-returns-clause-read t c =
       with_part (script read.0) ended.0,
       more_script_at (level c.args.depth) c.args.place c.args.text.now c.args.from c.requires.bracket read.0 c.in_ok-inside.close read.1
           (omega (arith, c.in_ok-inside.ensures.within))
-          ∙ ap (mapped (with_part (script read.0))) ended.1,
+          ∙ ap (map_read (with_part (script read.0))) ended.1,
       λ keep. ended.2 (c.in_ok-push.ensures.mode ∙ keeps ∙ keep) ∙ c.in_ok-push.ensures.added (keeps ∙ keep) ended.0
           ∙ c.new-builder.ensures.parts (with_part (plain_part (Script c.in_ok-inside.inside)) ended.0)
           ∙ ap (λ p. with_part p ended.0) (plain_script c.in_ok-inside.inside ∙ ap script (read.2 keep)),
@@ -402,7 +402,7 @@ script_parts-returns-in_err-end-clause-read t c =
     (refuses_by _ _ _ (λ fault e.
     more_script_at (level c.args.depth) c.args.place c.args.text.now c.args.from c.requires.bracket read.0 c.in_ok-inside.close read.1
     (omega (arith, c.in_ok-inside.ensures.within))
-    ∙ ap (mapped (with_part (script read.0))) e) c.in_err-end.ensures.read)
+    ∙ ap (map_read (with_part (script read.0))) e) c.in_err-end.ensures.read)
 
 pub variable-returns-then-begins-clause-read : goal.variable-returns-then-begins-clause-read
 variable-returns-then-begins-clause-read t c =
@@ -430,7 +430,7 @@ words-next_word-preserved t c =
       read = (
         λ rest. gathered.0 (read.0 ∷ rest),
         gathered.1
-            ∙ ap (mapped gathered.0)
+            ∙ ap (map_read gathered.0)
             (words_at-more c.args.place
             (level c.args.depth) text c.next_word.at c.next_word.invariant.within read.0 c.in_ok-word.end next read.1 c.gap_end-at.ensures.place c.in_ok-word.ensures.within.0 unended)
             ∙ mapped-mapped gathered.0 (λ rest. read.0 ∷ rest) _,
@@ -444,7 +444,7 @@ words-returns-in_err-word-clause-read t c =
     answers_exit _ _ c.from_residual-in_err-word.result _ _ c.from_residual-in_err-word.ensures.1
     (refuses_by _ _ _
     (λ fault e. c.next_word.invariant.read.1
-    ∙ ap (mapped c.next_word.invariant.read.0)
+    ∙ ap (map_read c.next_word.invariant.read.0)
     (words_at-fault c.args.place (level c.args.depth) c.args.text.now c.next_word.at c.next_word.invariant.within fault e)) c.in_err-word.ensures.read)
 
 pub words-returns-then-ends_command-clause-read : goal.words-returns-then-ends_command-clause-read
@@ -453,7 +453,7 @@ words-returns-then-ends_command-clause-read t c =
     let gathered = c.next_word.invariant.read in (
       gathered.0 (read.0 ∷ []),
       gathered.1
-          ∙ ap (mapped gathered.0)
+          ∙ ap (map_read gathered.0)
           (words_at-last c.args.place
           (level c.args.depth) c.args.text.now c.next_word.at c.next_word.invariant.within read.0 c.in_ok-word.end c.gap_end-at.result read.1 c.gap_end-at.ensures.place (sym c.ends_command.ensures ∙ c.if-ends_command.true)),
       λ keep. sym (append-nil _) ∙ gathered-word c.next_word.words.items _ c.in_ok-word.word read.0 [] (c.in_ok-push_word.ensures keep) (read.2 keep)
@@ -486,7 +486,7 @@ push_parts-loop-at-preserved t c =
       mode = c.in_ok-at.ensures.mode ∙ c.loop-at.invariant.mode;
       read = (
         λ rest. reached.0 (step.0 rest),
-        reached.1 ∙ ap (mapped reached.0) step.1 ∙ mapped-mapped reached.0 step.0 _,
+        reached.1 ∙ ap (map_read reached.0) step.1 ∙ mapped-mapped reached.0 step.0 _,
         λ keep rest. step.2 (c.loop-at.invariant.mode ∙ keep) rest ∙ reached.2 keep (step.0 rest),
       );
     }

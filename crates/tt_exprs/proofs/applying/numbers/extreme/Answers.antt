@@ -1,6 +1,6 @@
 use Rattle.std.proofs.Common.{arith, length, drop, take, ◌+◌, ◌-◌, ◌≡◌, ◌∙◌, sym, ap, rules, Err, to_z, of_z, w64}
 use Rattle.std.proofs.lemmas.Int.{ints, to_z-of_z}
-use Rattle.tt_exprs.specs.Apply.{picked, wholes}
+use Rattle.tt_exprs.specs.Apply.{extreme_number, wholes}
 use Rattle.tt_exprs.proofs.Extremes.{one_more, one_refused, first_whole, with_best}
 use Rattle.tt_exprs.proofs.applying.numbers.extreme.Goals as goal
 
@@ -23,7 +23,7 @@ loop-operand-preserved c =
     let e = one_more c.args.op later c.loop-operand.operand-index (to_z w64 c.loop-operand.best-bits) c.in_ok-whole.field-0 c.operand-item.result
     (omega arith) c.operand-item.is (sym c.whole-in-loop-operand.ensures ∙ c.in_ok-whole.was) in
     let p : to_z w64 (of_z w64 c.picked-best.result) ≡ c.picked-best.result = search (arith, ints, to_z-of_z) in
-    let q : c.picked-best.result ≡ picked c.args.op (to_z w64 c.loop-operand.best-bits) c.in_ok-whole.field-0 = search rules in
+    let q : c.picked-best.result ≡ extreme_number c.args.op (to_z w64 c.loop-operand.best-bits) c.in_ok-whole.field-0 = search rules in
     let i : with_best c.args.op (to_z w64 c.loop-operand.best-bits) (wholes c.args.op (drop c.loop-operand.operand-index later)) ≡ with_best c.args.op
     (to_z w64 (of_z w64 c.in_ok-best.best)) (wholes c.args.op later) = c.loop-operand.invariant in
     ap (λ b. with_best c.args.op b (wholes c.args.op (drop (c.loop-operand.operand-index + 1) later))) (p ∙ q) ∙ (sym e ∙ i)

@@ -1,6 +1,6 @@
 use Rattle.std.proofs.Common.{rules, ◌++◌, ap, ◌∙◌}
 use Rattle.std.specs.Option.{option_to_list}
-use Rattle.tt_noted.specs.inside.Rule.{held_with}
+use Rattle.tt_noted.specs.inside.Rule.{held_slots}
 use Rattle.tt_noted.proofs.Keeps.{join_keeps}
 use Rattle.tt_noted.proofs.Gathering.{begins, next_pass, continues}
 use Rattle.tt_noted.proofs.noted.Noted.gather.Goals as goal
@@ -15,7 +15,7 @@ join_seat-requires g c = let so = c.loop-pass.invariant in let p = c.in-Some.pas
       so.of_table,
       next.0.0,
       p.held
-          ∙ ap held_with next.1,
+          ∙ ap held_slots next.1,
       search rules,
       join_keeps g.T.Tie.fits _ _ c.loop-pass.seat.me.0 _ p.seat.me.0 so.some.0 so.some.1 so.no_turn next.1,
     )
