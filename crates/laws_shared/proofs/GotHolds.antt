@@ -88,14 +88,14 @@ module _ (new : LockTable) where
   by_posted n t [] = nothing
   by_posted n t (target ∷ targets) = All-cons (IsHeld new) _ _ tt (by_posted (suc n) t targets)
 
-  by_began : (told : Reply) → All (IsHeld new) (begin_happenings told)
-  by_began (reply.Event (event.Script n script answer plain)) = one _ tt
-  by_began told = nothing
+  by_began : (t : ℕ) (told : Reply) → All (IsHeld new) (begin_happenings t told)
+  by_began t (reply.Event (event.Script n script answer plain)) = one _ tt
+  by_began t told = nothing
 
-  by_got : (n : ℕ) (told : Reply) → All (IsHeld new) (got n told)
-  by_got n reply.Died = one _ tt
-  by_got n (reply.Answer outcome) = one _ tt
-  by_got n told = nothing
+  by_got : (t n : ℕ) (told : Reply) → All (IsHeld new) (got t n told)
+  by_got t n reply.Died = one _ tt
+  by_got t n (reply.Answer outcome) = one _ tt
+  by_got t n told = nothing
 
   by_set : (rows : List Row) (n : ℕ) (value : List ℕ) (post : Option VariablePost) → All (IsHeld new) (variable_happenings rows n value post)
   by_set rows n value None = nothing
@@ -145,11 +145,11 @@ by_table : (old new : State) (t : ℕ) (request : Request) (told : Reply) → Al
 by_table old new t (ask.Send text script mode variable head) told = by_sent new.locks t (linked_thread old.rows text) (recipient_of mode variable) head told
 by_table old new t (ask.Report trace plain) told = by_reported new.locks old t (procedure_in_use old plain old.error_procedure)
 by_table old new t (ask.Broadcast script) told = by_posted new.locks old.posts.next t (others old t)
-by_table old new t ask.Take told = by_began new.locks told
-by_table old new t ask.TakeReady told = by_began new.locks told
-by_table old new t (ask.Pool call) told = by_began new.locks told
+by_table old new t ask.Take told = by_began new.locks t told
+by_table old new t ask.TakeReady told = by_began new.locks t told
+by_table old new t (ask.Pool call) told = by_began new.locks t told
 by_table old new t (ask.Deliver n outcome) told = by_delivered new.locks old n outcome told
-by_table old new t (ask.Await n) told = by_got new.locks n told
+by_table old new t (ask.Await n) told = by_got new.locks t n told
 by_table old new t (ask.Lock call) told = by_locks new.locks old.locks t (lock_named call)
 by_table old new t (ask.End code) told = by_deaths new.locks old t
 by_table old new t request told = nothing new.locks

@@ -75,12 +75,12 @@ pub record WorkedHappenings : Type 0 where
       happenings main sends
       ≡ Posted 1 1 2 Variable false
       ∷ Posted 2 1 2 Waiting true
-      ∷ Began 2
+      ∷ Began 2 2
       ∷ Finished 2 outcome
-      ∷ Got 2 (reply.Answer outcome)
+      ∷ Got 2 1 (reply.Answer outcome)
       ∷ Posted 3 1 2 Nobody false
       ∷ Died 1
-      ∷ Set 1 (codes "target thread died")
+      ∷ Set 1 1 (codes "target thread died")
       ∷ []
   pub locked :
       happenings main locks

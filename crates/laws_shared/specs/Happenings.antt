@@ -39,14 +39,14 @@ pub data Recipient : Type 0 where
 pub data Happening : Type 0 where
   -- script n was put on the queue of a thread, at its head or at its tail
   Posted : (n from to : ℕ) → Recipient → (head : Bool) → Happening
-  -- its target took it
-  Began : (n : ℕ) → Happening
+  -- its target, thread t, took it
+  Began : (n t : ℕ) → Happening
   -- its target has handed over what it came to, or has ended before
   Finished : (n : ℕ) → Outcome → Happening
   Died : (n : ℕ) → Happening
-  -- its sender got the answer, or a variable of the sender is to be set to it
-  Got : (n : ℕ) → Reply → Happening
-  Set : (n : ℕ) → (value : List ℕ) → Happening
+  -- its sender, thread t, got the answer, or a variable of the sender is to be set to it
+  Got : (n t : ℕ) → Reply → Happening
+  Set : (n t : ℕ) → (value : List ℕ) → Happening
   -- a thread has a hold of a lock more, or one less
   GetsHold Frees : (lock : List ℕ) → (t : ℕ) → Happening
   -- a channel has another owner: a thread, nobody, or it is on its way
@@ -80,19 +80,19 @@ posts_from n t (target ∷ targets) = Posted n t target Nobody false ∷ posts_f
 
 -- ---- events and answers ----
 
-abbrev pub begin_happenings : Reply → List Happening
-begin_happenings (reply.Event (event.Script n script answer plain)) = Began n ∷ []
-begin_happenings answered = []
+abbrev pub begin_happenings : (t : ℕ) → Reply → List Happening
+begin_happenings t (reply.Event (event.Script n script answer plain)) = Began n t ∷ []
+begin_happenings t answered = []
 
-abbrev pub got : (n : ℕ) → Reply → List Happening
-got n reply.Died = Got n reply.Died ∷ []
-got n (reply.Answer outcome) = Got n (reply.Answer outcome) ∷ []
-got n answered = []
+abbrev pub got : (t n : ℕ) → Reply → List Happening
+got t n reply.Died = Got n t reply.Died ∷ []
+got t n (reply.Answer outcome) = Got n t (reply.Answer outcome) ∷ []
+got t n answered = []
 
 -- the variable of the sender, if that has not ended
 abbrev pub variable_happenings : List Row → (n : ℕ) → (value : List ℕ) → Option VariablePost → List Happening
 variable_happenings rows n value None = []
-variable_happenings rows n value (Some post) = if is_living rows post.sender then Set n value ∷ [] else []
+variable_happenings rows n value (Some post) = if is_living rows post.sender then Set n post.sender value ∷ [] else []
 
 abbrev pub slot_happenings : State → (n : ℕ) → (value : List ℕ) → Option Slot → List Happening
 slot_happenings state n value None = variable_happenings state.rows n value (variable_post state.posts n)
@@ -113,7 +113,8 @@ abbrev pub post_died : (t : ℕ) → (ℕ × VariablePost) → List Happening
 post_died t entry = if is_owed t entry.1 then Died entry.0 ∷ [] else []
 
 abbrev pub post_set : List Row → (t : ℕ) → (ℕ × VariablePost) → List Happening
-post_set rows t entry = if hears rows t entry.1 then Set entry.0 (codes "target thread died") ∷ [] else []
+post_set rows t entry =
+    if hears rows t entry.1 then Set entry.0 entry.1.sender (codes "target thread died") ∷ [] else []
 
 abbrev pub deaths : State → (t : ℕ) → List Happening
 deaths state t =
@@ -177,11 +178,11 @@ happens old new t (ask.Send text script mode variable head) answered =
 happens old new t (ask.Report trace plain) answered =
     report_happenings old t (procedure_in_use old plain old.error_procedure)
 happens old new t (ask.Broadcast script) answered = posts_from old.posts.next t (others old t)
-happens old new t ask.Take answered = begin_happenings answered
-happens old new t ask.TakeReady answered = begin_happenings answered
-happens old new t (ask.Pool call) answered = begin_happenings answered
+happens old new t ask.Take answered = begin_happenings t answered
+happens old new t ask.TakeReady answered = begin_happenings t answered
+happens old new t (ask.Pool call) answered = begin_happenings t answered
 happens old new t (ask.Deliver n outcome) answered = answer_happenings old n outcome answered
-happens old new t (ask.Await n) answered = got n answered
+happens old new t (ask.Await n) answered = got t n answered
 happens old new t (ask.Lock call) answered = holds_changed old.locks new.locks t (lock_named call)
 happens old new t (ask.End code) answered = deaths old t
 happens old new t request answered = []

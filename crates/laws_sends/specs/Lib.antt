@@ -1,0 +1,2 @@
+pub mod SendExamples
+pub mod Sends

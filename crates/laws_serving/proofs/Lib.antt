@@ -1,0 +1,13 @@
+pub mod Asking
+pub mod Cases
+pub mod ChannelFits
+pub mod Commands
+pub mod Courses
+pub mod Events
+pub mod Fitting
+pub mod LockFits
+pub mod Plans
+pub mod Replies
+pub mod PoolFits
+pub mod SharedFits
+pub mod ThreadFits
