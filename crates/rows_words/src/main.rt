@@ -1,13 +1,14 @@
-//! Tables of what the program reads and makes beside scripts: what the words of command lines ask for, what texts of
-//! schedules say, and which scripts numbers give. They stand in `data/`, and this says of each how many rows hold, and
-//! shows those that don't.
+//! Tables of what programs read and make beside scripts: what the words of command lines ask for, of `tclthread` and of
+//! `tclsearch`, what texts of schedules say, and which scripts numbers give. They stand in `data/`, and this says of each
+//! how many rows hold, and shows those that don't.
 //!
 //! A row is what is read, then ` => `, and what comes of it. A line that begins with `#` is no row.
 //!
-//! The manual page stands there too, and the last line says whether its synopsis is the program's usage line.
+//! The manual pages stand there too, and the last lines say whether a page's synopsis is the program's usage line.
 #![tactic(auto)]
 
 mod schedules;
+mod searches;
 mod telling;
 mod words;
 mod workloads;
@@ -15,7 +16,6 @@ mod workloads;
 use std::alloc::{AllocError, Global};
 use std::fs;
 use std::rt::Files;
-use tt_words::USAGE;
 
 /// What stands before the synopsis in the manual page.
 const HEADING: &str = ".SH SYNOPSIS\n.nf\n";
@@ -24,27 +24,37 @@ const HEADING: &str = ".SH SYNOPSIS\n.nf\n";
 #[derive(Clone, Copy)]
 enum Subject {
     Words,
+    Searches,
     Schedules,
     Workloads,
 }
 
-const TABLES: [(&str, Subject); 3] = [
+const TABLES: [(&str, Subject); 4] = [
     ("words.rows", Subject::Words),
+    ("searches.rows", Subject::Searches),
     ("schedules.rows", Subject::Schedules),
     ("workloads.rows", Subject::Workloads),
+];
+
+/// The manual pages, each with the usage line of its program.
+const PAGES: [(&str, &[u8]); 2] = [
+    ("tclthread.1", tt_words::USAGE),
+    ("tclsearch.1", tt_search_words::USAGE),
 ];
 
 fn main(rt: HostRuntime) -> anyhow::Result<()> {
     for (name, subject) in TABLES {
         tell_table(&rt, rt.alloc(), name, subject)?;
     }
-    let page = fs::read_to_string(&rt, "tclthread.1")?;
-    let answer = if has_usage(rt.alloc(), page.as_str())? {
-        "is"
-    } else {
-        "is NOT"
-    };
-    println!(rt; "the manual page's synopsis {answer} the usage line")?;
+    for (name, usage) in PAGES {
+        let page = fs::read_to_string(&rt, name)?;
+        let answer = if has_usage(rt.alloc(), page.as_str(), usage)? {
+            "is"
+        } else {
+            "is NOT"
+        };
+        println!(rt; "{name}: the synopsis {answer} the usage line")?;
+    }
     Ok(())
 }
 
@@ -78,6 +88,7 @@ fn holds(rt: &impl Print, alloc: Global, row: &str, subject: Subject) -> anyhow:
     };
     let found = match subject {
         Subject::Words => words::answer(alloc, given)?,
+        Subject::Searches => searches::answer(alloc, given)?,
         Subject::Schedules => schedules::answer(alloc, given.trim_end())?,
         Subject::Workloads => workloads::answer(alloc, given, wanted)?,
     };
@@ -89,11 +100,11 @@ fn holds(rt: &impl Print, alloc: Global, row: &str, subject: Subject) -> anyhow:
 }
 
 /// Whether the page's synopsis is the usage line. The page writes each `-` with a backslash before it.
-fn has_usage(alloc: Global, page: &str) -> Result<bool, AllocError> {
+fn has_usage(alloc: Global, page: &str, usage: &[u8]) -> Result<bool, AllocError> {
     let Some((_, rest)) = page.split_once(HEADING) else {
         return Ok(false);
     };
     let synopsis = rest.lines().next().unwrap_or("");
     let plain = synopsis.replace(alloc, "\\-", "-")?;
-    Ok(plain.as_bytes() == USAGE)
+    Ok(plain.as_bytes() == usage)
 }

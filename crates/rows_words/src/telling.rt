@@ -1,6 +1,7 @@
 //! What words ask for, in a line.
 
 use std::alloc::{AllocError, Global};
+use tt_search_words::{Difference, Search};
 use tt_words::Asked;
 
 /// The words in parentheses, parted by spaces.
@@ -47,4 +48,27 @@ pub(crate) fn asked_text(alloc: Global, asked: Option<Asked<'_>>) -> Result<Stri
             format!(in alloc; "generate {number} {size} {steps} {limit} {kept}")
         }
     }
+}
+
+/// The word for what counts as a difference.
+fn difference_text(difference: Difference) -> &'static str {
+    match difference {
+        Difference::InEnd => "end",
+        Difference::InEndOrOutput => "output",
+    }
+}
+
+/// The search that is asked for, in a line.
+pub(crate) fn search_text(alloc: Global, asked: Option<Search<'_>>) -> Result<String, AllocError> {
+    let Some(search) = asked else {
+        return String::from_str(alloc, "usage");
+    };
+    let difference = difference_text(search.difference);
+    let plain = &search.plain;
+    let arguments = words_text(alloc, plain.arguments.as_slice())?;
+    let (script, runs, seed, switches) = (plain.script, search.runs, search.seed, search.switches);
+    let (steps, limit, workers) = (plain.steps, plain.limit, plain.workers);
+    let numbers = format!(in alloc; "{runs} {seed} {switches} {steps} {limit} {workers}")?;
+    let kept = plain.kept.unwrap_or("unkept");
+    format!(in alloc; "search {script} {arguments} {numbers} {difference} {kept}")
 }

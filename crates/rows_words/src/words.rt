@@ -16,7 +16,7 @@ pub(crate) fn answer(alloc: Global, line: &str) -> anyhow::Result<String> {
 }
 
 /// The words of a line.
-fn words(alloc: Global, line: &str) -> Result<Vec<String>, AllocError> {
+pub(crate) fn words(alloc: Global, line: &str) -> Result<Vec<String>, AllocError> {
     let mut words = Vec::new(alloc);
     for word in line.split_whitespace() {
         let word = if word == "''" { "" } else { word };

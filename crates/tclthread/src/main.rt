@@ -1,11 +1,9 @@
 //! Scripts of threads, run after a schedule or without one.
 #![tactic(auto)]
 
-pub mod laws;
 mod program;
 #[cfg(test)]
 mod tests;
-mod words;
 
 use program::program;
 use std::env;

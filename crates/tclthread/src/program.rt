@@ -4,16 +4,15 @@ ghost use Rattle.std.specs.Vec.Iter.{into_iter_items};
 ghost use Rattle.tt_session.specs.Answer.{IsAnswered, IsUntouched};
 ghost use Rattle.tt_session.specs.Status.{exit_of};
 ghost use Rattle.tt_session.specs.declared.status.Refusal.{Refusal};
-ghost use Rattle.tclthread.specs.NoWords.{IsNoWords};
+ghost use Rattle.tt_session.specs.NoWords.{IsNoWords};
 
-use crate::words::words;
 use std::env::Args;
 use std::io;
 use std::process::ExitCode;
 use std::sync::Wait;
 use std::thread::Threads;
 use tt_devices::{Files, OpenGate, Sink, Source};
-use tt_session::{Ended, refuse, session};
+use tt_session::{Ended, program_words, refuse, session};
 
 /// The whole program over these devices, and the code that it exits with: that of its status.
 ///
@@ -61,7 +60,7 @@ fn call<
         files.old files.new (record { input = input; output = output; errors = errors }) result) }
 {
     let alloc = rt.alloc();
-    match words(alloc, all) {
+    match program_words(alloc, all) {
         Ok(words) => session(
             rt,
             alloc,

@@ -1,7 +1,8 @@
 -- What a disk's calls say together of the bytes under a name.
 use Rattle.std.proofs.Common.{◌≡◌, ◌<◌, ℕ, List, ◌++◌, length, Option, None, Some, ap, ◌∙◌, append-nil, length-append, arith}
 use Rattle.tt_devices.specs.Names.{HasName, HoldsNamed, Names, Tells}
-use Rattle.tt_devices.specs.inside.Reading.{Empties, IsLonger, LosesMore}
+use Rattle.tt_devices.specs.Streams.{Empties, LosesMore}
+use Rattle.tt_devices.specs.inside.Reading.{IsLonger}
 
 -- what a file gave to its end is what the map has
 pub read_named :

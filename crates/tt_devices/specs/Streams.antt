@@ -17,6 +17,16 @@ pub record LosesPart (old new : Option (List ℕ)) : Type 0 where
   pub part : List ℕ
   pub lost : Consumes old new part
 
+-- a source held these bytes and no more
+abbrev pub Empties : Option (List ℕ) → Option (List ℕ) → List ℕ → Type 0
+Empties old new bytes = Consumes old new bytes × IsAtEnd new
+
+-- more than so many first bytes were taken from a source
+pub record LosesMore (old new : Option (List ℕ)) (count : ℕ) : Type 0 where
+  pub part : List ℕ
+  pub lost : Consumes old new part
+  pub more : count < length part
+
 -- what a sink got grew by this piece
 abbrev pub Grows : Option (List ℕ) → Option (List ℕ) → List ℕ → Type 0
 Grows old new piece = Appends old new piece

@@ -17,6 +17,7 @@ mod sink;
 mod source;
 mod std_streams;
 mod system_disk;
+mod whole;
 
 pub use disk::Disk;
 pub use failed::Failed;
@@ -31,6 +32,7 @@ pub use sink::Sink;
 pub use source::Source;
 pub use std_streams::{StdSink, StdSource};
 pub use system_disk::SystemDisk;
+pub use whole::{Unread, read_whole};
 
 #[cfg(test)]
 mod tests;

@@ -2,20 +2,14 @@ ghost use Rattle.std.specs.Prelude.{◌≡◌, ◌≢◌, ◌≤◌, ◌^◌, �
 ghost use Rattle.std.specs.IoError.{error_kind};
 ghost use Rattle.tt_devices.specs.Faults.{Rises};
 ghost use Rattle.tt_devices.specs.Names.{HasName, KeepsOthers, Tells};
-ghost use Rattle.tt_devices.specs.Streams.{LosesPart};
-ghost use Rattle.tt_devices.specs.inside.Reading.{Empties, IsLonger, LosesMore};
+ghost use Rattle.tt_devices.specs.inside.Reading.{IsLonger};
 
-use crate::{Disk, Failed, Files, ReadAnswer, Sink, Source};
+use crate::whole::{Unread, read_whole};
+use crate::{Disk, Failed, Files, ReadAnswer, Sink};
 use std::alloc::Global;
 use std::io;
 use std::io::ErrorKind;
 use std::marker::Model;
-
-/// The most bytes of a file that is read.
-const MOST_BYTES: usize = 268_435_456;
-
-/// How many bytes are asked for at once.
-const CHUNK: usize = 16_384;
 
 /// The files of a disk, such as that of the system. They show their map if the disk does. Contracts see the disk, and
 /// the counts of failed reads and writes.
@@ -32,19 +26,6 @@ impl<D: Disk + Drop> Model for RealFiles<D> {
     ghost Value = { D × ℕ × ℕ };
 
     ghost view = { λ all. (all.disk, all.read_faults, all.write_faults) };
-}
-
-/// Why the bytes of a file were not read.
-#[derive(Clone, Copy, Debug, PartialEq, Eq)]
-enum Unread {
-    /// There is no file of that name.
-    Missing,
-    /// The file could not be opened, or a read of it failed.
-    Failed,
-    /// It has more than 268,435,456 bytes.
-    TooLong,
-    /// Memory for the bytes was refused.
-    NoMemory,
 }
 
 impl<D: Disk + Drop> RealFiles<D> {
@@ -121,35 +102,6 @@ fn read_file<D: Disk>(alloc: Global, disk: &mut D, name: &str) -> Result<Vec<u8>
         Ok(mut reader) => read_whole(alloc, &mut reader),
         Err(error) => Err(open_answer(&error)),
     }
-}
-
-/// All the bytes of the source, each once and in order.
-///
-/// `Failed` only if the source reported a fault, `TooLong` only if it gave more than 268,435,456 bytes, and never
-/// `Missing`.
-fn read_whole<S: Source>(alloc: Global, source: &mut S) -> Result<Vec<u8>, Unread>
-    ensures whole { IfOk result (λ bytes. Empties (S.held source.old) (S.held source.new) bytes.items) }
-    ensures few { IfOk result (λ bytes. vec_len bytes ≤ 2 ^ 28) }
-    ensures part { OnErr result (LosesPart (S.held source.old) (S.held source.new)) }
-    ensures failed { IsErrOf result Unread.Failed → Rises (S.fault_count source.old) (S.fault_count source.new) }
-    ensures steady { (result ≢ Err Unread.Failed) → S.fault_count source.new ≡ S.fault_count source.old }
-    ensures too_long { IsErrOf result Unread.TooLong → LosesMore (S.held source.old) (S.held source.new) (2 ^ 28) }
-    ensures not_missing { result ≢ Err Unread.Missing }
-{
-    let mut bytes = Vec::new(alloc);
-    let mut chunk = [0u8; CHUNK];
-    while bytes.len() <= MOST_BYTES {
-        let Ok(count) = source.take(&mut chunk) else {
-            return Err(Unread::Failed);
-        };
-        if count == 0 {
-            return Ok(bytes);
-        }
-        if bytes.extend_from_slice(&chunk[..count]).is_err() {
-            return Err(Unread::NoMemory);
-        }
-    }
-    Err(Unread::TooLong)
 }
 
 /// Why a file could not be opened.

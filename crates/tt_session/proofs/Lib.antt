@@ -1,6 +1,9 @@
+pub mod AlongLemmas
+pub mod AnswerLemmas
 pub mod CloseLemmas
 pub mod FollowLemmas
 pub mod FreelyLemmas
 pub mod LineLemmas
 pub mod RunLemmas
 pub mod TurnLemmas
+pub mod WordLemmas

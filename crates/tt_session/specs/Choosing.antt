@@ -3,12 +3,27 @@ use Rattle.std.specs.Prelude.{◌≤◌, ⊤, ℕ, List, [], ◌∷◌, ◌++◌
 use Rattle.tt_core.specs.Stage.{IsNextAfter}
 use Rattle.tt_machine.specs.Machine.{Machine, Steps}
 use Rattle.tt_core.specs.Parts.{IsFirstPart}
+use Rattle.tt_schedule.specs.ScheduleText.{most_steps}
+use Rattle.tt_session.specs.declared.run.Course.{Course}
+use Rattle.tt_session.specs.declared.run.Course.TheVariants as course
 
 -- a given list, or at most so many steps: of the threads in turn, or of any
 pub data Mode : Type 0 where
   Replaying : (given : List ℕ) → Mode
   InTurn : (steps : ℕ) → Mode
   Freely : (steps : ℕ) → Mode
+
+-- how the steps of a course are chosen: along a list, which its threads may leave, a step may be any thread's
+abbrev pub mode_of : Course → Mode
+mode_of (course.After given) = Replaying given.threads
+mode_of (course.InTurn steps) = InTurn steps
+mode_of (course.Along given steps) = Freely steps
+
+-- a schedule has room for the steps of a course
+abbrev pub HasRoom : Course → Type 0
+HasRoom (course.After given) = ⊤
+HasRoom (course.InTurn steps) = steps ≤ most_steps
+HasRoom (course.Along given steps) = steps ≤ most_steps
 
 -- the most steps, if no list is given
 abbrev pub limit_of : Mode → Option ℕ

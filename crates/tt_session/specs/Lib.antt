@@ -1,9 +1,11 @@
 pub mod Answer
+pub mod AnswerLaws
 pub mod Asking
 pub mod Choosing
 pub mod Ended
 pub mod Ending
 pub mod Lines
+pub mod NoWords
 pub mod Recording
 pub mod Running
 pub mod Status

@@ -11,7 +11,7 @@ use tt_words::USAGE;
 
 /// Puts the status line, for every status but `Done`. `before` is the count of faults of standard error when the call
 /// began: after a failure nothing is put. It takes no memory.
-pub(crate) fn put_status<E: Sink>(status: &Status, before: u64, errors: &mut E)
+pub fn put_status<E: Sink>(status: &Status, before: u64, errors: &mut E)
     ensures { PutsLine E.Sink before status.now errors.old errors.new }
 {
     if has_no_line(status, before, errors) {

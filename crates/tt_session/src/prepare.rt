@@ -36,7 +36,7 @@ pub(crate) fn ask(alloc: Global, words: &[String]) -> Result<Asked<'_>, Refusal>
 /// What a plain run begins with.
 ///
 /// Else why there is none.
-pub(crate) fn prepare_plain<F: Files>(
+pub fn prepare_plain<F: Files>(
     alloc: Global,
     plain: &Plain<'_>,
     files: &mut F,

@@ -13,7 +13,7 @@ use tt_schedule::{Schedule, print};
 
 /// Closes a run: records its schedule if a file is named for it, and reports how the call ends. `before` is the count
 /// of faults of standard error when the call began.
-pub(crate) fn close<F: Files, S, K, E: Sink>(
+pub fn close<F: Files, S, K, E: Sink>(
     alloc: Global,
     file: Option<&str>,
     files: &mut F,

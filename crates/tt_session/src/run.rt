@@ -2,11 +2,12 @@ ghost use Rattle.std.specs.Prelude.{◌≡◌, ◌≢◌, ◌≤◌, ◌⊎◌, 
 ghost use Rattle.tt_core.specs.Stage.{SameBeginning};
 ghost use Rattle.tt_devices.specs.Faults.{Rises};
 ghost use Rattle.tt_schedule.specs.ScheduleText.{most_steps};
-ghost use Rattle.tt_session.specs.Choosing.{Allows, Chooses, InTurn, Replaying};
+ghost use Rattle.tt_session.specs.Choosing.{Allows, Chooses, HasRoom, InTurn, Replaying, mode_of};
 ghost use Rattle.tt_session.specs.Ending.{EndsAs, cause_of};
 ghost use Rattle.tt_session.specs.Running.{RunLeaves};
-ghost use Rattle.tt_session.specs.inside.Following.{AtRun, HasRoom, mode_of};
+ghost use Rattle.tt_session.specs.inside.Following.{AtRun};
 
+use crate::along::go_along;
 use crate::ended::Finish;
 use crate::status::End;
 use std::alloc::Global;
@@ -14,17 +15,22 @@ use tt_core::{Setup, StepFault, System};
 use tt_devices::{Sink, Source};
 use tt_schedule::Schedule;
 
-/// How the steps of a run are chosen.
+/// How the steps of a run are chosen. A number of steps is at most 16,777,216.
 #[derive(Drop)]
-pub(crate) enum Course {
+pub enum Course {
     /// They are those of a schedule.
     After(Schedule),
     /// Each is of the thread that is next in turn, and there are at most so many.
     InTurn(u32),
+    /// They are those of a schedule, but for entries whose threads can't take a step when these come up; after them
+    /// the thread of the last step goes on, and then the one that is next in turn. There are at most so many.
+    Along(Schedule, u32),
 }
 
 /// Runs a script whose steps are chosen so.
-pub(crate) fn run<S: Source, K: Sink, E: Sink>(
+///
+/// If memory for the run is refused, it ends with `NoMemory`, and the streams are as they were given.
+pub fn run_course<S: Source, K: Sink, E: Sink>(
     alloc: Global,
     setup: Setup,
     course: &Course,
@@ -86,6 +92,7 @@ fn take<S: Source, K: Sink, E: Sink>(system: &mut System<S, K, E>, course: &Cour
     match course {
         Course::After(given) => follow(system, given),
         Course::InTurn(steps) => take_turns(system, *steps),
+        Course::Along(given, steps) => go_along(system, given, *steps),
     }
 }
 

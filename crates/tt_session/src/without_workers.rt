@@ -13,7 +13,7 @@ use crate::ended::{Alone, Ended};
 use crate::line::put_status;
 use crate::prepare::{ask, prepare_generated, prepare_replay};
 use crate::recording::close;
-use crate::run::{Course, run};
+use crate::run::{Course, run_course};
 use crate::status::Refusal;
 use std::alloc::Global;
 use tt_devices::{Files, Sink, Source};
@@ -103,7 +103,7 @@ fn replay<F: Files, S: Source, K: Sink, E: Sink>(
         Err(why) => refuse(alloc, why, input, output, errors),
         Ok(prepared) => {
             let course = Course::After(prepared.given);
-            let finish = run(alloc, prepared.setup, &course, input, output, errors);
+            let finish = run_course(alloc, prepared.setup, &course, input, output, errors);
             close(alloc, None, files, before, finish)
         }
     }
@@ -127,7 +127,7 @@ fn generate<F: Files, S: Source, K: Sink, E: Sink>(
         Err(_) => refuse(alloc, Refusal::NoMemory, input, output, errors),
         Ok(setup) => {
             let course = Course::InTurn(asked.steps);
-            let finish = run(alloc, setup, &course, input, output, errors);
+            let finish = run_course(alloc, setup, &course, input, output, errors);
             close(alloc, asked.kept, files, before, finish)
         }
     }

@@ -20,9 +20,6 @@ differs false P decides fails = refl
 bytes_differ : (one two : List ℕ) → one ≢ two → bytes_eq one two ≡ false
 bytes_differ one two apart = differs (bytes_eq one two) (one ≡ two) (bytes_eq-Decides one two) apart
 
-bytes_same : (text : List ℕ) → bytes_eq text text ≡ true
-bytes_same text = (bytes_eq-Decides text text).1 refl
-
 pub none_found : (p : Life → Bool) (k : ℕ) (rows : List Row) (text : List ℕ) → ((n : ℕ) → k ≤ n → n < k + length rows → text ≢ id Thread n) →
     found_from p k rows text ≡ None
 none_found p k [] text h = refl
@@ -43,7 +40,7 @@ found_at p k zero n (first ∷ rows) row small is there =
     let same : row ≡ first = cc there in
     let none = none_found p (suc k) rows (id Thread k)
     (λ m low high e. absurd (omega (arith, low, ids_differ Thread k m (omega (arith, small)) (omega (arith, high, small)) e))) in
-    rw (same, here, bytes_same (id Thread k)) (go (p first.life) none)
+    rw (same, here, (bytes_eq-Decides (id Thread k) (id Thread k)).1 refl) (go (p first.life) none)
   where
     go : (counts : Bool) → found_from p (suc k) rows (id Thread k) ≡ None →
         (if counts && true then Some k else found_from p (suc k) rows (id Thread k)) ≡ (if counts then Some k else None)

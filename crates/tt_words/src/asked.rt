@@ -7,13 +7,17 @@ ghost use Rattle.tt_words.specs.CodeValues.{text_of, values_as_text};
 use crate::numbers::{number, number_within};
 use crate::values::Values;
 
-const MOST_WORKERS: u64 = 64;
+/// The most workers of a run. The least is 1.
+pub const MOST_WORKERS: u64 = 64;
 
-const DEFAULT_WORKERS: u64 = 4;
+/// How many workers a run has if none are asked for, from 1 to `MOST_WORKERS`.
+pub const DEFAULT_WORKERS: u64 = 4;
 
-const MOST_STEPS: u64 = 16_777_216;
+/// The most steps of a run: 2^24. The least is 1.
+pub const MOST_STEPS: u64 = 16_777_216;
 
-const MOST_UNITS: u64 = 4_611_686_018_427_387_904;
+/// The most units of one thread: 2^62. The least is 1.
+pub const MOST_UNITS: u64 = 4_611_686_018_427_387_904;
 
 const MOST_JOBS: u64 = 2000;
 
@@ -171,7 +175,7 @@ fn read_generate<'a>(values: &Values<'a>, ordinary: &[&'a str]) -> Option<Genera
 }
 
 /// The file that the option names, or none if it isn't given; `None` exactly if its name is empty.
-fn file(value: Option<&str>) -> Option<Option<&str>>
+pub fn file(value: Option<&str>) -> Option<Option<&str>>
     ensures found { IfSome result (λ file. spec.HasFile (option_map text_of value.entry) (option_map text_of file)) }
     ensures none { IfNone result ((file : _) → ¬ spec.HasFile (option_map text_of value.entry) file) }
 {
@@ -182,7 +186,7 @@ fn file(value: Option<&str>) -> Option<Option<&str>>
 }
 
 /// The script and its arguments; `None` exactly if there is no word, or the first is empty.
-fn script<'a>(ordinary: Vec<&'a str>) -> Option<(&'a str, Vec<&'a str>)>
+pub fn script<'a>(ordinary: Vec<&'a str>) -> Option<(&'a str, Vec<&'a str>)>
     ensures found { IfSome result (λ found.
         spec.HasScript (map text_of ordinary.entry.items) found.0.now (map text_of found.1.items)) }
     ensures none { IfNone result ((script : List ℕ) (arguments : List (List ℕ)) →

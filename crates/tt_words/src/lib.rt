@@ -10,5 +10,9 @@ mod reading;
 mod setting;
 mod values;
 
-pub use asked::{Asked, Generate, Plain, Replay};
+pub use asked::{
+    Asked, DEFAULT_WORKERS, Generate, MOST_STEPS, MOST_UNITS, MOST_WORKERS, Plain, Replay, file,
+    script,
+};
+pub use numbers::number;
 pub use reading::{USAGE, read_words};

@@ -10,7 +10,7 @@ const MOST_DIGITS: usize = 20;
 
 /// The number that the option has: that of its value, or the default if it isn't given; `None` exactly if its
 /// value writes no number from the least to the most.
-pub(crate) fn number(value: Option<&str>, least: u64, most: u64, default: u64) -> Option<u64>
+pub fn number(value: Option<&str>, least: u64, most: u64, default: u64) -> Option<u64>
     requires { default ≤ most }
     ensures found { IfSome result (λ number. HasNumber least most default (option_map text_of value.entry) number) }
     ensures within { IfSome result (λ number. number ≤ most) }

@@ -1,14 +1,10 @@
 -- What is said of files before a run, and of a system while it goes on.
-use Rattle.std.specs.Prelude.{◌≡◌, ◌≤◌, ⊤, ℕ, List, Option, None, IfSome}
+use Rattle.std.specs.Prelude.{◌≡◌, ⊤, ℕ, List, Option, None, IfSome}
 use Rattle.tt_core.specs.Stage.{Stage}
 use Rattle.tt_devices.specs.Names.{HasName, Names, Tells}
 use Rattle.tt_machine.specs.Machine.{Machine, Runs, start_machine}
-use Rattle.tt_schedule.specs.ScheduleText.{most_steps}
 use Rattle.tt_workers.specs.declared.next.RunEnd.{RunEnd}
 use Rattle.tt_workers.specs.declared.next.RunEnd.TheVariants.{Over, Stuck, Limit, Read, Write, Memory}
-use Rattle.tt_session.specs.Choosing.{InTurn, Mode, Replaying}
-use Rattle.tt_session.specs.declared.run.Course.{Course}
-use Rattle.tt_session.specs.declared.run.Course.TheVariants as course
 use Rattle.tt_session.specs.declared.status.End.{End}
 use Rattle.tt_session.specs.declared.status.End.TheVariants as ends
 use Rattle.tt_session.specs.declared.status.Refusal.{Refusal}
@@ -22,16 +18,6 @@ AtRun held stage fact =
     (machine : Machine) →
     Runs (start_machine stage.setup input) stage.desk.schedule machine →
     fact (start_machine stage.setup input) machine)
-
--- how the steps are chosen
-abbrev pub mode_of : Course → Mode
-mode_of (course.After given) = Replaying given.threads
-mode_of (course.InTurn steps) = InTurn steps
-
--- a schedule has room for the steps
-abbrev pub HasRoom : Course → Type 0
-HasRoom (course.After given) = ⊤
-HasRoom (course.InTurn steps) = steps ≤ most_steps
 
 -- how a run on workers ends, in at most so many steps
 abbrev pub worker_end : RunEnd → (steps : ℕ) → End

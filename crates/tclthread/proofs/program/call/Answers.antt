@@ -2,7 +2,7 @@ use Rattle.std.proofs.Common.{drop, map, string_bytes}
 use Rattle.std.specs.Vec.Iter.{into_iter_items}
 use Rattle.tt_session.specs.Answer.{IsAnswered}
 use Rattle.tt_session.proofs.CloseLemmas.{unread-answer}
-use Rattle.tclthread.proofs.WordLemmas.{if-given, no-memory, of-given}
+use Rattle.tt_session.proofs.WordLemmas.{if-given, no-memory, of-given}
 use Rattle.tclthread.proofs.program.call.Goals as goal
 
 pub returns-in-Ok-clause-answer : goal.returns-in-Ok-clause-answer

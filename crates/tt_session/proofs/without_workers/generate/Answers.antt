@@ -8,9 +8,9 @@ returns-in-Ok g c =
     ran (record {
       setup = _;
       mode = _;
-      finish = c.run-finish.result;
+      finish = c.run_course-finish.result;
       begins = (c.in-Ok.ensures, refl);
-      leaves = c.run-finish.ensures;
+      leaves = c.run_course-finish.ensures;
       records = c.close.ensures.records;
       line = rw c.faults-before.ensures at c.close.ensures.line;
       schedule = c.close.ensures.schedule;

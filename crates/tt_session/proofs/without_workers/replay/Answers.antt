@@ -8,10 +8,10 @@ returns-in-Ok g c =
     ran (record {
       setup = _;
       mode = _;
-      finish = c.run-finish.result;
+      finish = c.run_course-finish.result;
       begins = c.in-Ok.ensures.ready;
-      leaves = c.run-finish.ensures;
-      records = records-after g.F.Files None c.run-finish.result.end c.run-finish.result.schedule.threads c.args.files.now
+      leaves = c.run_course-finish.ensures;
+      records = records-after g.F.Files None c.run_course-finish.result.end c.run_course-finish.result.schedule.threads c.args.files.now
           c.prepare_replay.new.files c.close.new.files c.close.result.status c.in-Ok.ensures.same c.in-Ok.ensures.no_write c.close.ensures.records;
       line = rw c.faults-before.ensures at c.close.ensures.line;
       schedule = c.close.ensures.schedule;
