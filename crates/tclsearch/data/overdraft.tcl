@@ -1,4 +1,5 @@
-# Two threads take 60 from an account of 100, each if it finds as much. The first one may read before the other has taken.
+# Two threads take 60 from an account of 100, each if it finds as much. The second one may look before the first one has
+# taken.
 package require Thread
 
 tsv::set account balance 100
