@@ -163,7 +163,7 @@ many state t request line have = (mild state t request line refl).many have
 
 -- ---- whole actions ----
 
-by_owners : (old new : ChannelTable) → Every OfOthers (owners_changed old new)
+pub by_owners : (old new : ChannelTable) → Every OfOthers (owners_changed old new)
 by_owners old new = go new.channels
   where
     one_owner : (entry : List ℕ × Channel) (b : Bool) → Every OfOthers (if b then [] else Owner entry.0 entry.1.owner ∷ [])

@@ -1,0 +1,3 @@
+pub mod Answered
+pub mod Circles
+pub mod Pure

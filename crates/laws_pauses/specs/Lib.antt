@@ -1,0 +1,3 @@
+pub mod NextRequest
+pub mod PauseExamples
+pub mod Threads

@@ -1,0 +1,5 @@
+pub mod PoolAnswers
+pub mod PoolExamples
+pub mod PoolHappenings
+pub mod PoolJobs
+pub mod PoolWorkers

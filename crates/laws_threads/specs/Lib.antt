@@ -1,0 +1,2 @@
+pub mod ThreadCount
+pub mod ThreadExamples
