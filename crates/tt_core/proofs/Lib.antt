@@ -2,3 +2,4 @@ pub mod ActionLemmas
 pub mod CrewLemmas
 pub mod PlaceLemmas
 pub mod StandLemmas
+pub mod StepLemmas

@@ -23,7 +23,8 @@ use Rattle.tt_shared.specs.State.{start_state}
 use Rattle.tt_shared.specs.declared.applied.Line.{Line}
 use Rattle.tt_threads.specs.declared.row.Row.{Row}
 use Rattle.tt_core.proofs.ActionLemmas as actions
-use Rattle.tt_core.proofs.ActionLemmas.{AsksIn, Becomes, Failed, Of, Stood, able, acted, acted-without-memory, barred-asking, of-machine, some-none}
+use Rattle.tt_core.proofs.ActionLemmas.{Becomes, Failed, Of, Stood, acted, acted-without-memory, of-machine}
+use Rattle.tt_core.proofs.StepLemmas.{able, AsksIn, barred-asking, can-go, some-none}
 use Rattle.tt_core.proofs.CrewLemmas as crew
 use Rattle.tt_core.proofs.PlaceLemmas.{joined-each}
 use Rattle.tt_core.proofs.CrewLemmas.{replied-placed, stands-asking, stands-for}
@@ -143,7 +144,7 @@ module _ {S K E : Type 0} (held : S → Option (List ℕ)) (got_out : K → Opti
       let one = ready-one desk number (interp_of places number) is in
       let request = request_of one.0.standing in
       let has = able desk number request one.2 in
-      actions.can-go held desk number request (serving_of one.0.standing) machine its has
+      can-go held desk number request (serving_of one.0.standing) machine its has
       (asks-it number request places one.0 one.1 refl machine are (rw (← its.is_shared) has.lives))
 
   -- it can

@@ -1,5 +1,6 @@
 ghost use Rattle.std.specs.Prelude.{◌≡◌, ◌≢◌, ◌<◌, ◌≤◌, ◌+◌, ◌++◌, ◌∷◌, [], ◌⊎◌, ℕ, Option, Some, None};
 ghost use Rattle.std.specs.Prelude.{Err, IsSome, IsTrue, IsFalse, IfOk, IfErr, OnOk, IsErrOf, IfSome, length};
+ghost use Rattle.laws_runs.specs.Lawful.{Lawful};
 ghost use Rattle.tt_calls.specs.declared.start.Start.TheVariants as start;
 ghost use Rattle.tt_core.specs.inside.Crew.{AllBegin, AreBusy, AreIdle, BeginsLast, IsFirstReady};
 ghost use Rattle.tt_core.specs.inside.Crew.{IsReadyAfter, IsReplied, Places, interp_of, is_ready};
@@ -110,6 +111,7 @@ impl<S: Source, K: Sink, E: Sink> System<S, K, E> {
         ensures could { OnOk result (OfMachine S.held self.old (λ machine. CanStep machine thread)) }
         ensures goes_on { OnOk result (self.new.desk.kept ≡ None) }
         ensures orderly { OnOk result (OfMachine S.held self.old (StepsOrderly thread)) }
+        ensures lawful { OnOk result (Lawful self.new.setup self.new.desk.schedule) }
         ensures not_enabled { IsErrOf result StepFault.NotEnabled →
             (self.old.desk.kept ≡ None) × OfMachine S.held self.old (λ machine. IsBarred machine thread) }
         ensures unchanged { IsErrOf result StepFault.NotEnabled → self.new ≡ self.old }

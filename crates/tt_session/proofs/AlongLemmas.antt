@@ -1,5 +1,5 @@
 -- How far a schedule was gone along.
-use Rattle.std.proofs.Common.{◌≡◌, ◌≤◌, ℕ, List, length, Option, None, Some, IfSome, IsSome, refl}
+use Rattle.std.proofs.Common.{◌≡◌, ℕ, List, length, Option, None, Some, IfSome, IsSome, refl}
 use Rattle.tt_core.specs.Faithful.{AsksLine}
 use Rattle.tt_core.specs.Stage.{IsNextAfter, OfMachine, SameBeginning, Stage}
 use Rattle.tt_machine.proofs.Steps.{not_barred}

@@ -116,4 +116,5 @@ module _ {S K E : Type 0} (source : OfSource S) (output : OfSink K) (errors : Of
       unread = found.left;
       ends = ends-freely ran.end steps ran.schedule.threads found.machine found.ends;
     });
+    lawful = is.lawful;
   }

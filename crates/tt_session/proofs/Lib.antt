@@ -1,9 +1,12 @@
 pub mod AlongLemmas
 pub mod AnswerLemmas
 pub mod CloseLemmas
+pub mod EndLemmas
 pub mod FollowLemmas
 pub mod FreelyLemmas
 pub mod LineLemmas
+pub mod ReplayLemmas
 pub mod RunLemmas
 pub mod TurnLemmas
+pub mod WayLemmas
 pub mod WordLemmas

@@ -1,5 +1,6 @@
 -- From what a system leaves to what a run does.
 use Rattle.std.proofs.Common.{◌≡◌, ◌≢◌, ◌∙◌, ◌⊎◌, ℕ, List, [], Option, None, Some, IfSome, refl, sym, ap, subst, arith}
+use Rattle.laws_runs.proofs.Lawful.{lawful_law}
 use Rattle.tt_core.specs.Faithful.{AreFaithful, IsFaithful, is_cut}
 use Rattle.tt_core.specs.Parts.{HoldsLastPart}
 use Rattle.tt_core.specs.Stage.{Began, OfMachine, SameBeginning, Stage}
@@ -46,6 +47,7 @@ module _ {S K E : Type 0} (source : OfSource S) (output : OfSink K) (errors : Of
     write_fault = λ is. absurd (cc (sym end ∙ is));
     writes_steady = λ other. (ap output.fault_count out, ap errors.fault_count err);
     has_machine = go (source.held began.input) refl;
+    lawful = lawful_law setup finish.schedule.threads;
   }
     where
       go : (told : Option (List ℕ)) → source.held began.input ≡ told → IfSome told (λ bytes. HasMachine source output errors setup mode began finish bytes)
@@ -134,4 +136,5 @@ module _ {S K E : Type 0} (source : OfSource S) (output : OfSink K) (errors : Of
       write_fault = λ is. rw (out, err, ← old_output, ← old_errors) (write_fault is);
       writes_steady = λ other. rw (out, err, ← old_output, ← old_errors) (writes_steady other);
       has_machine = machine;
+      lawful = lawful_law setup finish.schedule.threads;
     }

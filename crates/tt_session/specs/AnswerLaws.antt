@@ -1,6 +1,7 @@
 -- What holds of the answers.
 use Rattle.std.specs.Prelude.{◌≡◌, ⊤, ℕ, List, Option, Some, IsSome}
 use Rattle.tt_core.specs.Stage.{Began}
+use Rattle.tt_devices.specs.Faults.{Rises}
 use Rattle.tt_devices.specs.Names.{Names}
 use Rattle.tt_devices.specs.Streams.{Grows}
 use Rattle.tt_devices.specs.declared.files.Files.{Ghosts as OfFiles}
@@ -34,9 +35,22 @@ pub record GotSame (old new before after : Option (List ℕ)) : Type 0 where
   pub grew : Grows old new bytes
   pub grows : Grows before after bytes
 
+-- Two calls end alike: with the same status, after the same steps, and with the same bytes on both sinks. On standard
+-- error they are the same unless it failed, which may cut a status line short.
+pub record IsSameAnswer {S K E : Type 0} (output : OfSink K) (errors : OfSink E)
+    (began again : Began S K E) (one other : Ended S K E) : Type 0 where
+  pub status : one.status ≡ other.status
+  pub steps : one.schedule.threads ≡ other.schedule.threads
+  pub out :
+      GotSame (output.got began.output) (output.got one.output) (output.got again.output) (output.got other.output)
+  pub err :
+      ¬ Rises (errors.fault_count began.errors) (errors.fault_count one.errors) →
+      ¬ Rises (errors.fault_count again.errors) (errors.fault_count other.errors) →
+      GotSame (errors.got began.errors) (errors.got one.errors) (errors.got again.errors) (errors.got other.errors)
+
 module _ {F S K E : Type 0} (files : OfFiles F) (source : OfSource S) (output : OfSink K) (errors : OfSink E) where
-  -- Two settled answers to the same words, files and input are the same, and so are the steps: of a plain run, if the
-  -- steps are the same.
+  -- Two settled answers to the same words, files and input are the same, and so are the steps and the bytes: of a plain
+  -- run, if the steps are the same.
   abbrev pub OneAnswerLaw : Type 0
   OneAnswerLaw =
       (words : List (List ℕ)) (names : Names) (input : List ℕ)
@@ -50,7 +64,7 @@ module _ {F S K E : Type 0} (files : OfFiles F) (source : OfSource S) (output : 
       IsAnswered files source output errors words old new began one →
       IsAnswered files source output errors words store kept again other →
       ((named : Plain) → WordsAskFor words (plain named) → one.schedule.threads ≡ other.schedule.threads) →
-      (one.status ≡ other.status) × (one.schedule.threads ≡ other.schedule.threads)
+      IsSameAnswer output errors began again one other
 
 module _ {F S T K E : Type 0} (files : OfFiles F) (source : OfSource S) (other_source : OfSource T)
     (output : OfSink K) (errors : OfSink E) where

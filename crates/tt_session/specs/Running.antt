@@ -1,5 +1,6 @@
 -- What a run leaves, and the machine that explains it.
 use Rattle.std.specs.Prelude.{◌≡◌, ◌≢◌, ◌⊎◌, ℕ, List, [], IfSome}
+use Rattle.laws_runs.specs.Lawful.{Lawful}
 use Rattle.tt_core.specs.Faithful.{IsFaithful, is_cut}
 use Rattle.tt_core.specs.Parts.{HoldsLastPart}
 use Rattle.tt_core.specs.Stage.{Began}
@@ -30,7 +31,8 @@ module _ {S K E : Type 0} (source : OfSource S) (output : OfSink K) (errors : Of
     pub ends : EndsAs finish.end mode machine finish.schedule.threads
 
   -- What a run leaves: the steps are some that the mode allows; without a step nothing was written; a fault ends the
-  -- run, and comes of its own stream alone; and if the bytes of standard input are known, there is that machine.
+  -- run, and comes of its own stream alone; if the bytes of standard input are known, there is that machine; and
+  -- whatever they are, the run is lawful.
   pub record RunLeaves (setup : Setup) (mode : Mode) (began : Began S K E) (finish : Finish S K E) : Type 0 where
     pub allowed : Allows mode finish.schedule.threads
     pub no_output : finish.schedule.threads ≡ [] → finish.output ≡ began.output
@@ -44,3 +46,4 @@ module _ {S K E : Type 0} (source : OfSource S) (output : OfSink K) (errors : Of
         (output.fault_count finish.output ≡ output.fault_count began.output)
         × (errors.fault_count finish.errors ≡ errors.fault_count began.errors)
     pub has_machine : IfSome (source.held began.input) (λ input. HasMachine setup mode began finish input)
+    pub lawful : Lawful setup finish.schedule.threads

@@ -6,7 +6,8 @@ use Rattle.std.proofs.lemmas.List.{length-append}
 use Rattle.tt_calls.specs.Numbers.{at_number}
 use Rattle.tt_calls.specs.declared.reply.Reply.{Reply}
 use Rattle.tt_calls.specs.declared.request.Request.{Request}
-use Rattle.tt_core.proofs.ActionLemmas.{able, can-go, met, some-none}
+use Rattle.tt_core.proofs.ActionLemmas.{met}
+use Rattle.tt_core.proofs.StepLemmas.{able, can-go, some-none}
 use Rattle.tt_run.specs.Acting.{Happens, IsAnswer}
 use Rattle.tt_run.specs.Desk.{Ground}
 use Rattle.tt_run.specs.declared.desk.Acted.{Acted}

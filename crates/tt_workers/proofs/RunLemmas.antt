@@ -1,8 +1,10 @@
 -- How a run begins, and what it leaves.
 use Rattle.std.proofs.Common.{◌≡◌, ◌∙◌, ℕ, zero, suc, List, [], ◌∷◌, replicate, Option, Some, None, IfSome, arith, ap, refl, slice_get, sym, subst}
 use Rattle.tt_calls.specs.declared.start.Start.TheVariants as start
+use Rattle.laws_runs.proofs.Lawful.{lawful_law}
 use Rattle.tt_core.proofs.ActionLemmas as actions
-use Rattle.tt_core.proofs.ActionLemmas.{some-none, told-map}
+use Rattle.tt_core.proofs.ActionLemmas.{told-map}
+use Rattle.tt_core.proofs.StepLemmas.{some-none}
 use Rattle.tt_core.specs.Faithful.{IsFaithful, is_cut}
 use Rattle.tt_core.specs.inside.Standing.{IsAt}
 use Rattle.tt_run.specs.Desk.{Ground, input_left}
@@ -110,6 +112,7 @@ module _ {S K E : Type 0} (source : OfSource S) (output : OfSink K) (errors : Of
               (ends-of begun.steps desk.schedule desk.kept desk.shared (input_left source.held desk.devices) end machine tied.counted.kept standing.1.at);
           left = rw devices.0 standing.1.input;
         });
+    lawful = lawful_law begun.setup ran.schedule.threads;
   }
 
   finished-none : (begun : Beginning S K E) (desk : Ground S K E) (places : List Place) (notes : List (Note S K E)) (ran : Ran S K E)
@@ -135,6 +138,7 @@ module _ {S K E : Type 0} (source : OfSource S) (output : OfSink K) (errors : Of
           ends = rw is tt;
           left = rw devices.0 standing.1.input;
         });
+    lawful = lawful_law begun.setup ran.schedule.threads;
   }
 
   pub finished : (begun : Beginning S K E) (desk : Ground S K E) (places : List Place) (end : Option RunEnd) (notes : List (Note S K E)) (ran : Ran S K E)
@@ -157,6 +161,7 @@ module _ {S K E : Type 0} (source : OfSource S) (output : OfSink K) (errors : Of
     reads = rw (is, devices.0) refl;
     writes = rw (is, devices.1, devices.2) (refl, refl);
     in_machine = by-told (source.held begun.devices.input) refl;
+    lawful = lawful_law begun.setup ran.schedule.threads;
   }
     where
       by-told : (told : Option (List ℕ)) → source.held begun.devices.input ≡ told → IfSome told (λ bytes. EndsInMachine source output errors begun bytes ran)

@@ -7,7 +7,8 @@ use Rattle.tt_calls.specs.Numbers.{at_number}
 use Rattle.tt_calls.specs.declared.reply.Reply.{Reply}
 use Rattle.tt_calls.specs.declared.request.Request.{Request}
 use Rattle.tt_core.proofs.ActionLemmas as actions
-use Rattle.tt_core.proofs.ActionLemmas.{Failed, Stood, able, barred-asking, could-be, met, restood, some-none}
+use Rattle.tt_core.proofs.ActionLemmas.{Failed, Stood, met, restood}
+use Rattle.tt_core.proofs.StepLemmas.{able, AsksIn, barred-asking, could-be, some-none}
 use Rattle.tt_core.proofs.PlaceLemmas.{each-at, each-none}
 use Rattle.tt_core.specs.inside.Crew.{AsksNothing}
 use Rattle.tt_core.specs.inside.Standing.{IsIts}
@@ -198,9 +199,9 @@ module _ {S K E : Type 0} (source : OfSource S) (output : OfSink K) (errors : Of
     reads = is.reads;
     writes = is.writes;
   }
-  counted-plain begun desk ends.Read plain is = absurd (actions.some-none plain)
-  counted-plain begun desk ends.Write plain is = absurd (actions.some-none plain)
-  counted-plain begun desk ends.Memory plain is = absurd (actions.some-none plain)
+  counted-plain begun desk ends.Read plain is = absurd (some-none plain)
+  counted-plain begun desk ends.Write plain is = absurd (some-none plain)
+  counted-plain begun desk ends.Memory plain is = absurd (some-none plain)
 
   -- memory was refused elsewhere
   counted-memory : (begun : Beginning S K E) (old new : Ground S K E) → new ≡ record old { kept = Some fault.NoMemory }
@@ -251,9 +252,9 @@ module _ {S K E : Type 0} (source : OfSource S) (output : OfSink K) (errors : Of
       → result ≡ Err is → is ≢ fault.NotEnabled → end_fault end ≡ Some is
       → FailsBy old new number request result
       → Counted begun old None → Counted begun new (Some end)
-  counted-fault begun old new number request result is (ends.Over code) room was other ended f counted = absurd (actions.some-none (sym ended))
-  counted-fault begun old new number request result is ends.Stuck room was other ended f counted = absurd (actions.some-none (sym ended))
-  counted-fault begun old new number request result is ends.Limit room was other ended f counted = absurd (actions.some-none (sym ended))
+  counted-fault begun old new number request result is (ends.Over code) room was other ended f counted = absurd (some-none (sym ended))
+  counted-fault begun old new number request result is ends.Stuck room was other ended f counted = absurd (some-none (sym ended))
+  counted-fault begun old new number request result is ends.Limit room was other ended f counted = absurd (some-none (sym ended))
   counted-fault {T = T} begun old new number request result is ends.Read room was other ended f counted =
       let same : fault.ReadFault ≡ is = cc ended in
       let at : result ≡ Err fault.ReadFault = was ∙ ap Err (sym same) in
@@ -394,7 +395,7 @@ module _ {S K E : Type 0} (source : OfSource S) (output : OfSink K) (errors : Of
     standing =
         let reply = (act old.shared number request happens.0).gives.reply in
         let out = subst (λ (r : Reply). HandsOut number pass r places replies.mid task) happens.2.reply replies.out in
-        let asks = subst (λ (one : Request). actions.AsksIn (AreWhere notes places) number one (serving_of interp.standing)) (sym asked)
+        let asks = subst (λ (one : Request). AsksIn (AreWhere notes places) number one (serving_of interp.standing)) (sym asked)
         (asks-parked notes number places interp found) in
         actions.acted source.held output.got errors.got begun.setup begun.devices old new number request (serving_of interp.standing) happens.0
         (AreWhere notes places) (AreWhere (slice_set notes (pass - 1) (record { begun = begun; out = task })) later) can asks happens.1 goes
@@ -418,7 +419,7 @@ module _ {S K E : Type 0} (source : OfSource S) (output : OfSink K) (errors : Of
     same_run = same-run begun notes i (record { begun = begun; out = None }) refl tied.same_run;
     counted = counted-memory begun new last is_last (counted-step begun old new number room happens.1.entry goes steady tied.counted);
     standing =
-        let asks = subst (λ (one : Request). actions.AsksIn (AreWhere notes places) number one (serving_of interp.standing)) (sym asked)
+        let asks = subst (λ (one : Request). AsksIn (AreWhere notes places) number one (serving_of interp.standing)) (sym asked)
         (asks-parked notes number places interp found) in
         actions.acted-without-memory source.held output.got errors.got begun.setup begun.devices old new last number request
         (serving_of interp.standing) happens.0
@@ -435,8 +436,8 @@ module _ {S K E : Type 0} (source : OfSource S) (output : OfSink K) (errors : Of
       → Stood source.held output.got errors.got begun.setup begun.devices new (IsEnd begun.steps new.schedule end)
   fault-standing begun old new places notes number request interp result is end found asked was other ended f stood = by-end end ended
     where
-      asks : actions.AsksIn (AreWhere notes places) number request (serving_of interp.standing)
-      asks = subst (λ (one : Request). actions.AsksIn (AreWhere notes places) number one (serving_of interp.standing)) (sym asked)
+      asks : AsksIn (AreWhere notes places) number request (serving_of interp.standing)
+      asks = subst (λ (one : Request). AsksIn (AreWhere notes places) number one (serving_of interp.standing)) (sym asked)
           (asks-parked notes number places interp found)
 
       failed : Stood source.held output.got errors.got begun.setup begun.devices new (AreWhere notes places)
@@ -464,9 +465,9 @@ module _ {S K E : Type 0} (source : OfSource S) (output : OfSink K) (errors : Of
 
       by-end : (one : RunEnd) → end_fault one ≡ Some is
           → Stood source.held output.got errors.got begun.setup begun.devices new (IsEnd begun.steps new.schedule one)
-      by-end (ends.Over code) comes = absurd (actions.some-none (sym comes))
-      by-end ends.Stuck comes = absurd (actions.some-none (sym comes))
-      by-end ends.Limit comes = absurd (actions.some-none (sym comes))
+      by-end (ends.Over code) comes = absurd (some-none (sym comes))
+      by-end ends.Stuck comes = absurd (some-none (sym comes))
+      by-end ends.Limit comes = absurd (some-none (sym comes))
       by-end ends.Read comes =
           let same : fault.ReadFault ≡ is = cc comes in
           let at : result ≡ Err fault.ReadFault = was ∙ ap Err (sym same) in

@@ -1,7 +1,7 @@
 -- A turn, put together of its rounds.
 use Rattle.std.proofs.Common.{◌≡◌, ◌∙◌, ◌-◌, ℕ, true, false, IsSome, IsTrue, List, [], ◌++◌, Option, Some, None, ap, append-nil}
 use Rattle.std.proofs.Common.{append_assoc, refl, slice_set, sym, subst}
-use Rattle.tt_core.proofs.ActionLemmas.{some-none}
+use Rattle.tt_core.proofs.StepLemmas.{some-none}
 use Rattle.tt_run.specs.Desk.{Ground}
 use Rattle.tt_devices.specs.declared.sink.Sink.{Ghosts as OfSink}
 use Rattle.tt_devices.specs.declared.source.Source.{Ghosts as OfSource}

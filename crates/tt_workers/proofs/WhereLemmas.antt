@@ -4,7 +4,8 @@ use Rattle.std.proofs.Common.{None, ap, append_assoc, inl, inr, refl, slice_get,
 use Rattle.tt_calls.specs.Numbers.{at_number}
 use Rattle.tt_calls.specs.declared.reply.Reply.{Reply}
 use Rattle.tt_calls.specs.declared.request.Request.{Request}
-use Rattle.tt_core.proofs.ActionLemmas.{AsksIn, Becomes}
+use Rattle.tt_core.proofs.ActionLemmas.{Becomes}
+use Rattle.tt_core.proofs.StepLemmas.{AsksIn}
 use Rattle.tt_core.proofs.CrewLemmas.{goes-placed, stands-asking}
 use Rattle.tt_core.proofs.PlaceLemmas.{each-at, each-map, each-map-at, each-set, joined-each, made-map, told-is}
 use Rattle.tt_core.specs.inside.Crew.{AllMade, AreEach, StandsIn}

@@ -1,5 +1,6 @@
 -- What a run on workers leaves.
 use Rattle.std.specs.Prelude.{◌≡◌, ◌≤◌, ℕ, List, [], length, Option, Some, None, IfSome}
+use Rattle.laws_runs.specs.Lawful.{Lawful}
 use Rattle.tt_core.specs.Faithful.{IsFaithful, is_cut}
 use Rattle.tt_core.specs.Parts.{HoldsLastPart}
 use Rattle.tt_core.specs.Stage.{Began}
@@ -37,7 +38,8 @@ module _ {S K E : Type 0} (source : OfSource S) (output : OfSink K) (errors : Of
     pub left : HoldsLastPart (source.held ran.input) machine.input
 
   -- The steps are as many as there may be at most, and nothing was written without a step. A device's count of faults
-  -- rose exactly if the end says so. If the bytes of standard input are known, there is that machine.
+  -- rose exactly if the end says so. If the bytes of standard input are known, there is that machine. Whatever they
+  -- are, the run is lawful.
   pub record IsRan (begun : Beginning S K E) (ran : Ran S K E) : Type 0 where
     pub within : length ran.schedule.threads ≤ begun.steps
     pub no_output : ran.schedule.threads ≡ [] → ran.output ≡ begun.devices.output
@@ -48,3 +50,4 @@ module _ {S K E : Type 0} (source : OfSource S) (output : OfSink K) (errors : Of
         WritesCount (Some ran.end) (output.fault_count begun.devices.output) (output.fault_count ran.output)
         (errors.fault_count begun.devices.errors) (errors.fault_count ran.errors)
     pub in_machine : IfSome (source.held begun.devices.input) (λ bytes. EndsInMachine begun bytes ran)
+    pub lawful : Lawful begun.setup ran.schedule.threads

@@ -1,4 +1,4 @@
-use Rattle.tt_session.proofs.AnswerLemmas.{replay_law}
+use Rattle.tt_session.proofs.ReplayLemmas.{replay_law}
 use Rattle.tt_session.proofs.laws.recorded_runs_are_replayed.Goals as goal
 
 pub returns : goal.returns

@@ -1,8 +1,9 @@
 use Rattle.std.proofs.Common.{◌≡◌, ◌∙◌, ◌<◌, false, None, Err, ap, is_err, length, subst, sym}
+use Rattle.laws_runs.proofs.Lawful.{lawful_law}
 use Rattle.tt_core.specs.inside.Crew.{AllBegin, IsReplied, Places, asked_by}
 use Rattle.tt_core.specs.Stage.{Stage}
 use Rattle.tt_schedule.specs.ScheduleText.{most_steps}
-use Rattle.tt_core.proofs.ActionLemmas.{could-be, on-ok}
+use Rattle.tt_core.proofs.StepLemmas.{could-be, on-ok}
 use Rattle.tt_core.proofs.StandLemmas.{asked-could, asked-line, failed, keeps-to, ran-out, unable, unasked, went-on, wrote}
 use Rattle.tt_core.proofs.system.System.step.Goals as goal
 use Rattle.tt_run.specs.declared.fault.StepFault.TheVariants as fault
@@ -120,3 +121,6 @@ returns-else-is_err-clause-orderly g c =
     c.in-Some-request.ensures.asks c.in-Ok.ensures.able c.in-Ok.ensures.acts
     (subst (λ (stage : Stage g.row.S.Denot g.row.K.Denot g.row.E.Denot). length stage.desk.schedule < most_steps) (sym c.self.view_is)
     c.requires) c.self.invariant)
+
+pub returns-else-is_err-clause-lawful : goal.returns-else-is_err-clause-lawful
+returns-else-is_err-clause-lawful g c = lawful_law _ _

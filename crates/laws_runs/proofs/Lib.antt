@@ -1,0 +1,5 @@
+pub mod Begun
+pub mod Finished
+pub mod Lawful
+pub mod Places
+pub mod Threads
