@@ -1,0 +1,3 @@
+pub mod TurnExamples
+pub mod Turns
+pub mod WorkedRuns
