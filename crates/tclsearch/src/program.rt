@@ -1,7 +1,7 @@
 ghost use Rattle.std.specs.Prelude.{◌≡◌, IfOk, IfErr, drop, map, string_bytes};
 ghost use Rattle.std.specs.Process.{exit_status};
 ghost use Rattle.std.specs.Vec.Iter.{into_iter_items};
-ghost use Rattle.tt_search.specs.Searched.{IsIdle, IsSearched, exit_of_search};
+ghost use Rattle.tt_search.specs.Searched.{IsIdle, IsSearched, PutsRefusal, exit_of_search};
 ghost use Rattle.tt_search.specs.declared.searched.SearchEnd.TheVariants.{Refused};
 ghost use Rattle.tt_session.specs.NoWords.{IsNoWords};
 ghost use Rattle.tt_session.specs.Status.{refused_status};
@@ -34,7 +34,8 @@ pub(crate) fn program<R: Threads + Sync + AllocGlobal, F: Files, S: Source, K: S
     ensures no_words { IfErr all (λ error. (why : Refusal) × IsNoWords error why
         × (result.1.end ≡ Refused (refused_status why))
         × IsIdle F.Files S.Source K.Sink E.Sink files.old files.new
-        (record { input = input; output = output; errors = errors }) result.1) }
+        (record { input = input; output = output; errors = errors }) result.1
+        × PutsRefusal E.Sink (refused_status why) errors result.1.errors) }
 {
     let left = call(rt, all, files, input, output, errors);
     (ExitCode::from(left.end.exit()), left)
@@ -55,7 +56,8 @@ fn call<R: Threads + Sync + AllocGlobal, F: Files, S: Source, K: Sink, E: Sink>(
     ensures no_words { IfErr all (λ error. (why : Refusal) × IsNoWords error why
         × (result.end ≡ Refused (refused_status why))
         × IsIdle F.Files S.Source K.Sink E.Sink files.old files.new
-        (record { input = input; output = output; errors = errors }) result) }
+        (record { input = input; output = output; errors = errors }) result
+        × PutsRefusal E.Sink (refused_status why) errors result.errors) }
 {
     let alloc = rt.alloc();
     match program_words(alloc, all) {

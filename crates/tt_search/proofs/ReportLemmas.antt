@@ -1,13 +1,15 @@
 -- That reports alone are put on standard error.
-use Rattle.std.proofs.Common.{◌≡◌, ℕ, List, [], ◌++◌, Option, None, Some, sym, subst, append-nil}
+use Rattle.std.proofs.Common.{◌≡◌, ℕ, List, [], ◌++◌, Option, None, Some, refl, sym, subst, append-nil}
 use Rattle.tt_devices.proofs.StreamLemmas.{Grows-append, Grows-same}
 use Rattle.tt_devices.specs.Memory.{Supply}
 use Rattle.tt_devices.specs.Streams.{Empties, GrowsByPart}
 use Rattle.tt_devices.specs.declared.sink.Sink.{Ghosts as OfSink}
-use Rattle.tt_search.specs.Searched.{IsReported, IsWholeInput}
+use Rattle.tt_search.specs.Searched.{IsReported, IsWholeInput, PutsRefusal}
 use Rattle.tt_session.specs.Lines.{PutsLine, line_of}
 use Rattle.tt_session.specs.Lines as line
 use Rattle.tt_session.specs.declared.status.Status.{Status}
+use Rattle.tt_session.specs.declared.status.Status.TheVariants.{Done, Usage, NoFile, BadSchedule, ScheduleEnded}
+use Rattle.tt_session.specs.declared.status.Status.TheVariants.{Stalled, StepLimit, ReadFault, WriteFault, NoMemory}
 
 pub no-report : (got : Option (List ℕ)) → IsReported got got
 no-report got = record { text = []; grew = Grows-same got }
@@ -28,6 +30,22 @@ line-report {E = E} errors before status old new (line.silent none same) =
     subst (λ (e : E). IsReported (errors.got old) (errors.got e)) (sym same) (no-report (errors.got old))
 line-report {E = E} errors before status old new (line.whole some grew steady) = record { text = line_of status; grew = grew }
 line-report {E = E} errors before status old new (line.part some grew rises) = part-report (errors.got old) (errors.got new) (line_of status) grew
+
+-- the line of a refusal, by whether it is one of wrong usage
+pub refusal-put : {E : Type 0} (errors : OfSink E) (status : Status) (old new : E)
+    → (status ≡ Usage → IsReported (errors.got old) (errors.got new))
+    → ((status ≡ Usage → ⊥) → PutsLine errors (errors.fault_count old) status old new)
+    → PutsRefusal errors status old new
+refusal-put errors Usage old new usage others = usage refl
+refusal-put errors (Done code) old new usage others = others (λ is. cc is)
+refusal-put errors (NoFile name) old new usage others = others (λ is. cc is)
+refusal-put errors (BadSchedule place) old new usage others = others (λ is. cc is)
+refusal-put errors ScheduleEnded old new usage others = others (λ is. cc is)
+refusal-put errors Stalled old new usage others = others (λ is. cc is)
+refusal-put errors (StepLimit steps) old new usage others = others (λ is. cc is)
+refusal-put errors ReadFault old new usage others = others (λ is. cc is)
+refusal-put errors WriteFault old new usage others = others (λ is. cc is)
+refusal-put errors NoMemory old new usage others = others (λ is. cc is)
 
 -- what was read of a source to its end is all that it held
 pub whole-input : (old new : Option (List ℕ)) (bytes : List ℕ) (supply : Supply) → Empties old new bytes → supply.left ≡ bytes → IsWholeInput old supply

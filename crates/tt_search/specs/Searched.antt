@@ -11,6 +11,7 @@ use Rattle.tt_search.specs.declared.searched.SearchEnd.TheVariants.{Sound, Found
 use Rattle.tt_search.specs.declared.searched.Searched.{Searched}
 use Rattle.tt_search_words.specs.Asked.{Search, WordsAskFor}
 use Rattle.tt_session.specs.Answer.{HasRun, IsRefusal}
+use Rattle.tt_session.specs.Lines.{PutsLine}
 use Rattle.tt_session.specs.Recording.{IsUnwritten}
 use Rattle.tt_session.specs.Status.{exit_of, refused_status}
 use Rattle.tt_session.specs.declared.ended.Ended.{Ended}
@@ -40,6 +41,11 @@ IsWholeInput known supply = IfSome known (λ bytes. supply.left ≡ bytes)
 abbrev pub in_memory : OfSource Supply
 in_memory = record { held = λ source. Some source.left; fault_count = λ source. source.plan.faults }
 
+-- what is put for a refusal: how the program is called, or the status line of `tclthread`
+abbrev pub PutsRefusal : {E : Type 0} → OfSink E → Status → (old new : E) → Type 0
+PutsRefusal errors status.Usage old new = IsReported (errors.got old) (errors.got new)
+PutsRefusal errors end old new = PutsLine errors (errors.fault_count old) end old new
+
 module _ {F S K E : Type 0} (files : OfFiles F) (source : OfSource S) (output : OfSink K) (errors : OfSink E) where
   -- The find: after the reports so far, a run of the script as its words say, over all of standard input, which is
   -- recorded as any run is; and the reports after it.
@@ -67,9 +73,11 @@ module _ {F S K E : Type 0} (files : OfFiles F) (source : OfSource S) (output : 
     -- the script is missing or can't be read, or memory for it was refused
     refused : (why : Refusal) → IsRefusal files (plain search.plain) why old new →
         left.end ≡ Refused (refused_status why) → IsIdle old new began left →
+        PutsRefusal errors (refused_status why) began.errors left.errors →
         AnswersSearch search old new began left
     -- standard input can't be read, or is too long
     unread : left.end ≡ Refused status.ReadFault → IsIdle old new began left →
+        PutsRefusal errors status.ReadFault began.errors left.errors →
         AnswersSearch search old new began left
     no_memory : left.end ≡ Refused status.NoMemory → IsIdle old new began left →
         AnswersSearch search old new began left

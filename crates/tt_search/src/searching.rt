@@ -1,6 +1,6 @@
-ghost use Rattle.std.specs.Prelude.{◌≡◌, ◌≤◌, map, string_bytes};
+ghost use Rattle.std.specs.Prelude.{◌≡◌, ◌≤◌, ◌↔◌, IsTrue, map, string_bytes};
 ghost use Rattle.tt_schedule.specs.ScheduleText.{most_steps};
-ghost use Rattle.tt_search.specs.Searched.{AnswersSearch, IsReported, IsSearched};
+ghost use Rattle.tt_search.specs.Searched.{AnswersSearch, IsReported, IsSearched, PutsRefusal};
 ghost use Rattle.tt_search.specs.inside.Shown.{HasShown, IsInRange};
 ghost use Rattle.tt_search_words.specs.CodeValues.{search_as_text};
 ghost use Rattle.tt_session.specs.Asking.{BeginsPlain};
@@ -67,22 +67,42 @@ fn refuse_words<S, K, E: Sink>(input: S, output: K, errors: E) -> Searched<S, K,
     }
 }
 
-/// What is left if there is no search for this reason: the status of a call of `tclthread`, and its line.
+/// What is left if there is no search for this reason: the status of a call of `tclthread`, and its line. Of wrong usage
+/// the line is how this program is called.
 pub fn refuse<S, K, E: Sink>(why: Refusal, input: S, output: K, errors: E) -> Searched<S, K, E>
     ensures end { result.end ≡ SearchEnd.Refused (refused_status why) }
     ensures output { result.output ≡ output }
     ensures reported { IsReported (E.got errors) (E.got result.errors) }
+    ensures line { PutsRefusal E.Sink (refused_status why) errors result.errors }
 {
     let mut errors = errors;
-    let before = errors.faults();
     let status = why.status();
-    put_status(&status, before, &mut errors);
+    put_refusal(&status, &mut errors);
     Searched {
         end: SearchEnd::Refused(status),
         input,
         output,
         errors,
     }
+}
+
+/// Puts the line of a refusal.
+fn put_refusal<E: Sink>(status: &Status, errors: &mut E)
+    ensures reported { IsReported (E.got errors.old) (E.got errors.new) }
+    ensures line { PutsRefusal E.Sink status.now errors.old errors.new }
+{
+    let before = errors.faults();
+    if is_usage(status) {
+        report_usage(errors);
+    } else {
+        put_status(status, before, errors);
+    }
+}
+
+fn is_usage(status: &Status) -> bool
+    ensures { IsTrue result ↔ (status.now ≡ Status.Usage) }
+{
+    matches!(status, Status::Usage)
 }
 
 /// Makes the search that is asked for.

@@ -10,7 +10,7 @@ returns-in-Err g c =
       output_is = c.refuse.ensures.output;
       reported = c.refuse.ensures.reported;
       unwritten = record { same = c.in-Err.ensures.same; steady = c.in-Err.ensures.no_write };
-    })
+    }) c.refuse.ensures.line
 
 pub returns-in-Err-NoMemory : goal.returns-in-Err-NoMemory
 returns-in-Err-NoMemory g c =
@@ -26,7 +26,7 @@ returns-in-Err-read_whole g c =
       output_is = c.refuse-in-Err-read_whole.ensures.output;
       reported = c.refuse-in-Err-read_whole.ensures.reported;
       unwritten = record { same = c.in-Ok.ensures.same; steady = c.in-Ok.ensures.no_write };
-    })
+    }) c.refuse-in-Err-read_whole.ensures.line
 
 pub returns-in-Err-find : goal.returns-in-Err-find
 returns-in-Err-find g c =
