@@ -1,0 +1,11 @@
+pub mod Answered
+pub mod Flows
+pub mod Mailed
+pub mod Named
+pub mod Names
+pub mod Pools
+pub mod Posts
+pub mod Runs
+pub mod SameEvents
+pub mod Silent
+pub mod Variables

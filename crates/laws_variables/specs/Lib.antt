@@ -1,0 +1,3 @@
+pub mod VariableEvents
+pub mod VariableExamples
+pub mod VariableNames
