@@ -1,5 +1,6 @@
 -- Each thread of a run that has not ended asks something.
-use Rattle.std.proofs.Common.{◌≡◌, ◌⊎◌, ◌∙◌, ◌-◌, ◌==◌, if◌then◌else◌, slice_get, ℕ, Bool, true, false, List, [], ◌∷◌, ◌++◌, Option, Some, None, inl, inr, refl, sym, subst}
+use Rattle.std.proofs.Common.{◌≡◌, ◌⊎◌, ◌∙◌, ◌-◌, ◌==◌, if◌then◌else◌, slice_get, ℕ, Bool, true, false, List}
+use Rattle.std.proofs.Common.{[], ◌∷◌, ◌++◌, Option, Some, None, inl, inr, refl, sym, subst}
 use Rattle.laws_answers.proofs.Whole.{always_asks_on}
 use Rattle.laws_living.proofs.Ended.{is_there, last_request, moves_stay}
 use Rattle.laws_living.specs.Living.{IsWaiting, LivingLaw}
