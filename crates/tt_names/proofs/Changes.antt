@@ -7,6 +7,9 @@ use Rattle.std.specs.List.{IsDistinct, list_any}
 use Rattle.std.specs.Map.{keys_of}
 use Rattle.std.proofs.lemmas.Cmp.{nat_list_eq_equiv}
 use Rattle.std.proofs.lemmas.Map.Keys.{IsDistinct-push}
+use Rattle.std.proofs.lemmas.Map.Entries.{length-keys_of}
+use Rattle.std.proofs.lemmas.Option.{slice_get_within}
+use Rattle.std.proofs.lemmas.Slice.Eq.{bytes_eq-Decides}
 use Rattle.indexmap.specs.IndexMap.{set_value_at}
 use Rattle.indexmap.proofs.MapLemmas.{absent_from_lookup, index-first, insert_entry-absent}
 use Rattle.indexmap.proofs.RemoveLemmas.{Out, own_first, shift_out}
@@ -118,6 +121,40 @@ there : {X : Type 0} (names : List (Name × X)) (place : ℕ) → place < length
 there [] place within = absurd (omega (arith, within))
 there (pair ∷ names) zero within = (pair, refl)
 there (pair ∷ names) (suc place) within = there names place (omega (arith, within))
+
+-- ---- a name at a place ----
+
+pub key_there : {X : Type 0} (pairs : List (Name × X)) (place : ℕ) (pair : Name × X) → place < length pairs
+    → pair ≡ slice_index_or pairs place pair → slice_get (keys_of pairs) place ≡ Some pair.0
+key_there [] place pair within is = absurd (omega (arith, within))
+key_there (first ∷ pairs) zero pair within is = ap (λ found. Some found.0) (sym is)
+key_there (first ∷ pairs) (suc place) pair within is = key_there pairs place pair (omega (arith, within)) is
+
+pub key_nowhere : {X : Type 0} (pairs : List (Name × X)) (place : ℕ) → ¬ (place < length pairs) → slice_get (keys_of pairs) place ≡ None
+key_nowhere [] zero beyond = refl
+key_nowhere [] (suc place) beyond = refl
+key_nowhere (first ∷ pairs) zero beyond = absurd (beyond (omega arith))
+key_nowhere (first ∷ pairs) (suc place) beyond = key_nowhere pairs place (λ within. beyond (omega (arith, within)))
+
+key_of : {X : Type 0} (names : List (Name × X)) (place : ℕ) (pair : Name × X) (key : Name) →
+    slice_get names place ≡ Some pair → slice_get (keys_of names) place ≡ Some key → pair.0 ≡ key
+key_of [] zero pair key at is = absurd (cc)
+key_of [] (suc place) pair key at is = absurd (cc)
+key_of (first ∷ names) zero pair key at is = cc
+key_of (first ∷ names) (suc place) pair key at is = key_of names place pair key at is
+
+module _ {X : Type 0} (names : List (Name × X)) (name key : Name) (place : ℕ) (at : slice_get (keys_of names) place ≡ Some key) where
+  pub near_within : place < length names
+  near_within = omega (arith, slice_get_within (keys_of names) place key at, length-keys_of names)
+
+  -- no other name is the one at a place
+  pub found_near : NamesDiffer names → bytes_eq key name ≡ true → Some place ≡ place_of names name
+  found_near differ same_bytes =
+      let found = there names place near_within in
+      let pair = found.0 in
+      let is : pair.0 ≡ name = key_of names place pair key found.1 at ∙ (bytes_eq-Decides key name).0 same_bytes in
+      let first = index-first (bytes_eq pair.0) names place (own_first bytes_eq same names place pair.0 pair.1 differ found.1) in
+      sym (subst (λ own. place_of names own ≡ Some place) is first)
 
 module _ {X : Type 0} (names new : List (Name × X)) (place : ℕ) (is : new ≡ remove names place) (differ : NamesDiffer names) where
   pub less_differ : place < length names → NamesDiffer new

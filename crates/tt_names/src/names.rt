@@ -56,6 +56,14 @@ impl<V> Names<V> {
         Some(item)
     }
 
+    /// The same as `get`. The place `hint` is looked at first: if the name stands there, nothing is searched.
+    pub fn get_near(&self, name: &Text, hint: usize) -> Option<&V>
+        ensures item { option_copied result ≡ under self.now name.now }
+    {
+        let (_, item) = self.find_near(name, hint)?;
+        Some(item)
+    }
+
     /// The place of a name and what stands there, or `None` exactly if there is no such name.
     #[tactic(auto, using(crate::proofs::Places::stands_at, crate::proofs::Places::stands_nowhere))]
     pub fn find(&self, name: &Text) -> Option<(usize, &V)>
@@ -66,12 +74,33 @@ impl<V> Names<V> {
         Some((place, self.storage.item(place)))
     }
 
+    /// The same as `find`. The place `hint` is looked at first: if the name stands there, nothing is searched.
+    #[tactic(auto, using(crate::proofs::Places::stands_at, crate::proofs::Places::stands_nowhere))]
+    pub fn find_near(&self, name: &Text, hint: usize) -> Option<(usize, &V)>
+        ensures place { option_map (λ found. found.0) result ≡ place_of self.now name.now }
+        ensures item { option_map (λ found. found.1.now) result ≡ under self.now name.now }
+    {
+        let place = self.storage.place_near(name, hint)?;
+        Some((place, self.storage.item(place)))
+    }
+
     /// What stands under a name, to be changed, or `None` exactly if nothing does.
     pub fn get_mut(&mut self, name: &Text) -> Option<&mut V>
         ensures* lent { sem 𝓛 (lends_name V.row self.entry name.now result) }
         ensures item { option_copied_mut result ≡ under self.old name.now }
     {
         match self.storage.place(name) {
+            Some(place) => Some(self.item_mut(place)),
+            None => None,
+        }
+    }
+
+    /// The same as `get_mut`. The place `hint` is looked at first: if the name stands there, nothing is searched.
+    pub fn get_mut_near(&mut self, name: &Text, hint: usize) -> Option<&mut V>
+        ensures* lent { sem 𝓛 (lends_name V.row self.entry name.now result) }
+        ensures item { option_copied_mut result ≡ under self.old name.now }
+    {
+        match self.storage.place_near(name, hint) {
             Some(place) => Some(self.item_mut(place)),
             None => None,
         }

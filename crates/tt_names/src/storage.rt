@@ -1,6 +1,7 @@
 ghost use Rattle.std.specs.Prelude.{◌≡◌, ◌<◌, [], None, Some, length, remove, slice_get, IfSome, OnErr, OnOk};
 ghost use Rattle.std.specs.Borrow.{sem};
-ghost use Rattle.std.specs.Map.{values_of};
+ghost use Rattle.std.specs.Map.{keys_of, values_of};
+ghost use Rattle.std.specs.Option.{option_copied};
 ghost use Rattle.tt_names.specs.Names.{NamesDiffer, place_of, under, with_name};
 ghost use Rattle.tt_names.specs.inside.Lent.{lends_stored};
 ghost use Rattle.tt_names.specs.inside.Stored.{stored_pairs};
@@ -51,6 +52,33 @@ impl<V> Storage<V> {
         match self {
             Storage::Few(pairs) => few::place_of(pairs.as_slice(), name),
             Storage::Many(map) => map.get_index_of(name),
+        }
+    }
+
+    /// Which of the names it is, counted from 0: the one at this place is looked at first.
+    pub(crate) fn place_near(&self, name: &Text, hint: usize) -> Option<usize>
+        requires differ { NamesDiffer (stored_pairs self.now) }
+        ensures place { result ≡ place_of (stored_pairs self.now) name.now }
+        ensures within { IfSome result (λ place. place < length (stored_pairs self.now)) }
+    {
+        match self.name_at(hint) {
+            Some(there) if *there == *name => Some(hint),
+            _ => self.place(name),
+        }
+    }
+
+    // The name at a place, if there is one.
+    #[tactic(auto, using(crate::proofs::Changes::key_there, crate::proofs::Changes::key_nowhere))]
+    fn name_at(&self, place: usize) -> Option<&Text>
+        ensures name { option_copied result ≡ slice_get (keys_of (stored_pairs self.now)) place }
+    {
+        match self {
+            Storage::Few(pairs) if place < pairs.len() => Some(&pairs[place].0),
+            Storage::Few(_) => None,
+            Storage::Many(map) => {
+                let (name, _) = map.get_index(place)?;
+                Some(name)
+            }
         }
     }
 

@@ -5,24 +5,31 @@ use std::marker::Model;
 /// How many bytes a text keeps in place.
 pub(crate) const ROOM: usize = 14;
 
+/// Room for 14 bytes, and how many of them are there.
+#[derive(Clone, Copy, Debug)]
+struct Room {
+    len: u8,
+    bytes: [u8; ROOM],
+}
+
 /// At most 14 bytes, in place. Contracts see the list.
 ///
 /// What the room has beyond them is 0, so that two are compared by their rooms.
 #[derive(Debug, Drop)]
 pub(crate) struct Few {
-    len: u8,
-    room: [u8; ROOM],
+    room: Room,
 }
 
 impl Model for Few {
-    ghost use Rattle.std.specs.Prelude.{ℕ, List, take, ◌≤◌};
+    ghost use Rattle.std.specs.Prelude.{ℕ, List, length, take, ◌≡◌, ◌≤◌};
     ghost use Rattle.tt_text.specs.inside.Room.{IsRoom};
 
     ghost Value = { List ℕ };
 
-    ghost view = { λ few. take few.len few.room };
+    ghost view = { λ few. take few.room.len few.room.bytes };
 
-    ghost invariant = { λ few. (few.len ≤ 14) × IsRoom few.len few.room };
+    ghost invariant = { λ few.
+        (few.room.len ≤ 14) × (length few.room.bytes ≡ 14) × IsRoom few.room.len few.room.bytes };
 }
 
 impl Few {
@@ -30,24 +37,25 @@ impl Few {
         ensures empty { result ≡ [] }
     {
         Few {
-            len: 0,
-            room: [0; ROOM],
+            room: Room {
+                len: 0,
+                bytes: [0; ROOM],
+            },
         }
     }
 
     pub(crate) fn as_slice(&self) -> &[u8]
         ensures bytes { result.now ≡ self.now }
     {
-        &self.room[..usize::from(self.len)]
+        &self.room.bytes[..usize::from(self.room.len)]
     }
 
+    /// A second one of the same bytes: the whole room is copied at once.
+    #[inline]
     pub(crate) fn copy(&self) -> Self
         ensures copied { result ≡ self.now }
     {
-        Few {
-            len: self.len,
-            room: self.room,
-        }
+        Few { room: self.room }
     }
 
     /// Whether the other has the same bytes.
@@ -55,23 +63,23 @@ impl Few {
     pub(crate) fn is_same(&self, other: &Few) -> bool
         ensures same { result ≡ bytes_eq self.now other.now }
     {
-        self.len == other.len && self.room == other.room
+        self.room.len == other.room.len && self.room.bytes == other.room.bytes
     }
 
     // How many bytes more there is room for.
     pub(crate) fn spare(&self) -> usize
         ensures spare { result + length self.now ≡ ROOM }
     {
-        ROOM - usize::from(self.len)
+        ROOM - usize::from(self.room.len)
     }
 
     pub(crate) fn push(&mut self, bytes: &[u8])
         requires fits { length self.old + length bytes.now ≤ ROOM }
         ensures pushed { self.new ≡ self.old ++ bytes.now }
     {
-        let start = usize::from(self.len);
-        write_at(&mut self.room, start, bytes);
-        self.len += bytes.len() as u8;
+        let start = usize::from(self.room.len);
+        write_at(&mut self.room.bytes, start, bytes);
+        self.room.len += bytes.len() as u8;
     }
 }
 

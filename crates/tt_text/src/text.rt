@@ -1,4 +1,5 @@
-ghost use Rattle.std.specs.Prelude.{◌≡◌, ◌++◌, ◌≤◌, [], bytes_eq, length, IfOk, OnOk, OnErr, ◌↔◌, IsTrue};
+ghost use Rattle.std.specs.Prelude.{◌≡◌, ◌+◌, ◌<◌, ◌++◌, ◌∷◌, ◌≤◌, [], vec_len, vec_capacity, bytes_eq, length, IfOk, OnOk, OnErr, ◌↔◌, IsTrue};
+ghost use Rattle.std.specs.Arc.{arc_value};
 ghost use Rattle.std.specs.List.{list_all};
 ghost use Rattle.tt_text.specs.Characters.{begins_character, characters};
 ghost use Rattle.tt_text.specs.inside.TextBytes.{bytes_of};
@@ -158,6 +159,26 @@ impl Text {
         push_stored(self.alloc, &mut self.storage, bytes)
     }
 
+    /// Puts a copy at the end of a list that has room for it. The copy of a short text goes straight to its place.
+    #[inline]
+    pub(crate) fn push_copy(&self, items: &mut Vec<Text>) -> Result<(), NoMemory>
+        requires room { vec_len items.old < vec_capacity items.old }
+        ensures pushed { OnOk result (items.new.items ≡ items.old.items ++ self.now ∷ []) }
+        ensures unchanged { OnErr result (items.new.items ≡ items.old.items) }
+        ensures len { OnOk result (vec_len items.new ≡ vec_len items.old + 1) }
+        ensures capacity { vec_capacity items.new ≡ vec_capacity items.old }
+    {
+        let alloc = self.alloc;
+        match &self.storage {
+            Storage::Short(few) => {
+                let storage = Storage::Short(few.copy());
+                items.push_reserved(Text { alloc, storage });
+                Ok(())
+            }
+            Storage::Long(shared) => push_shared(alloc, shared, items),
+        }
+    }
+
     /// A second text of the same bytes. It takes no allocation.
     ///
     /// `NoMemory` if there are too many copies.
@@ -171,6 +192,7 @@ impl Text {
 impl Clone for Text {
     ghost is_clone = { λ text copy. copy ≡ text };
 
+    #[inline]
     fn clone(&self) -> Result<Self, AllocError> {
         let storage = match &self.storage {
             Storage::Short(few) => Storage::Short(few.copy()),
@@ -198,6 +220,20 @@ fn shared(alloc: Global, bytes: Vec<u8>) -> Result<Storage, NoMemory>
     ensures stored { IfOk result (λ storage. bytes_of storage ≡ bytes.items) }
 {
     Ok(Storage::Long(Arc::new(alloc, Many::from_vec(bytes))?))
+}
+
+// A text of these bytes goes to the end of a list. It is a function of its own, so that the way of short texts is short.
+#[inline(never)]
+fn push_shared(alloc: Global, shared: &Arc<Many>, items: &mut Vec<Text>) -> Result<(), NoMemory>
+    requires room { vec_len items.old < vec_capacity items.old }
+    ensures pushed { OnOk result (items.new.items ≡ items.old.items ++ arc_value shared.now ∷ []) }
+    ensures unchanged { OnErr result (items.new.items ≡ items.old.items) }
+    ensures len { OnOk result (vec_len items.new ≡ vec_len items.old + 1) }
+    ensures capacity { vec_capacity items.new ≡ vec_capacity items.old }
+{
+    let storage = Storage::Long(Arc::clone(shared)?);
+    items.push_reserved(Text { alloc, storage });
+    Ok(())
 }
 
 fn push_stored(alloc: Global, storage: &mut Storage, bytes: &[u8]) -> Result<(), NoMemory>

@@ -1,4 +1,4 @@
-ghost use Rattle.std.specs.Prelude.{◌≡◌, ◌++◌, ◌∷◌, [], IfOk, OnOk, OnErr};
+ghost use Rattle.std.specs.Prelude.{◌≡◌, ◌+◌, ◌≤◌, ◌++◌, ◌∷◌, [], length, take, vec_len, vec_capacity, IfOk, OnOk, OnErr};
 
 use crate::{NoMemory, Text};
 use std::alloc::Global;
@@ -45,9 +45,9 @@ impl Texts {
     pub fn from_copies(alloc: Global, texts: &[Text]) -> Result<Self, NoMemory>
         ensures copies { IfOk result (λ copies. copies ≡ texts.now) }
     {
-        Ok(Texts {
-            items: Vec::from_clones(alloc, texts)?,
-        })
+        let mut items = Vec::with_capacity(alloc, texts.len())?;
+        push_each(&mut items, texts)?;
+        Ok(Texts { items })
     }
 
     /// The texts, from the first to the last.
@@ -70,12 +70,18 @@ impl Texts {
 
     /// Adds copies of these texts at the end.
     ///
-    /// `NoMemory` if memory for them is refused; then some of them may be there.
+    /// `NoMemory` if memory for them is refused, or if there are too many copies of one; then the list is as it was.
     pub fn push_copies(&mut self, texts: &[Text]) -> Result<(), NoMemory>
         ensures pushed { OnOk result (self.new ≡ self.old ++ texts.now) }
+        ensures unchanged { OnErr result (self.new ≡ self.old) }
     {
-        self.items.extend_with_clones(texts)?;
-        Ok(())
+        let len = self.items.len();
+        self.items.reserve(texts.len())?;
+        let pushed = push_each(&mut self.items, texts);
+        if pushed.is_err() {
+            self.items.truncate(len);
+        }
+        pushed
     }
 
     /// The texts as a vector. None is copied.
@@ -93,4 +99,16 @@ impl From<Vec<Text>> for Texts {
     fn from(items: Vec<Text>) -> Self {
         Texts { items }
     }
+}
+
+// Copies of these texts go to the end of a list that has room for them; if memory is refused, some of them may be there.
+fn push_each(items: &mut Vec<Text>, texts: &[Text]) -> Result<(), NoMemory>
+    requires room { vec_len items.old + length texts.now ≤ vec_capacity items.old }
+    ensures pushed { OnOk result (items.new.items ≡ items.old.items ++ texts.now) }
+    ensures front { take (length items.old.items) items.new.items ≡ items.old.items }
+{
+    for text in texts {
+        text.push_copy(items)?;
+    }
+    Ok(())
 }

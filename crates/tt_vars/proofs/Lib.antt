@@ -1,8 +1,8 @@
 mod ChangeLemmas
-mod EndLemmas
-mod FollowLemmas
+pub mod EndLemmas
+pub mod FollowLemmas
 mod FoundLemmas
-mod FrameLemmas
-mod LinkLemmas
+pub mod FrameLemmas
+pub mod LinkLemmas
 mod SlotLemmas
-mod StandsLemmas
+pub mod StandsLemmas

@@ -57,20 +57,25 @@ impl Frame {
         self
     }
 
-    /// Where a link leads; None where the name is no link.
-    pub(crate) fn link(&self, name: &Text) -> Option<&Option<Place>>
+    /// Where a link leads; None where the name is no link. The name is looked for at the hint first, and the hint is
+    /// then the place of the name, if there is one.
+    pub(crate) fn link(&self, name: &Text, hint: &mut usize) -> Option<&Option<Place>>
         ensures link { option_copied result ≡ leads (variable_named self.now name.now) }
     {
-        match self.names.get(name)? {
+        let (place, variable) = self.names.find_near(name, *hint)?;
+        *hint = place;
+        match variable {
             Variable::Link(to) => Some(to),
             Variable::Scalar(_) | Variable::Array(_) => None,
         }
     }
 
-    /// The value of a name, or of its element; `missing` is the fault if there is no such name.
+    /// The value of a name, or of its element; `missing` is the fault if there is no such name. The name is looked for
+    /// at the hint first.
     pub(crate) fn read(
         &self,
         name: &Text,
+        hint: usize,
         index: Option<&Text>,
         missing: VarFault,
     ) -> Result<&Value, VarFault>
@@ -79,7 +84,7 @@ impl Frame {
         ensures fault { IfErr result (λ fault.
             reading_of missing (variable_named self.now name.now) (option_copied index.entry) ≡ Err fault) }
     {
-        match (self.names.get(name).ok_or(missing)?, index) {
+        match (self.names.get_near(name, hint).ok_or(missing)?, index) {
             (Variable::Scalar(value), None) => Ok(value),
             (Variable::Array(elements), Some(index)) => {
                 elements.get(index).ok_or(VarFault::NoSuchElement)
@@ -89,12 +94,13 @@ impl Frame {
         }
     }
 
-    /// Writes a value to a name, or to its element. A new name goes last.
+    /// Writes a value to a name, or to its element. A new name goes last. The name is looked for at the hint first.
     ///
     /// `NoMemory` if memory for it is refused; then the frame is as it was.
     pub(crate) fn write(
         &mut self,
         name: Text,
+        hint: usize,
         index: Option<Text>,
         value: Value,
     ) -> Result<Written, NoMemory>
@@ -105,7 +111,7 @@ impl Frame {
         ensures unchanged { OnErr result (self.new ≡ self.old) }
         ensures links { KeepsLinks self.old self.new }
     {
-        if let Some(variable) = self.names.get_mut(&name) {
+        if let Some(variable) = self.names.get_mut_near(&name, hint) {
             return write_to(variable, index, value);
         }
         let variable = first_written(self.names.alloc(), index, value)?;
@@ -128,12 +134,13 @@ impl Frame {
     }
 
     /// Finds what is read, written where it stands, or removed by a name; `missing` is the fault where there is no such
-    /// name.
+    /// name. The name is looked for at the hint first.
     ///
     /// `NoMemory` if there are too many copies of the index.
     pub(crate) fn find(
         &self,
         name: &Text,
+        hint: usize,
         index: Option<&Text>,
         missing: VarFault,
     ) -> Result<Result<Found, VarFault>, NoMemory>
@@ -154,7 +161,7 @@ impl Frame {
         ensures no_text { IfOk result (λ answer. IfErr answer (λ fault.
             reading_of missing (variable_named self.now name.now) (option_copied index.entry) ≡ Err fault)) }
     {
-        let variable = match self.place(name, index, missing) {
+        let variable = match self.place(name, hint, index, missing) {
             Ok(variable) => variable,
             Err(fault) => return Ok(Err(fault)),
         };
@@ -163,7 +170,13 @@ impl Frame {
     }
 
     // Which variable it is.
-    fn place(&self, name: &Text, index: Option<&Text>, missing: VarFault) -> Result<usize, VarFault>
+    fn place(
+        &self,
+        name: &Text,
+        hint: usize,
+        index: Option<&Text>,
+        missing: VarFault,
+    ) -> Result<usize, VarFault>
         ensures removed { IfOk result (λ place.
             frame_after_removal missing self.now name.now (variable_named self.now name.now) (option_copied index.entry)
             ≡ Ok (removed_in self.now place (slice_get (values_of self.now) place) (option_copied index.entry))) }
@@ -181,7 +194,7 @@ impl Frame {
         ensures no_text { IfErr result (λ fault.
             reading_of missing (variable_named self.now name.now) (option_copied index.entry) ≡ Err fault) }
     {
-        let (place, named) = self.names.find(name).ok_or(missing)?;
+        let (place, named) = self.names.find_near(name, hint).ok_or(missing)?;
         has_element(named, index)?;
         Ok(place)
     }

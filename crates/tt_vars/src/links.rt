@@ -15,9 +15,12 @@ pub(crate) struct Spot<'a> {
     pub(crate) frame: u64,
     pub(crate) name: &'a Text,
     pub(crate) index: Option<&'a Text>,
+    /// The place in the frame at which the name is looked for first. It has no meaning: another one costs time alone.
+    pub(crate) hint: usize,
 }
 
-/// What a name stands for after its links (upvar(n)); None if it would be an element of an element.
+/// What a name stands for after its links (upvar(n)); None if it would be an element of an element. Its hint is the
+/// place at which the name was found.
 pub(crate) fn follow<'a>(frames: &'a [Frame], spot: Spot<'a>) -> Option<Spot<'a>>
     requires ends { LinksEnd frames.now }
     requires there { spot.frame < length frames.now }
@@ -25,13 +28,14 @@ pub(crate) fn follow<'a>(frames: &'a [Frame], spot: Spot<'a>) -> Option<Spot<'a>
     ensures there { IfSome result (λ spot. spot.frame < length frames.now) }
 {
     let mut here = spot;
-    while let Some(to) = frame_in(frames, here.frame).link(here.name) {
+    let mut hint = spot.hint;
+    while let Some(to) = frame_in(frames, here.frame).link(here.name, &mut hint) {
         let Some(next) = onward(to, here.index) else {
             return None;
         };
         here = next;
     }
-    Some(here)
+    Some(Spot { hint, ..here })
 }
 
 /// The frame with a number.
@@ -56,6 +60,7 @@ fn onward<'a>(to: &'a Option<Place>, index: Option<&'a Text>) -> Option<Spot<'a>
         frame: to.frame,
         name: &to.name,
         index,
+        hint: 0,
     })
 }
 

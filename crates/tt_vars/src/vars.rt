@@ -95,7 +95,15 @@ impl Vars {
         ensures read { Reads self.now (place_of frame name.now (option_copied index.entry)) (lent_text result) }
     {
         let frames = self.frames.as_slice();
-        let spot = follow(frames, Spot { frame, name, index });
+        let spot = follow(
+            frames,
+            Spot {
+                frame,
+                name,
+                index,
+                hint: 0,
+            },
+        );
         read_spot(frames, index, spot)
     }
 
@@ -114,11 +122,20 @@ impl Vars {
             Writes self.old (place_of frame name.now (option_copied index.entry)) value self.new answer) }
         ensures unchanged { OnErr result (self.new ≡ self.old) }
     {
-        let spot = follow(self.frames.as_slice(), Spot { frame, name, index });
+        let spot = follow(
+            self.frames.as_slice(),
+            Spot {
+                frame,
+                name,
+                index,
+                hint: 0,
+            },
+        );
+        let hint = hint_of(spot);
         let Some(place) = owned(spot)? else {
             return Ok(Written::No(VarFault::NotArray));
         };
-        write_place(self.frames.as_mut_slice(), place, value)
+        write_place(self.frames.as_mut_slice(), place, hint, value)
     }
 
     /// Removes a name (unset(n)): what it stands for after its links, which stay.
@@ -192,6 +209,7 @@ impl Vars {
             frame: other,
             name: other_name,
             index: None,
+            hint: 0,
         };
         let whole = follow(frames, variable);
         let stands = follow(
@@ -224,6 +242,7 @@ impl Vars {
                 frame,
                 name: array,
                 index: None,
+                hint: 0,
             },
         );
         match spot {
@@ -232,6 +251,7 @@ impl Vars {
                     frame,
                     name,
                     index: None,
+                    ..
                 },
             ) => frame_in(frames, frame).names(name),
             _ => Ok(None),
@@ -250,6 +270,7 @@ impl Vars {
                 frame,
                 name: array,
                 index: None,
+                hint: 0,
             },
         );
         match spot {
@@ -258,6 +279,7 @@ impl Vars {
                     frame,
                     name,
                     index: None,
+                    ..
                 },
             ) => frame_in(frames, frame).size(name),
             _ => None,
@@ -278,11 +300,20 @@ impl Vars {
             (place_of 0 other.now (option_copied other_index.entry)) result }
     {
         let frames = self.frames.as_slice();
-        let stands = follow(frames, Spot { frame, name, index });
+        let stands = follow(
+            frames,
+            Spot {
+                frame,
+                name,
+                index,
+                hint: 0,
+            },
+        );
         let other = Spot {
             frame: 0,
             name: other,
             index: other_index,
+            hint: 0,
         };
         is_same(stands, follow(frames, other))
     }
@@ -321,7 +352,15 @@ impl Vars {
         ensures { IfOk result (FindsAt self.now (place_of frame name.now (option_copied index.entry))) }
     {
         let frames = self.frames.as_slice();
-        let spot = follow(frames, Spot { frame, name, index });
+        let spot = follow(
+            frames,
+            Spot {
+                frame,
+                name,
+                index,
+                hint: 0,
+            },
+        );
         find_spot(frames, index, spot)
     }
 }
@@ -338,6 +377,14 @@ fn taken_or_new(alloc: Global, spare: &mut Option<Frame>) -> Frame
     }
 }
 
+// Where what a name stands for is looked for first.
+fn hint_of(spot: Option<Spot>) -> usize {
+    match spot {
+        Some(spot) => spot.hint,
+        None => 0,
+    }
+}
+
 // The value of what a name with this index, or without, stands for.
 fn read_spot<'a>(
     frames: &'a [Frame],
@@ -350,7 +397,7 @@ fn read_spot<'a>(
     let Some(spot) = spot else {
         return Err(VarFault::NotArray);
     };
-    frame_in(frames, spot.frame).read(spot.name, spot.index, missing(index, spot.index))
+    frame_in(frames, spot.frame).read(spot.name, spot.hint, spot.index, missing(index, spot.index))
 }
 
 // Where the value is of what a name with this index, or without, stands for.
@@ -366,14 +413,20 @@ fn find_spot(
         return Ok(Err(VarFault::NotArray));
     };
     let frame = frame_in(frames, spot.frame);
-    match frame.find(spot.name, spot.index, missing(index, spot.index))? {
+    let missing = missing(index, spot.index);
+    match frame.find(spot.name, spot.hint, spot.index, missing)? {
         Ok(found) => Ok(Ok((spot.frame as usize, found))),
         Err(fault) => Ok(Err(fault)),
     }
 }
 
 // Writes a value to a place that is no link.
-fn write_place(frames: &mut [Frame], place: Place, value: Value) -> Result<Written, NoMemory>
+fn write_place(
+    frames: &mut [Frame],
+    place: Place,
+    hint: usize,
+    value: Value,
+) -> Result<Written, NoMemory>
     requires there { place.frame < length frames.old }
     requires ends { LinksEnd frames.old }
     ensures written { IfOk result (λ answer.
@@ -382,7 +435,7 @@ fn write_place(frames: &mut [Frame], place: Place, value: Value) -> Result<Writt
     ensures ends { LinksEnd frames.new }
 {
     let Place { frame, name, index } = place;
-    frames[frame as usize].write(name, index, value)
+    frames[frame as usize].write(name, hint, index, value)
 }
 
 // The answer of a link from a name to what another stands for; `whole` is what that stands for without its index.
