@@ -1,7 +1,7 @@
 -- Following links in a circle comes to no end.
 use Rattle.std.proofs.Common.{◌≡◌, ◌⊎◌, inl, inr, [], ◌∷◌, Option, Some, None, ap, codes, refl, sym, ◌∙◌}
 use Rattle.laws_answers.proofs.Answers.{good-kept}
-use Rattle.laws_answers.proofs.FrameLemmas.{none_is_some, same_some}
+use Rattle.tt_vars.proofs.FrameLemmas.{none_is_some, same_some}
 use Rattle.laws_answers.proofs.PureTable.{pure_answers}
 use Rattle.laws_answers.proofs.Standing.{stands}
 use Rattle.laws_answers.specs.Circles.{CirclesLaw, circle}

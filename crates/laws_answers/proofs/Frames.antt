@@ -4,8 +4,8 @@ use Rattle.std.proofs.Common.{Option, Some, None, bytes_eq, length, slice_set, r
 use Rattle.std.proofs.lemmas.List.{get_or-set_same, get_or-set_other}
 use Rattle.std.proofs.lemmas.Bool.{cases_eq}
 use Rattle.std.specs.Cmp.Lexicographic.{nat_list_eq_equiv, bytes_decides}
-use Rattle.laws_answers.proofs.EndLemmas.{ends-kept}
-use Rattle.laws_answers.proofs.FrameLemmas.{none_is_some}
+use Rattle.tt_vars.proofs.EndLemmas.{ends-kept}
+use Rattle.tt_vars.proofs.FrameLemmas.{none_is_some}
 use Rattle.tt_vars.specs.Links.{at, frame_at}
 use Rattle.tt_vars.specs.Variables.{Frame, Name, leads, variable_named, with, without}
 use Rattle.tt_vars.specs.declared.variable.Place.{Place}

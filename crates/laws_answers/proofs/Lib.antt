@@ -4,15 +4,11 @@ mod ArrayWrites
 mod Arrays
 mod Circles
 mod Dictionaries
-mod EndLemmas
-mod FollowLemmas
-mod FrameLemmas
 mod Frames
 mod Fronts
 mod Holding
 mod Kept
 mod Levels
-mod LinkLemmas
 mod Links
 mod Listed
 mod Moves
@@ -23,7 +19,6 @@ mod Scalars
 mod Sorted
 mod Splits
 mod Standing
-mod StandsLemmas
 mod Store
 mod Tables
 mod Totals

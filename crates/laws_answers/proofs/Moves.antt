@@ -1,7 +1,7 @@
 -- Links lead in no circle when frames come and go.
 use Rattle.std.proofs.Common.{◌≡◌, ◌⊎◌, inl, inr, ℕ, zero, suc, ◌<◌, List, [], ◌∷◌, ◌++◌, Some, take, refl, ap, sym, subst, ◌∙◌}
 use Rattle.laws_answers.proofs.Frames.{Once, Sound}
-use Rattle.laws_answers.proofs.FrameLemmas.{none_is_some}
+use Rattle.tt_vars.proofs.FrameLemmas.{none_is_some}
 use Rattle.tt_vars.specs.Links.{frame_at}
 use Rattle.tt_vars.specs.Variables.{Frame, Name, leads, variable_named}
 use Rattle.tt_vars.specs.declared.variable.Place.{Place}

@@ -4,7 +4,7 @@ use Rattle.std.proofs.Common.{Option, Some, None, IsTrue, length, take, get_or, 
 use Rattle.std.proofs.lemmas.Bool.{cases_lt, ltb-true, lt-ltb}
 use Rattle.std.proofs.lemmas.List.{get_or-append-add, get_or-take, get_or_append_left, get_or_past}
 use Rattle.std.specs.Prelude.{nat_le, nat_lt}
-use Rattle.laws_answers.proofs.FrameLemmas.{none_is_some, same_some}
+use Rattle.tt_vars.proofs.FrameLemmas.{none_is_some, same_some}
 use Rattle.tt_store.specs.Levels.{HasDepth, IsNested, Levels, above, caller_of, fits, levels_after, with_frames, with_procedure_level, with_script_in}
 use Rattle.tt_store.specs.declared.nesting.Begun.{Begun}
 use Rattle.tt_store.specs.declared.nesting.Begun.TheVariants.{Procedure, Script}

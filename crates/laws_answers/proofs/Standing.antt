@@ -1,6 +1,6 @@
 -- Following links comes to an end.
 use Rattle.std.proofs.Common.{◌≡◌, ℕ, zero, suc, ◌<◌, List, Option, Some, None, refl, arith}
-use Rattle.laws_answers.proofs.FollowLemmas.{left, step-smaller}
+use Rattle.tt_vars.proofs.FollowLemmas.{left, step-smaller}
 use Rattle.tt_vars.specs.Links.{StandsFor, at, itself, linked, nothing, onward}
 use Rattle.tt_vars.specs.Variables.{Frame, leads}
 use Rattle.tt_vars.specs.declared.variable.Place.{Place}

@@ -4,10 +4,10 @@ use Rattle.std.proofs.Common.{bytes_eq, length, slice_set, refl, ap, sym, subst,
 use Rattle.std.proofs.lemmas.List.{length-set}
 use Rattle.std.specs.Cmp.Lexicographic.{nat_list_eq_equiv}
 use Rattle.std.specs.Map.{lookup, remove_entry}
-use Rattle.laws_answers.proofs.EndLemmas.{ends-linked}
+use Rattle.tt_vars.proofs.EndLemmas.{ends-linked}
 use Rattle.laws_answers.proofs.Frames.{Once, Sound, keeps-gone, named-with, once-set, once-with, once-without, sound-set}
-use Rattle.laws_answers.proofs.LinkLemmas.{keeps-new, keeps-through}
-use Rattle.laws_answers.proofs.StandsLemmas.{can-link, stands-end, stands-lower}
+use Rattle.tt_vars.proofs.LinkLemmas.{keeps-new, keeps-through}
+use Rattle.tt_vars.proofs.StandsLemmas.{can-link, stands-end, stands-lower}
 use Rattle.tt_vars.specs.Links.{Links, Removed, Removes, StandsFor, Writes, at, frame_at, frames_after_link}
 use Rattle.tt_vars.specs.Links.{frames_after_removal, frames_after_write, link_answer}
 use Rattle.tt_vars.specs.Links.{missing, with_frame}

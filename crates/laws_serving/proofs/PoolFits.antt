@@ -2,7 +2,7 @@
 use Rattle.std.proofs.Common.{◌≡◌, ℕ, true, false, if◌then◌else◌, List, [], ◌∷◌, refl}
 use Rattle.laws_serving.proofs.Cases.{by_flags, by_found, by_if}
 use Rattle.laws_serving.proofs.Fitting.{Fits, FitsThen}
-use Rattle.laws_serving.specs.Requests.{is_ordinary}
+use Rattle.laws_serving.proofs.Fitting.{is_commanded}
 use Rattle.tt_calls.specs.declared.pool_call.PoolCall.TheVariants as pool
 use Rattle.tt_calls.specs.declared.pool_call.PoolCall.{PoolCall}
 use Rattle.tt_calls.specs.declared.request.Request.TheVariants as ask
@@ -68,7 +68,7 @@ module _ (wrong : Call) (so : Fits wrong) where
   get (id ∷ job ∷ []) = refl
   get words = so
 
-  of_pool : (call : List ℕ → PoolCall) → ((id : List ℕ) → is_ordinary (ask.Pool (call id)) ≡ true) → (words : List (List ℕ))
+  of_pool : (call : List ℕ → PoolCall) → ((id : List ℕ) → is_commanded (ask.Pool (call id)) ≡ true) → (words : List (List ℕ))
       → Fits (pools.of_pool call wrong words)
   of_pool call ordinary (id ∷ []) = ordinary id
   of_pool call ordinary words = so

@@ -2,7 +2,7 @@
 use Rattle.std.proofs.Common.{◌≡◌, ℕ, true, List, [], ◌∷◌, length, refl}
 use Rattle.laws_serving.proofs.Cases.{by_found, by_if}
 use Rattle.laws_serving.proofs.Fitting.{Fits, FitsThen}
-use Rattle.laws_serving.specs.Requests.{is_ordinary}
+use Rattle.laws_serving.proofs.Fitting.{is_commanded}
 use Rattle.tt_calls.specs.declared.request.Request.TheVariants as ask
 use Rattle.tt_calls.specs.declared.request.Request.{Request}
 use Rattle.tt_calls.specs.declared.tsv_call.TsvCall.TheVariants as tsv
@@ -12,7 +12,7 @@ use Rattle.tt_shared_commands.specs.Shared as shared_words
 use Rattle.tt_shared_commands.specs.declared.command.SharedCommand.TheVariants as shared
 use Rattle.tt_shared_commands.specs.declared.command.SharedCommand.{SharedCommand}
 
-after_reply : (request : Request) → is_ordinary request ≡ true → (command : SharedCommand) (words : List (List ℕ))
+after_reply : (request : Request) → is_commanded request ≡ true → (command : SharedCommand) (words : List (List ℕ))
     → FitsThen request (shared_words.after_reply command words)
 after_reply request is shared.Get (array ∷ key ∷ variable ∷ words) = is
 after_reply request is command words = is

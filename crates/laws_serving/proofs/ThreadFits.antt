@@ -3,7 +3,7 @@ use Rattle.std.proofs.Common.{◌≡◌, ℕ, Bool, true, false, if◌then◌els
 use Rattle.std.specs.Prelude.{Result, Ok, Err}
 use Rattle.laws_serving.proofs.Cases.{by_flags, by_found, by_if}
 use Rattle.laws_serving.proofs.Fitting.{Fits, FitsThen}
-use Rattle.laws_serving.specs.Requests.{is_ordinary}
+use Rattle.laws_serving.proofs.Fitting.{is_commanded}
 use Rattle.tt_calls.specs.declared.request.Request.TheVariants as ask
 use Rattle.tt_calls.specs.declared.request.Request.{Request}
 use Rattle.tt_command_tables.specs.Flags.{has}
@@ -24,11 +24,11 @@ use Rattle.tt_thread_commands.specs.declared.command.ThreadCommand.{ThreadComman
 sends : (me : ℕ) (options : List (List ℕ)) (id script : List ℕ) (variable : Option (List ℕ)) → Fits (sending.sends me options id script variable)
 sends me options id script variable = by_if (has Async options) _ _ refl (by_if (sending.is_id_of me id) _ _ tt refl)
 
-after_awaits : (request : Request) → is_ordinary request ≡ true → (found : Option ℕ) → FitsThen request (sending.awaits found)
+after_awaits : (request : Request) → is_commanded request ≡ true → (found : Option ℕ) → FitsThen request (sending.awaits found)
 after_awaits request is None = is
 after_awaits request is (Some target) = is
 
-after_release : (request : Request) → is_ordinary request ≡ true → (me : ℕ) (waits : Bool) (id : List ℕ)
+after_release : (request : Request) → is_commanded request ≡ true → (me : ℕ) (waits : Bool) (id : List ℕ)
     → FitsThen request (sending.after_release me waits id)
 after_release request is me true id = after_awaits request is (sending.other_thread me id)
 after_release request is me false id = is

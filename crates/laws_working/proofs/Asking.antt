@@ -1,6 +1,6 @@
 -- Commands that ask, and that evaluate, are plain.
 use Rattle.std.proofs.Common.{◌≡◌, ℕ, Bool, true, false, List, [], ◌∷◌, Option, Some, None, nat_lt, if◌then◌else◌, refl}
-use Rattle.laws_working.proofs.Fitting.{Fits}
+use Rattle.laws_serving.proofs.Fitting.{Fits, FitsGoal, FitsThen, is_commanded, is_wait}
 use Rattle.laws_working.proofs.Plain.{Plain, PlainEnding, PlainThen, asks, calls, ends, goes, is_plain}
 use Rattle.laws_working.proofs.Plans.{finely, in_variable, recorded, same, truly}
 use Rattle.tt_calls.specs.declared.chan_call.ChanCall.TheVariants as chan
@@ -84,19 +84,25 @@ follows kept answered state = ends
 
 -- ---- event loops ----
 
-waits : (asked : Request) (variable : Option (List ℕ)) → is_plain asked ≡ true → PlainThen (waiting asked variable)
+waits : (asked : Request) (variable : Option (List ℕ)) → is_wait asked ≡ true → PlainThen (waiting asked variable)
 waits (request.Pool (pool.Look id jobs)) variable is state = goes refl
-waits asked variable is state = asks_for asked answering is answers state
+waits asked variable is state = absurd (cc is)
 
-serves : (asked : Request) (for : Goal) → is_plain asked ≡ true → PlainThen (serving asked for)
-serves asked (goal.Written name) is state = asks refl (λ it st. goes refl)
-serves asked goal.Idle is state = goes refl
-serves asked goal.Stopped is state = goes refl
-serves asked (goal.Pool variable) is state = waits asked variable is state
+serves : (asked : Request) (for : Goal) → FitsGoal asked for → PlainThen (serving asked for)
+serves asked (goal.Written name) fits state = asks refl (λ it st. goes refl)
+serves asked goal.Idle fits state = goes refl
+serves asked goal.Stopped fits state = goes refl
+serves asked (goal.Pool variable) fits state = waits asked variable fits state
 
-requests : (asked : Request) (next : After) → is_plain asked ≡ true → PlainThen (request_then asked next)
-requests asked (after.Serve for) is state = serves asked for is state
-requests asked next is state = asks_for asked (following (awaits_of asked next)) is (follows (awaits_of asked next)) state
+plainly : (asked : Request) → is_commanded asked ≡ true → is_plain asked ≡ true
+plainly (request.Pool (pool.JobTake id)) is = absurd (cc is)
+plainly (request.Pool (pool.JobDone id n outcome)) is = absurd (cc is)
+plainly (request.Pool call) is = refl
+plainly asked is = refl
+
+requests : (asked : Request) (next : After) → FitsThen asked next → PlainThen (request_then asked next)
+requests asked (after.Serve for) fits state = serves asked for fits state
+requests asked next fits state = asks_for asked (following (awaits_of asked next)) (plainly asked fits) (follows (awaits_of asked next)) state
 
 -- ---- commands ----
 

@@ -1,7 +1,7 @@
 -- Events are plain, and so is every job that a plan may call.
 use Rattle.std.proofs.Common.{◌≡◌, ℕ, Bool, true, false, [], bytes_eq, if◌then◌else◌, codes, refl}
+use Rattle.laws_serving.proofs.Commands.{commands_fit}
 use Rattle.laws_working.proofs.Asking.{controls, globals, holds, nested}
-use Rattle.laws_working.proofs.Commands.{commands_fit}
 use Rattle.laws_working.proofs.Plain.{Plain, PlainEnding, PlainThen, asks, calls, ends, goes, is_part, is_plain}
 use Rattle.laws_working.proofs.Plans.{commands_plain, in_variable, loops_plain, needs, recorded, same, sets_plainly, spends, turns}
 use Rattle.tt_calls.specs.declared.event.Event.TheVariants as event
@@ -102,6 +102,7 @@ after_sets ended state = asks refl (λ it st. reports ended st)
 
 happen : (what : Event) → PlainThen (events.happens what)
 happen (event.Script n script answer plain) state = calls refl (λ ended st. scripts_end n answer plain (of_script ended) st)
+happen (event.Timer n script) state = calls refl (λ ended st. scripts_end n false false (of_script ended) st)
 happen (event.SetVar name value) state = asks refl (λ it st. asks (sets_plainly name value) (λ it st. after_sets (ending_of it) st))
 happen (event.Moved channel) state = ends
 happen event.Stop state = ends
