@@ -111,6 +111,8 @@ sets_light name value state = wanting 3 (setting name value) state _ (λ it. aft
 happen : (what : Event) → LightThen 3 (events.happens what)
 happen (event.Script n script answer plain) state =
     calling 3 None (job.Global script) state _ (omega arith) (omega arith) (λ ended st. scripts_end n answer plain (of_script ended) st)
+happen (event.Timer n script) state =
+    calling 3 None (job.Global script) state _ (omega arith) (omega arith) (λ ended st. scripts_end n false false (of_script ended) st)
 happen (event.SetVar name value) state = wanting 3 _ state _ (λ it. sets_light name value state)
 happen (event.Moved channel) state = over 3 _ state
 happen event.Stop state = over 3 (fine []) (events.counts_at_stop state)

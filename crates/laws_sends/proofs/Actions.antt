@@ -103,6 +103,8 @@ by_request state t (ask.Tsv call) line have lives = quietly state _ refl refl re
 by_request state t (ask.Lock call) line have lives = by_locks state _ t (lock_named call) refl refl refl
 by_request state t (ask.Pool call) line have lives = by_pools state t call lives
 by_request state t (ask.Chan call) line have lives = by_channels state t call line
+by_request state t (ask.DropTimer number) line have lives = still state
+by_request state t ask.AwaitTime line have lives = still state
 by_request state t ask.Pause line have lives = still state
 by_request state t (ask.End code) line have lives = by_end state t code lives
 by_request state t (ask.Exit code) line have lives = quietly state _ refl refl refl
@@ -117,6 +119,7 @@ takes_many state t have = go (queue_of state.queues t) refl
     come_many old (event.Moved channel) is = is
     come_many old (event.Script n script answer plain) is = is
     come_many old (event.SetVar name value) is = is
+    come_many old (event.Timer n script) is = is
     come_many old event.Stop is = is
 
     go : (found : Option (List Event)) → queue_of state.queues t ≡ found → HaveQueues (takes state t).state

@@ -15,6 +15,7 @@ scripts-append [] ys = refl
 scripts-append (event.Script n script answer plain ∷ xs) ys = ap (λ ns. n ∷ ns) (scripts-append xs ys)
 scripts-append (event.SetVar name value ∷ xs) ys = scripts-append xs ys
 scripts-append (event.Moved channel ∷ xs) ys = scripts-append xs ys
+scripts-append (event.Timer n script ∷ xs) ys = scripts-append xs ys
 scripts-append (event.Stop ∷ xs) ys = scripts-append xs ys
 
 -- it is no script

@@ -289,6 +289,7 @@ by_takes state t lives = go (queue_of state.queues t) refl
         one (begins n t (scripts events) (ap scripts_in there) (taken state.queues t _ events there) (living_not_ended state.rows t lives) refl refl)
     first (event.SetVar name value) events there = other _ events (λ numbers. refl) there
     first (event.Moved channel) events there = both (other (event.Moved channel) events (λ numbers. refl) there) (quietly _ _ refl refl refl)
+    first (event.Timer n script) events there = other _ events (λ numbers. refl) there
     first event.Stop events there = other _ events (λ numbers. refl) there
 
     go : (found : Option (List Event)) → queue_of state.queues t ≡ found → Moves state (takes state t).state (begin_happenings t (takes state t).gives.reply)

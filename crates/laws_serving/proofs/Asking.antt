@@ -1,6 +1,6 @@
 -- The plans of Tcl keep to their duties: commands that ask, and that evaluate.
 use Rattle.std.proofs.Common.{◌≡◌, ℕ, Bool, true, false, List, [], ◌∷◌, Option, Some, None, nat_lt, if◌then◌else◌, refl}
-use Rattle.laws_serving.proofs.Fitting.{Fits, FitsGoal, FitsThen, is_wait}
+use Rattle.laws_serving.proofs.Fitting.{Fits, FitsGoal, FitsThen, is_wait, ordinary}
 use Rattle.laws_serving.proofs.Plans.{KeepsEnding, KeepsPlan, KeepsThen, calling, finely, in_variable, ordinarily, quietly, recorded, same, truly}
 use Rattle.laws_serving.specs.Duties.{ends, goes}
 use Rattle.laws_serving.specs.Requests.{is_ordinary}
@@ -101,7 +101,7 @@ serves asked (goal.Pool variable) fits state = waits asked variable fits state
 
 requests : (asked : Request) (next : After) → FitsThen asked next → KeepsThen None (request_then asked next)
 requests asked (after.Serve for) fits state = serves asked for fits state
-requests asked next fits state = asks_for asked (following (awaits_of asked next)) fits (follows (awaits_of asked next)) state
+requests asked next fits state = asks_for asked (following (awaits_of asked next)) (ordinary asked fits) (follows (awaits_of asked next)) state
 
 -- ---- commands ----
 

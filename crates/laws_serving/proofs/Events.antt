@@ -137,6 +137,8 @@ sets_keep name value state =
 happen : (what : Event) → KeepsThen (events.post_of what) (events.happens what)
 happen (event.Script n script answer plain) state =
     calling (events.answered_post n answer) (job.Global script) state _ refl (λ ended st. scripts_end n answer plain (of_script ended) st)
+happen (event.Timer n script) state =
+    calling None (job.Global script) state _ refl (λ ended st. scripts_end n false false (of_script ended) st)
 happen (event.SetVar name value) state = quietly None _ state _ refl (λ it. refl) (λ it st. sets_keep name value st)
 happen (event.Moved channel) state = ends refl
 happen event.Stop state = ends refl

@@ -81,6 +81,9 @@ by_taking state t lives kept = go (queue_of state.queues t) refl
     come_event (event.SetVar name value) events there =
         kept_of _ (length-put state.queues _ events ∙ kept.queues)
         (by_other state.queues state.rows state.channels t lives (all_of state kept) events _ there (λ text. refl))
+    come_event (event.Timer n script) events there =
+        kept_of _ (length-put state.queues _ events ∙ kept.queues)
+        (by_other state.queues state.rows state.channels t lives (all_of state kept) events _ there (λ text. refl))
     come_event event.Stop events there =
         kept_of _ (length-put state.queues _ events ∙ kept.queues)
         (by_other state.queues state.rows state.channels t lives (all_of state kept) events _ there (λ text. refl))

@@ -173,7 +173,7 @@ module _ (table : LockTable) (t u : ℕ) (text : List ℕ) (alone : Bool) (have 
   by_act (ask.Unlock kind id) free = by_deed unlocks kind id (λ lock is found had. by_unlock lock t u alone had (one_of table id lock have found.there))
   by_act (ask.Notify id) free =
       by_deed (λ lock t. does_go (record lock { waiters = [] })) family.Condition id (λ lock is found had. unchanged lock t u alone had)
-  by_act (ask.CondWait condition mutex) free = by_wait condition mutex (lock_in table family.Condition condition)
+  by_act (ask.CondWait condition mutex after) free = by_wait condition mutex (lock_in table family.Condition condition)
   by_act (ask.CondTake condition mutex) free =
       by_deed (λ lock t. does_go (with_hold lock t false)) family.Mutex mutex (λ lock is found had. by_take lock t u alone had found.of)
 

@@ -129,7 +129,7 @@ lock_named (lock.Lock text) = Some text
 lock_named (lock.ReadLock text) = Some text
 lock_named (lock.WriteLock text) = Some text
 lock_named (lock.Unlock family text) = Some text
-lock_named (lock.CondWait condition mutex) = Some mutex
+lock_named (lock.CondWait condition mutex after) = Some mutex
 lock_named (lock.CondTake condition mutex) = Some mutex
 lock_named call = None
 

@@ -114,5 +114,5 @@ module _ (P : Reply → Type 0) (goes : P reply.Go) (refuses : Refuses P) where
   by_act table t (lock.WriteLock text) made = by_acts one.write_locks table t family.ReadWrite text (λ lock. by_write lock t)
   by_act table t (lock.Unlock which text) made = by_acts one.unlocks table t which text (λ lock. by_unlock lock t)
   by_act table t (lock.Notify text) made = by_acts (λ one t. does_go (record one { waiters = [] })) table t family.Condition text (λ lock. goes)
-  by_act table t (lock.CondWait cond mutex) made = by_waits table t cond mutex
+  by_act table t (lock.CondWait cond mutex after) made = by_waits table t cond mutex
   by_act table t (lock.CondTake cond mutex) made = by_acts (λ one t. does_go (with_hold one t false)) table t family.Mutex mutex (λ lock. goes)

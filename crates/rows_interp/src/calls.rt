@@ -33,7 +33,7 @@ pub(crate) fn tell_lock(telling: &mut Telling, call: &LockCall) -> Result<(), No
         | LockCall::ReadLock { id }
         | LockCall::WriteLock { id }
         | LockCall::Notify { id } => telling.text(id),
-        LockCall::CondWait { cond, mutex } | LockCall::CondTake { cond, mutex } => {
+        LockCall::CondWait { cond, mutex, .. } | LockCall::CondTake { cond, mutex } => {
             telling.text(cond)?;
             telling.text(mutex)
         }

@@ -9,7 +9,7 @@ use tt_text::Text;
 use tt_value::Value;
 
 // How replies are written: a name, how many words follow, and which it is.
-const REPLIES: [(&str, usize, Shape); 15] = [
+const REPLIES: [(&str, usize, Shape); 16] = [
     ("Go", 0, Shape::Go),
     ("Value", 1, Shape::Value),
     ("Refused", 1, Shape::Refused),
@@ -25,13 +25,15 @@ const REPLIES: [(&str, usize, Shape); 15] = [
     ("Job", 3, Shape::Job),
     ("JobStop", 0, Shape::JobStop),
     ("Lists", 2, Shape::Lists),
+    ("Cancelled", 1, Shape::Cancelled),
 ];
 
 // Those of events.
-const EVENTS: [(&str, usize, Happens); 4] = [
+const EVENTS: [(&str, usize, Happens); 5] = [
     ("Script", 4, Happens::Script),
     ("SetVar", 2, Happens::SetVar),
     ("Moved", 1, Happens::Moved),
+    ("Timer", 2, Happens::Timer),
     ("Stop", 0, Happens::Stop),
 ];
 
@@ -40,6 +42,7 @@ enum Happens {
     Script,
     SetVar,
     Moved,
+    Timer,
     Stop,
 }
 
@@ -83,6 +86,7 @@ fn reply_of(shape: Shape, words: &Words) -> anyhow::Result<Reply> {
         Shape::Job => Reply::Job(words.post(0)?, words.lines(1)?, words.flag(2)?),
         Shape::JobStop => Reply::JobStop,
         Shape::Lists => Reply::Lists(words.lines(0)?, words.lines(1)?),
+        Shape::Cancelled => Reply::Cancelled(words.flag(0)?),
     };
     Ok(reply)
 }
@@ -101,6 +105,10 @@ fn event_of(happens: Happens, words: &Words) -> anyhow::Result<Event> {
         },
         Happens::Moved => Event::Moved {
             chan: words.lines(0)?,
+        },
+        Happens::Timer => Event::Timer {
+            n: words.post(0)?,
+            script: words.lines(1)?,
         },
         Happens::Stop => Event::Stop,
     };

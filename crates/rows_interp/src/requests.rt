@@ -42,6 +42,11 @@ fn name_of(request: &Request) -> &'static str {
         Request::Lock(_) => "Lock",
         Request::Pool(_) => "Pool",
         Request::Chan(_) => "Chan",
+        Request::AddTimer { .. } => "AddTimer",
+        Request::DropTimer { .. } => "DropTimer",
+        Request::Sleep { .. } => "Sleep",
+        Request::AwaitTime => "AwaitTime",
+        Request::Cancel { .. } => "Cancel",
         Request::Pause => "Pause",
         Request::End { .. } => "End",
         Request::Exit { .. } => "Exit",
@@ -55,6 +60,7 @@ fn tell_fields(telling: &mut Telling, request: &Request) -> Result<(), NoMemory>
         | Request::Names
         | Request::Take
         | Request::TakeReady
+        | Request::AwaitTime
         | Request::Pause => Ok(()),
         Request::WriteOut { text } | Request::WriteErr { text } => telling.text(text),
         Request::Broadcast { script } => telling.text(script),
@@ -65,6 +71,8 @@ fn tell_fields(telling: &mut Telling, request: &Request) -> Result<(), NoMemory>
         Request::AwaitEnd { thread } => telling.whole(i64::from(*thread)),
         Request::ErrorProc { name } => telling.name(name.as_ref()),
         Request::Await { n } => telling.post(*n),
+        Request::DropTimer { number } => telling.post(*number),
+        Request::Sleep { after } => telling.post(*after),
         Request::End { code } | Request::Exit { code } => telling.whole(*code),
         Request::Tsv(call) => tell_tsv(telling, call.get()),
         Request::Lock(call) => tell_lock(telling, call.get()),
@@ -74,6 +82,8 @@ fn tell_fields(telling: &mut Telling, request: &Request) -> Result<(), NoMemory>
         | Request::Configure { .. }
         | Request::Send { .. }
         | Request::Deliver { .. }
+        | Request::AddTimer { .. }
+        | Request::Cancel { .. }
         | Request::Report { .. } => tell_several(telling, request),
     }
 }
@@ -100,6 +110,14 @@ fn tell_several(telling: &mut Telling, request: &Request) -> Result<(), NoMemory
         Request::Report { trace, plain } => {
             telling.text(trace)?;
             telling.flag(*plain)
+        }
+        Request::AddTimer { after, script } => {
+            telling.post(*after)?;
+            telling.text(script)
+        }
+        Request::Cancel { id, unwind } => {
+            telling.text(id)?;
+            telling.flag(*unwind)
         }
         _ => tell_send(telling, request),
     }

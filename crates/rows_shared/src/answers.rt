@@ -84,6 +84,7 @@ fn push_reply(alloc: Global, words: &mut Texts, reply: &Reply) -> anyhow::Result
         }
         Reply::JobStop => push(alloc, words, "job-stop"),
         Reply::Lists(first, second) => push_texts(alloc, words, "lists", &[first, second]),
+        Reply::Cancelled(unwinds) => push_number(alloc, words, "cancelled", i64::from(*unwinds)),
     }
 }
 
@@ -118,6 +119,10 @@ fn push_event(alloc: Global, words: &mut Texts, event: &Event) -> anyhow::Result
         }
         Event::SetVar { name, value } => push_texts(alloc, words, "set-var", &[name, value]),
         Event::Moved { chan } => push_texts(alloc, words, "moved", &[chan]),
+        Event::Timer { n, script } => {
+            push_post(alloc, words, "timer", *n)?;
+            Ok(words.push(script.copy()?)?)
+        }
         Event::Stop => push(alloc, words, "stop"),
     }
 }

@@ -70,6 +70,7 @@ pub(crate) fn lock_call(which: OfLock, words: &Words) -> anyhow::Result<LockCall
         OfLock::CondWait => LockCall::CondWait {
             cond: words.text(0)?,
             mutex: words.text(1)?,
+            after: None,
         },
         OfLock::CondTake => LockCall::CondTake {
             cond: words.text(0)?,

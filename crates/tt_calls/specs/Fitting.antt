@@ -15,6 +15,7 @@ use Rattle.tt_calls.specs.declared.reply.Reply.TheVariants as reply
 use Rattle.tt_calls.specs.declared.reply.Shape.{Shape}
 use Rattle.tt_calls.specs.declared.reply.Shape.TheVariants.{Go, Value, Refused, Found, Posted, Waits, Answer, Died}
 use Rattle.tt_calls.specs.declared.reply.Shape.TheVariants.{Event, NoEvent, Served, Line, LineEnd, Job, JobStop, Lists}
+use Rattle.tt_calls.specs.declared.reply.Shape.TheVariants.{Cancelled}
 
 -- which variant a reply is
 abbrev pub shape_of : Reply → Shape
@@ -34,6 +35,7 @@ shape_of reply.LineEnd = LineEnd
 shape_of (reply.Job job script detached) = Job
 shape_of reply.JobStop = JobStop
 shape_of (reply.Lists first second) = Lists
+shape_of (reply.Cancelled unwinds) = Cancelled
 
 -- calls on shared variables (tsv(n))
 abbrev pub tsv_shapes : TsvCall → List Shape
@@ -72,7 +74,7 @@ chan_shapes (chan.Attach id) = Go ∷ Refused ∷ []
 chan_shapes (chan.Transfer id channel) = Go ∷ Value ∷ Refused ∷ []
 chan_shapes (chan.AwaitMove id) = Go ∷ Died ∷ Refused ∷ []
 
--- all requests (thread(n), puts(n), gets(n), eof(n), vwait(n), update(n), exit(n))
+-- all requests (thread(n), puts(n), gets(n), eof(n), vwait(n), update(n), after(n), exit(n))
 abbrev pub shapes_for : Request → List Shape
 shapes_for (ask.WriteOut text) = Go ∷ []
 shapes_for (ask.WriteErr text) = Go ∷ []
@@ -98,6 +100,11 @@ shapes_for (ask.Tsv call) = tsv_shapes call
 shapes_for (ask.Lock call) = lock_shapes call
 shapes_for (ask.Pool call) = pool_shapes call
 shapes_for (ask.Chan call) = chan_shapes call
+shapes_for (ask.AddTimer after script) = Value ∷ Refused ∷ []
+shapes_for (ask.DropTimer number) = Go ∷ []
+shapes_for (ask.Sleep after) = Go ∷ Refused ∷ []
+shapes_for ask.AwaitTime = Go ∷ []
+shapes_for (ask.Cancel id unwind) = Value ∷ Refused ∷ []
 shapes_for ask.Pause = Go ∷ []
 shapes_for (ask.End code) = Go ∷ []
 shapes_for (ask.Exit code) = Go ∷ []

@@ -20,6 +20,11 @@ pub enum Event {
     Moved {
         chan: Text,
     },
+    /// The script of a timer that has rung, with the timer's number (after(n)).
+    Timer {
+        n: u64,
+        script: Text,
+    },
     /// The thread is to stop.
     Stop,
 }

@@ -33,10 +33,15 @@ fn shapes_for(request: &Request) -> &'static [Shape]
         Request::Create { .. }
         | Request::Preserve { .. }
         | Request::Release { .. }
-        | Request::AwaitEnd { .. } => &[Shape::Value, Shape::Refused],
+        | Request::AwaitEnd { .. }
+        | Request::AddTimer { .. }
+        | Request::Cancel { .. } => &[Shape::Value, Shape::Refused],
+        Request::Sleep { .. } => &[Shape::Go, Shape::Refused],
         Request::WriteOut { .. }
         | Request::WriteErr { .. }
         | Request::Broadcast { .. }
+        | Request::DropTimer { .. }
+        | Request::AwaitTime
         | Request::Pause
         | Request::End { .. }
         | Request::Exit { .. } => &[Shape::Go],

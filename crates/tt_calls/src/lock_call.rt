@@ -21,21 +21,44 @@ pub enum Family {
 #[derive(Debug, Drop)]
 pub enum LockCall {
     /// Make a lock.
-    Create { kind: Kind },
+    Create {
+        kind: Kind,
+    },
     /// Remove one.
-    Destroy { family: Family, id: Text },
+    Destroy {
+        family: Family,
+        id: Text,
+    },
     /// Take a mutex; the empty id is the one of `thread::eval` without `-lock`.
-    Lock { id: Text },
+    Lock {
+        id: Text,
+    },
     /// Take a read-write lock for reading.
-    ReadLock { id: Text },
+    ReadLock {
+        id: Text,
+    },
     /// Take a read-write lock for writing.
-    WriteLock { id: Text },
+    WriteLock {
+        id: Text,
+    },
     /// Give one hold up.
-    Unlock { family: Family, id: Text },
+    Unlock {
+        family: Family,
+        id: Text,
+    },
     /// Wake all that wait for a condition.
-    Notify { id: Text },
-    /// Free the mutex and begin to wait for the condition.
-    CondWait { cond: Text, mutex: Text },
+    Notify {
+        id: Text,
+    },
+    /// Free the mutex and begin to wait for the condition, for so many milliseconds at most if `after` has a number.
+    CondWait {
+        cond: Text,
+        mutex: Text,
+        after: Option<u64>,
+    },
     /// End the wait for the condition, and take the mutex again.
-    CondTake { cond: Text, mutex: Text },
+    CondTake {
+        cond: Text,
+        mutex: Text,
+    },
 }

@@ -39,6 +39,8 @@ pub enum Reply {
     JobStop,
     /// Two lists, as texts.
     Lists(Text, Text),
+    /// The thread was cancelled; whether up to its outermost script.
+    Cancelled(bool),
 }
 
 /// What a call on a part of the shared state gives.
@@ -69,6 +71,7 @@ pub enum Shape {
     Job,
     JobStop,
     Lists,
+    Cancelled,
 }
 
 impl Reply {
@@ -93,6 +96,7 @@ impl Reply {
             Reply::Job(_, _, _) => Shape::Job,
             Reply::JobStop => Shape::JobStop,
             Reply::Lists(_, _) => Shape::Lists,
+            Reply::Cancelled(_) => Shape::Cancelled,
         }
     }
 }

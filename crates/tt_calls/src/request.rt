@@ -100,6 +100,26 @@ pub enum Request {
     Pool(Boxed<PoolCall>),
     /// A call on a channel (chan(n); thread(n), thread::transfer).
     Chan(Boxed<ChanCall>),
+    /// Add a timer of a script: after so many milliseconds the script comes as an event (after(n)).
+    AddTimer {
+        after: u64,
+        script: Text,
+    },
+    /// Take back a timer of a script, or its event if it has come (after(n), after cancel).
+    DropTimer {
+        number: u64,
+    },
+    /// Begin to sleep for so many milliseconds (after(n)).
+    Sleep {
+        after: u64,
+    },
+    /// Wait for the end of that sleep.
+    AwaitTime,
+    /// Cancel what a thread evaluates, with `unwind` up to its outermost script (thread(n), thread::cancel).
+    Cancel {
+        id: Text,
+        unwind: bool,
+    },
     /// Let others go on.
     Pause,
     /// End this thread with an exit code.

@@ -103,7 +103,7 @@ moving (ask.Chan (chan.Transfer id name)) = awaits.Move name
 moving request = awaits.Value
 
 abbrev pub retaking : Request → Awaits
-retaking (ask.Lock (lock.CondWait condition mutex)) = awaits.Retake condition mutex
+retaking (ask.Lock (lock.CondWait condition mutex after)) = awaits.Retake condition mutex
 retaking request = awaits.Value
 
 -- what is held while a script is evaluated (tsv(n), tsv::lock; thread(n), thread::eval)

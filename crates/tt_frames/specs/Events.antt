@@ -153,6 +153,7 @@ sets name value state = Asks (setting name value) state (λ got. after_setting (
 abbrev pub happens : Event → Then
 happens (event.Script n script answer plain) state =
     Calls None (job.Global script) state (script_served n answer plain)
+happens (event.Timer n script) state = Calls None (job.Global script) state (script_served n false false)
 happens (event.SetVar name value) state = Asks Enter state (λ got. sets name value)
 happens (event.Moved chan) state = same_ending (fine []) state
 happens event.Stop state = Ends (fine []) (counts_at_stop state)

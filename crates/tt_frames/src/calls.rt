@@ -111,7 +111,10 @@ fn retaking(request: &Request) -> Result<Awaits, NoMemory>
 {
     match request {
         Request::Lock(call) => match call.get() {
-            LockCall::CondWait { cond, mutex } => Ok(Awaits::Retake(cond.copy()?, mutex.copy()?)),
+            LockCall::CondWait { cond, mutex, .. } => Ok(Awaits::Retake(
+                cond.copy()?,
+                mutex.copy()?,
+            )),
             _ => Ok(Awaits::Value),
         },
         _ => Ok(Awaits::Value),

@@ -176,7 +176,7 @@ fn post_of(event: &Event) -> Option<u64>
 {
     match event {
         Event::Script { n, answer, .. } => answered_post(*n, *answer),
-        Event::SetVar { .. } | Event::Moved { .. } | Event::Stop => None,
+        Event::SetVar { .. } | Event::Moved { .. } | Event::Timer { .. } | Event::Stop => None,
     }
 }
 

@@ -30,6 +30,15 @@ pub(crate) fn begin_event(alloc: Global, event: Event, state: &mut State) -> Nex
             Job::Global(script),
             Frame::Serves { n, answer, plain },
         ),
+        Event::Timer { n, script } => Next::Call(
+            None,
+            Job::Global(script),
+            Frame::Serves {
+                n,
+                answer: false,
+                plain: false,
+            },
+        ),
         Event::SetVar { name, value } => Next::Ask(Want::Enter, Asking::Sets(name, value)),
         Event::Moved { .. } => Next::Done(Ending::nothing(alloc)),
         Event::Stop => {

@@ -110,7 +110,7 @@ read_writes me wrong (sub ∷ words) =
 
 -- thread::cond wait: the mutex is taken again when the wait has ended
 abbrev pub wait : (wrong : Call) → (words : List (List ℕ)) → Call
-wait wrong (cond ∷ id ∷ []) = on_mutex id (lock.CondWait cond id) after.Retake
+wait wrong (cond ∷ id ∷ []) = on_mutex id (lock.CondWait cond id None) after.Retake
 wait wrong words = wrong
 
 -- the subcommands of thread::cond

@@ -125,6 +125,7 @@ fn wait(alloc: Global, usage: &[u8], words: &[Text]) -> Result<Call, NoMemory>
             let call = LockCall::CondWait {
                 cond: cond.copy()?,
                 mutex: mutex.copy()?,
+                after: None,
             };
             asks_mutex(alloc, mutex.as_bytes(), call, Then::Retake)
         }

@@ -259,7 +259,7 @@ act-one table t (ask.Unlock which text) free have =
     acts-one table t deed.Unlock which text have (λ lock e. unlocks-one lock t (one-in table which text lock have e))
 act-one table t (ask.Notify text) free have =
     acts-one table t deed.Notify family.Condition text have (λ lock e. one-in table family.Condition text lock have e)
-act-one table t (ask.CondWait condition mutex) free have = cond-one table t condition mutex (lock_in table family.Condition condition) have
+act-one table t (ask.CondWait condition mutex after) free have = cond-one table t condition mutex (lock_in table family.Condition condition) have
 act-one table t (ask.CondTake condition mutex) free have =
     acts-one table t deed.Take family.Mutex mutex have
     (λ lock e. takes-one lock t (not-waiting is_held t (lock_in table family.Mutex mutex) lock e (either _ _ free)))

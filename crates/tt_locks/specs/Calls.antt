@@ -106,7 +106,7 @@ act table t (ask.ReadLock text) = acts deed.Read table t family.ReadWrite text
 act table t (ask.WriteLock text) = acts deed.Write table t family.ReadWrite text
 act table t (ask.Unlock which text) = acts deed.Unlock table t which text
 act table t (ask.Notify text) = acts deed.Notify table t family.Condition text
-act table t (ask.CondWait cond mutex) = begins_wait table t cond mutex
+act table t (ask.CondWait cond mutex after) = begins_wait table t cond mutex
 act table t (ask.CondTake cond mutex) = acts deed.Take table t family.Mutex mutex
 
 -- ---- a call whole ----

@@ -40,7 +40,7 @@ impl Locks {
             LockCall::WriteLock { id } => self.acts_on(Deed::Write, thread, Family::ReadWrite, id),
             LockCall::Unlock { family, id } => self.acts_on(Deed::Unlock, thread, *family, id),
             LockCall::Notify { id } => self.acts_on(Deed::Notify, thread, Family::Condition, id),
-            LockCall::CondWait { cond, mutex } => self.wait(thread, cond, mutex),
+            LockCall::CondWait { cond, mutex, .. } => self.wait(thread, cond, mutex),
             LockCall::CondTake { mutex, .. } => {
                 self.acts_on(Deed::Take, thread, Family::Mutex, mutex)
             }

@@ -58,7 +58,9 @@ impl Shared {
             Request::Lock(call) => self.on_locks(thread, call.get()),
             Request::Pool(call) => self.on_pools(thread, call.get()),
             Request::Chan(call) => self.on_channels(thread, call.get()),
-            Request::Pause => Ok(self.answer(Reply::Go)),
+            Request::DropTimer { .. } | Request::AwaitTime | Request::Pause => {
+                Ok(self.answer(Reply::Go))
+            }
             Request::End { code } => self.end(thread, *code),
             Request::Exit { code } => Ok(self.exit(*code)),
             Request::Preserve { .. }
@@ -66,7 +68,10 @@ impl Shared {
             | Request::Exists { .. }
             | Request::Join { .. }
             | Request::AwaitEnd { .. }
-            | Request::Configure { .. } => self.in_rows(thread, request),
+            | Request::Configure { .. }
+            | Request::AddTimer { .. }
+            | Request::Sleep { .. }
+            | Request::Cancel { .. } => self.in_rows(thread, request),
         }
     }
 
