@@ -3,6 +3,7 @@
 //! the system do not.
 #![tactic(auto)]
 
+mod clock;
 mod disk;
 mod failed;
 mod fault_plan;
@@ -19,6 +20,7 @@ mod std_streams;
 mod system_disk;
 mod whole;
 
+pub use clock::{Clock, StdClock, StepClock};
 pub use disk::Disk;
 pub use failed::Failed;
 pub use files::{Files, ReadAnswer};

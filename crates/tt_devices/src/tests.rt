@@ -1,6 +1,6 @@
 use crate::{
-    Failed, Files, MemoryDisk, MemoryFiles, ReadAnswer, RealFiles, Sink, Source, StdSink,
-    StdSource, SystemDisk,
+    Clock, Failed, Files, MemoryDisk, MemoryFiles, ReadAnswer, RealFiles, Sink, Source, StdClock,
+    StdSink, StdSource, StepClock, SystemDisk,
 };
 use std::io::{ErrorKind, Read, Write};
 use std::test::Fail;
@@ -132,4 +132,26 @@ fn a_reader_is_asked_again_if_it_was_interrupted(rt: HostRuntime) {
         assert_eq!(rt; source.take(&mut [0u8; 2]), answer);
         assert_eq!(rt; source.faults(), u64::from(answer.is_err()));
     }
+}
+
+#[test]
+fn a_step_clock_counts_up_to_the_greatest_number(rt: HostRuntime) -> Result<(), Fail> {
+    let clock = StepClock::new(1 << 63);
+    clock.wait(7);
+    assert_eq!(rt; clock.now(), 1 << 63);
+    assert_eq!(rt; clock.now(), u64::MAX);
+    assert_eq!(rt; clock.now(), u64::MAX);
+    let still = StepClock::new(0);
+    assert_eq!(rt; still.now(), 0);
+    Ok(())
+}
+
+#[test]
+fn the_clock_of_the_system_has_passed_what_it_waited_for(rt: HostRuntime) -> Result<(), Fail> {
+    let clock = StdClock::new(&rt);
+    let moment = clock.now().saturating_add(2);
+    clock.wait(moment);
+    assert!(rt; clock.now().saturating_add(1) >= moment);
+    clock.wait(0);
+    Ok(())
 }

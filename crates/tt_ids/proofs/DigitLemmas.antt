@@ -53,11 +53,14 @@ same-run (d ∷ ds) (f ∷ es) x y p q nx ny e =
     (cc, more.1)
 
 -- a number that the text begins with is written by its longest run of digits
+pub run-written : (text : List ℕ) (count : ℕ) (n : ℕ) (rest : List ℕ) → IsDigitRun text count → n < 2 ^ 64 → BeginsWithNoDigit rest →
+    text ≡ decimal n ++ rest → take count text ≡ decimal n
+run-written text count n rest run small stops e =
+    (same-run (take count text) (decimal n) (drop count text) rest run.digits (digits_decimal own n small) run.stops stops (take-append-drop count text ∙ e)).0
+
 pub run-only : (text : List ℕ) (count : ℕ) (n : ℕ) (rest : List ℕ) → IsDigitRun text count → IsInRange n → BeginsWithNoDigit rest →
     text ≡ decimal n ++ rest → take count text ≡ decimal n
-run-only text count n rest run range stops e =
-    let small : n < 2 ^ 64 = omega (arith, range.1) in
-    (same-run (take count text) (decimal n) (drop count text) rest run.digits (digits_decimal own n small) run.stops stops (take-append-drop count text ∙ e)).0
+run-only text count n rest run range stops e = run-written text count n rest run (omega (arith, range.1)) stops e
 
 -- one digit further
 pub record IsStep (digits : List ℕ) (i value : ℕ) : Type 0 where

@@ -1,11 +1,12 @@
--- Ids (thread(n), tpool(n), chan(n)): the letters of the kind and then the number, in decimal without leading zeros.
+-- Ids (thread(n), tpool(n), chan(n), after(n)): the letters of the kind and then the number, in decimal without leading
+-- zeros.
 use Rattle.std.specs.Prelude.{◌≡◌, ◌<◌, ◌^◌, ℕ, ◌==◌, ◌&&◌, nat_lt, List, [], ◌∷◌, ◌++◌, codes, bytes_eq, Option}
 use Rattle.std.specs.Prelude.{Some, None, option_and_then, if◌then◌else◌}
 use Rattle.std.specs.Fmt.{decimal}
 use Rattle.tt_ids.specs.Digits.{number_after}
 use Rattle.tt_ids.specs.declared.id.IdKind.{IdKind}
 use Rattle.tt_ids.specs.declared.id.IdKind.TheVariants.{Thread, Exclusive, Recursive, ReadWrite, Condition, Pool}
-use Rattle.tt_ids.specs.declared.id.IdKind.TheVariants.{Channel}
+use Rattle.tt_ids.specs.declared.id.IdKind.TheVariants.{Channel, Timer}
 
 abbrev pub letters : IdKind → List ℕ
 letters Thread = codes "tid"
@@ -15,6 +16,7 @@ letters ReadWrite = codes "wid"
 letters Condition = codes "cid"
 letters Pool = codes "tpool"
 letters Channel = codes "chan"
+letters Timer = codes "after#"
 
 -- the id of the one of this kind that has this number
 abbrev pub id : IdKind → ℕ → List ℕ

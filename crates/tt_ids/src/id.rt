@@ -23,6 +23,8 @@ pub enum IdKind {
     Pool,
     /// An end of a pipe (chan(n), chan pipe).
     Channel,
+    /// A timer of a script (after(n)).
+    Timer,
 }
 
 impl IdKind {
@@ -38,6 +40,7 @@ impl IdKind {
             IdKind::Condition => b"cid",
             IdKind::Pool => b"tpool",
             IdKind::Channel => b"chan",
+            IdKind::Timer => b"after#",
         }
     }
 }

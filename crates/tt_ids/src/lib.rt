@@ -4,9 +4,11 @@
 
 mod id;
 pub mod laws;
+mod moment;
 mod number;
 mod thread_number;
 
 pub use id::{IdKind, id_number, id_text};
+pub use moment::moment_at;
 pub use number::{count_with, number_after, number_of, number_text};
 pub use thread_number::number_at;

@@ -48,7 +48,7 @@ fn number_in_range(digits: &[u8]) -> Option<u32>
 }
 
 /// How many digits the text begins with.
-fn digit_run(text: &[u8]) -> usize
+pub(crate) fn digit_run(text: &[u8]) -> usize
     ensures { IsDigitRun text.now result }
 {
     for (place, byte) in text.iter().enumerate() {
