@@ -1,4 +1,5 @@
 ghost use Rattle.std.specs.Prelude.{◌≡◌, IfOk, OnOk};
+ghost use Rattle.tt_chans.specs.Blocking.{move_target, thread_of};
 ghost use Rattle.tt_chans.specs.Calls.{is_at_end};
 ghost use Rattle.tt_chans.specs.Channels.{owner_given};
 ghost use Rattle.tt_chans.specs.Ends.{gets_line, is_owned, moves_from, owner_after, puts_into, rest_reply, stays_open};
@@ -41,6 +42,29 @@ impl Owner {
                 ..
             } => sender == thread,
             _ => false,
+        }
+    }
+
+    // The thread that owns the channel.
+    pub(crate) fn thread(self) -> Option<u32>
+        ensures { result ≡ thread_of self }
+    {
+        match self {
+            Owner::Thread(owner) => Some(owner),
+            Owner::Detached | Owner::Moving { .. } => None,
+        }
+    }
+
+    // The thread to which another one moves the channel.
+    pub(crate) fn target_from(self, thread: u32) -> Option<u32>
+        ensures { result ≡ move_target thread self }
+    {
+        match self {
+            Owner::Moving {
+                from: Some(sender),
+                to,
+            } if sender == thread => Some(to),
+            _ => None,
         }
     }
 

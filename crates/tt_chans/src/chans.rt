@@ -1,4 +1,5 @@
 ghost use Rattle.std.specs.Prelude.{◌≡◌, option_copied};
+ghost use Rattle.tt_chans.specs.Blocking.{blocker, writer};
 ghost use Rattle.tt_chans.specs.Calls.{lacks_line, waits};
 ghost use Rattle.tt_chans.specs.Channels.{channel_of, after_arrival, no_channels, table_after_end};
 ghost use Rattle.tt_chans.specs.Ends.{own_channel};
@@ -73,6 +74,34 @@ impl Chans {
             }
             End::Writes => false,
         }
+    }
+
+    /// The thread without which the call does not go on: of a read the one that owns the write end of the channel's pipe,
+    /// of the wait for a move the one to which `thread` moves the channel. None if there is no such thread, and for all
+    /// other calls. It takes no memory.
+    pub fn blocker(&self, thread: u32, call: &ChanCall) -> Option<u32>
+        ensures blocker { result ≡ blocker self.now thread call.now }
+    {
+        match call {
+            ChanCall::GetLine { chan } => self.writer(chan),
+            ChanCall::AwaitMove { chan } => {
+                let channel = self.channels.get(chan)?;
+                channel.owner.target_from(thread)
+            }
+            _ => None,
+        }
+    }
+
+    // The thread that owns the write end of a channel's pipe.
+    fn writer(&self, id: &Text) -> Option<u32>
+        ensures { result ≡ writer self.now (channel_of self.now id.now) }
+    {
+        let channel = self.channels.get(id)?;
+        let writer = match channel.end {
+            End::Reads { .. } => self.channels.get(&channel.other)?,
+            End::Writes => channel,
+        };
+        writer.owner.thread()
     }
 
     /// The thread has a channel, if that was on its way to it (thread(n), thread::transfer). It takes no memory.

@@ -1,4 +1,5 @@
-ghost use Rattle.std.specs.Prelude.{◌≡◌, ◌++◌, ◌∷◌, ◌↔◌, [], IsTrue, OnOk, OnErr, option_to_list};
+ghost use Rattle.std.specs.Prelude.{◌≡◌, ◌++◌, ◌∷◌, ◌↔◌, ◌<◌, [], length, Some, IsTrue, OnOk, OnErr, option_to_list};
+ghost use Rattle.std.specs.List.{slice_get};
 ghost use Rattle.tt_queue.specs.Events.{is_script, pending};
 
 use std::alloc::Global;
@@ -72,6 +73,21 @@ impl Queue {
         let event = self.events.pop_front()?;
         self.scripts -= u64::from(is_script(&event));
         Some(event)
+    }
+
+    /// How many events there are.
+    pub fn len(&self) -> usize
+        ensures length { result ≡ length self.now }
+    {
+        self.events.len()
+    }
+
+    /// The event at a place below the length, counted from 0 for the one that is taken next. It takes constant time.
+    pub fn at(&self, place: usize) -> &Event
+        requires { place < length self.now }
+        ensures event { slice_get self.now place ≡ Some result.now }
+    {
+        &self.events[place]
     }
 
     /// How many of the events are scripts.

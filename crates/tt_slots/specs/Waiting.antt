@@ -51,10 +51,14 @@ with_state_at slots n state (Some slot) =
 abbrev pub with_state : OpenSlots → ℕ → SlotState → OpenSlots
 with_state slots n state = with_state_at slots n state (slot_of slots n)
 
+-- the slots without the one of that number
+abbrev pub without_slot : OpenSlots → ℕ → OpenSlots
+without_slot slots n = record slots { open_slots = remove_entry (is_at (nat_cmp n)) slots.open_slots }
+
 -- a waiting slot stays; any other is closed by its answer
 abbrev pub after_take : OpenSlots → ℕ → SlotState → OpenSlots
 after_take slots n Waiting = slots
-after_take slots n answer = record slots { open_slots = remove_entry (is_at (nat_cmp n)) slots.open_slots }
+after_take slots n answer = without_slot slots n
 
 -- the end of a thread: each slot that waits for it has died
 abbrev pub slot_after_end : ℕ → Slot → Slot

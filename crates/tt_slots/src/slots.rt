@@ -1,7 +1,7 @@
 ghost use Rattle.std.specs.Prelude.{◌≡◌, ◌<◌, false, None, Some, OnOk, OnErr, IsSome, option_copied, option_map};
 ghost use Rattle.tt_slots.specs.Waiting.{after_end, after_take, slot_after_end, is_waiting, no_slots, slot_of};
 ghost use Rattle.tt_slots.specs.Waiting.{state_of};
-ghost use Rattle.tt_slots.specs.Waiting.{with_slot, with_state};
+ghost use Rattle.tt_slots.specs.Waiting.{with_slot, with_state, without_slot};
 ghost use Rattle.tt_slots.specs.declared.slot.SlotState.TheVariants.{Died, Result, Waiting};
 
 use crate::{Slot, SlotState};
@@ -88,6 +88,16 @@ impl Slots {
         }
         let slot = self.slots.remove(&n).unwrap();
         slot.state
+    }
+
+    /// Closes slot `n` without an answer, since nobody waits by it any more. If it isn't open, nothing changes. It takes
+    /// no memory.
+    pub fn abandon(&mut self, n: u64)
+        ensures closed { self.new ≡ without_slot self.old n }
+        ensures unchanged { state_of self.old n ≡ None → self.new ≡ self.old }
+        ensures gone { state_of self.new n ≡ None }
+    {
+        self.slots.remove(&n);
     }
 
     /// Slot `n`; None exactly if it isn't open. It takes no memory.

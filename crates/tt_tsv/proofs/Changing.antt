@@ -5,7 +5,7 @@ use Rattle.std.specs.Map.{lookup, set_value}
 use Rattle.std.proofs.lemmas.Map.Steps.{set_value_same}
 use Rattle.std.specs.Option.{option_map}
 use Rattle.indexmap.specs.IndexMap.{insert_entry}
-use Rattle.tt_tsv.specs.Arrays.{Pairs, Table, array_of, element_of, elements_in, makes_in, with_array, with_element, with_elements}
+use Rattle.tt_tsv.specs.Arrays.{Pairs, Table, array_of, element_of, elements_in, makes_in, with_element, with_elements}
 use Rattle.tt_calls.specs.declared.reply.Reply.{Reply}
 use Rattle.tt_tsv.specs.Calls.{changes, changes_by}
 use Rattle.tt_tsv.specs.Elements.{change_if, change_of, change_of_missing, missing_as}

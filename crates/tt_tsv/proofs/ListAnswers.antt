@@ -1,5 +1,5 @@
 -- What a value is read as as a list is what the commands on lists answer.
-use Rattle.std.proofs.Common.{◌≡◌, ◌∙◌, ℕ, List, [], ◌∷◌, length, Result, Ok, Err, ap, refl, sym}
+use Rattle.std.proofs.Common.{◌≡◌, ℕ, List, [], ◌∷◌, length, Result, Ok, Err, ap, refl, sym}
 use Rattle.std.specs.Prelude.{decimal}
 use Rattle.tt_lists.specs.Commands.{count_answer, for_items, for_made, item_answer, item_of}
 use Rattle.tt_lists.specs.Messages.{list_message}

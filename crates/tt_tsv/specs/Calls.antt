@@ -3,6 +3,7 @@ use Rattle.std.specs.Prelude.{ℕ, ◌%◌, ◌==◌, Bool, true, false, ◌&&�
 use Rattle.std.specs.Prelude.{Option, Some, None, is_some, if◌then◌else◌}
 use Rattle.std.specs.List.{filter, flat_map}
 use Rattle.std.specs.Map.{keys_of}
+use Rattle.std.specs.Option.{option_map}
 use Rattle.tt_text.specs.Characters.{characters}
 use Rattle.tt_text.specs.GlobFunction.{is_match}
 use Rattle.tt_calls.specs.Replies as replies
@@ -168,6 +169,10 @@ resets table name words = refuses table []
 -- tsv::array get, tsv::array names
 abbrev pub pairs_text : Table → (name : List ℕ) → (pattern : List (List ℕ)) → List ℕ
 pairs_text table name pattern = list_of (pairs_like pattern (elements_of table name))
+
+-- the list that tsv::array get a gives; none if there is no such array
+abbrev pub array_text : Table → (name : List ℕ) → Option (List ℕ)
+array_text table name = option_map (λ array. pairs_text table name []) (array_of table name)
 
 abbrev pub keys_text : Table → (name : List ℕ) → (pattern : List (List ℕ)) → List ℕ
 keys_text table name pattern = list_of (names_like pattern (keys_of (elements_of table name)))

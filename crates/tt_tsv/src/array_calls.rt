@@ -2,7 +2,7 @@
 ghost use Rattle.std.specs.Prelude.{◌≡◌, ◌==◌, ◌%◌, length, decimal, IfOk, OnOk};
 ghost use Rattle.tt_calls.specs.declared.reply.Reply.TheVariants.{Refused, Value};
 ghost use Rattle.tt_lists.specs.Messages.{list_message};
-ghost use Rattle.tt_tsv.specs.Calls.{array_act, fills_from, keys_text, pairs_text, refills_from, resets, sets};
+ghost use Rattle.tt_tsv.specs.Calls.{array_act, array_text, fills_from, keys_text, pairs_text, refills_from, resets, sets};
 ghost use Rattle.tt_tsv.specs.Arrays.{elements_of};
 
 use crate::Arrays;
@@ -10,10 +10,24 @@ use crate::telling::{empty, names_reply, not_asked, refused, truth};
 use crate::usage::ArrayUsage;
 use std::alloc::Global;
 use tt_calls::Reply;
-use tt_lists::{ListFault, Split, count_text, join_list, split};
+use tt_lists::{ListFault, Split, count_text, split};
 use tt_text::{NoMemory, Text};
 
 impl Arrays {
+    /// The list of the keys of an array, each followed by its value, in the order of their first insertion, as
+    /// `tsv::array get` gives it (tsv(n)). None exactly if there is no such array.
+    ///
+    /// `NoMemory` if memory for it is refused.
+    pub fn text(&self, name: &[u8]) -> Result<Option<Text>, NoMemory>
+        ensures text { IfOk result (λ text. text ≡ array_text self.now name.now) }
+    {
+        let name = Text::from_bytes(self.alloc, name)?;
+        match self.find(&name) {
+            Some(array) => Ok(Some(array.elements.text_like(&[])?)),
+            None => Ok(None),
+        }
+    }
+
     /// What is asked of an array; a missing one counts as empty.
     pub(crate) fn array_call(
         &mut self,
@@ -42,11 +56,7 @@ impl Arrays {
         ensures { IfOk result (λ reply. reply ≡ Value (pairs_text self.now name.now pattern.now)) }
     {
         match self.find(name) {
-            Some(array) => {
-                let pairs = array.elements.pairs_like(pattern)?;
-                let list = join_list(self.alloc, pairs.as_slice())?;
-                Ok(Reply::Value(list))
-            }
+            Some(array) => Ok(Reply::Value(array.elements.text_like(pattern)?)),
             None => Ok(empty(self.alloc)),
         }
     }

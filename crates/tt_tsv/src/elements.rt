@@ -2,6 +2,7 @@ ghost use Rattle.std.specs.Prelude.{◌≡◌, ◌<◌, [], length, bytes_eq, If
 ghost use Rattle.std.specs.Map.{keys_of, lookup, remove_entry};
 ghost use Rattle.std.specs.Option.{option_copied, option_map};
 ghost use Rattle.indexmap.specs.IndexMap.{insert_entry};
+ghost use Rattle.tt_lists.specs.Spelling.{list_of};
 ghost use Rattle.tt_tsv.specs.Calls.{pairs_like};
 ghost use Rattle.tt_tsv.specs.Arrays.{pairs_with_items};
 ghost use Rattle.tt_tsv.specs.Elements.{change_of};
@@ -14,6 +15,7 @@ use crate::usage::ElementUsage;
 use indexmap::IndexMap;
 use std::alloc::Global;
 use std::marker::Model;
+use tt_lists::join_list;
 use tt_text::{NoMemory, Text, Texts};
 use tt_value::Value;
 
@@ -115,6 +117,14 @@ impl Elements {
             }
         }
         Ok(pairs)
+    }
+
+    /// The list of those pairs.
+    pub(crate) fn text_like(&self, pattern: &[Text]) -> Result<Text, NoMemory>
+        ensures { IfOk result (λ text. text ≡ list_of (pairs_like pattern.now self.now)) }
+    {
+        let pairs = self.pairs_like(pattern)?;
+        join_list(*self.map.allocator(), pairs.as_slice())
     }
 
     /// Puts in the elements of a list of keys and values.

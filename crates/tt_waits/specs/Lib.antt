@@ -1,0 +1,3 @@
+pub mod Walks
+pub mod WaitLaws
+pub mod inside
