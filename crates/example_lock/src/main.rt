@@ -64,7 +64,7 @@ fn print_turns<R: Threads + Wait + Clock + Print + Sync>(rt: &R, alloc: Global) 
     Ok(())
 }
 
-// Threads that yield all the while would take 50 ms of each processor.
+// Threads that yield all the while would take a second of each processor.
 fn print_entering<R: Threads + Wait + Clock + CpuClock + Print + Sync>(
     rt: &R,
     alloc: Global,
@@ -75,9 +75,9 @@ fn print_entering<R: Threads + Wait + Clock + CpuClock + Print + Sync>(
     let start = rt.process_cpu_time()?;
     let count = count_after(rt, alloc, 64, &work)?;
     let used = rt.process_cpu_time()?.saturating_sub(start);
-    let little = used.as_millis() < 50;
+    let little = used.as_millis() < 500;
     println!(rt;
-        "63 enter while one has its turn: {count}, less than 50 ms of processor time: {little}"
+        "63 enter while one has its turn: {count}, less than 500 ms of processor time: {little}"
     )?;
     Ok(())
 }

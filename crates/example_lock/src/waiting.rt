@@ -117,7 +117,7 @@ impl Work<u64> for EnterWhileHeld {
         if place == 0 {
             let mut turn = lock.enter(rt, pass);
             self.held.store(1, SeqCst);
-            thread::sleep(rt, Duration::from_millis(50));
+            thread::sleep(rt, Duration::from_millis(1_000));
             turn.state = turn.state.wrapping_add(1);
             lock.leave(pass, turn, ());
             return;
@@ -126,7 +126,7 @@ impl Work<u64> for EnterWhileHeld {
             if self.held.load(SeqCst) > 0 {
                 break;
             }
-            thread::sleep(rt, Duration::from_millis(1));
+            thread::sleep(rt, Duration::from_millis(5));
         }
         add(rt, lock, pass, 1);
     }
