@@ -2,10 +2,10 @@
 # Prints how the time grows from N turns or items to 4 N of them: of reading, cutting and growing a variable's list and
 # text, of elements of arrays, of shared lists, and of variables by name. If tclsh is installed, its growth with the same
 # script stands beside each, with both times at 4 N and their ratio; for shared lists its Thread package is needed too.
-# The start of the process is taken off. Times are the processor's, in microseconds, the least of RUNS runs; with
-# `instructions` in place of RUNS they are thousands of instructions as valgrind counts them, which other work on the
-# machine doesn't change, and take a quarter of an hour. A row of copied bytes is timed all the same: one instruction may
-# copy many.
+# The start of the process, with that package, is taken off. Times are the processor's, in microseconds, the least of
+# RUNS runs; with `instructions` in place of RUNS they are thousands of instructions as valgrind counts them, which other
+# work on the machine doesn't change, and take a quarter of an hour. A row of copied bytes is timed all the same: one
+# instruction may copy many.
 #
 # It ends with 1 if a row grows more than twice as fast as tclsh's.
 # Usage: bench/growth.sh [N] [RUNS|instructions]
@@ -95,7 +95,6 @@ runs_beside() {
 }
 
 program=./crates/tclthread/out/tclthread
-: >"$folder/empty.tcl"
 units=us
 if [ "$runs" = instructions ]; then units=thousands runs=3; fi
 
@@ -103,10 +102,13 @@ fast=0
 while IFS='|' read -r name script; do
     unit=$units
     if [[ $name == timed\ * ]]; then unit=us name=${name#timed }; fi
-    start=$(cost "$program" "$folder/empty.tcl")
+    first=''
+    if [[ $name == tsv::* ]]; then first='package require Thread; '; fi
+    script=$first$script
+    echo "$first" >"$folder/start.tcl"
+    start=$(cost "$program" "$folder/start.tcl")
     beside_start=0
-    if runs_beside "$name"; then beside_start=$(cost tclsh "$folder/empty.tcl"); fi
-    if [[ $name == tsv::* ]]; then script="package require Thread; $script"; fi
+    if runs_beside "$name"; then beside_start=$(cost tclsh "$folder/start.tcl"); fi
     one=$(cost_of "$script" "$few" "$start" "$program")
     four=$(cost_of "$script" $((4 * few)) "$start" "$program")
     printf '%s: grows by %s, %d %s' "$name" "$(ratio "$one" "$four")" "$four" $unit
