@@ -19,7 +19,13 @@ use row::Row;
 use rows_reader::tell_table;
 use std::fs;
 
-const TABLES: [&str; 3] = ["requests.rows", "words.rows", "usages.rows"];
+const TABLES: [&str; 5] = [
+    "requests.rows",
+    "words.rows",
+    "usages.rows",
+    "asked.rows",
+    "pauses.rows",
+];
 
 fn main(rt: HostRuntime) -> anyhow::Result<()> {
     for name in TABLES {

@@ -24,7 +24,7 @@ use row::Row;
 use rows_reader::{Tally, tell_table};
 use std::fs;
 
-const TABLES: [&str; 18] = [
+const TABLES: [&str; 21] = [
     "worked.rows",
     "events.rows",
     "sends.rows",
@@ -43,6 +43,9 @@ const TABLES: [&str; 18] = [
     "schedules.rows",
     "replays.rows",
     "examples.rows",
+    "served.rows",
+    "limited.rows",
+    "paused.rows",
 ];
 
 fn main(rt: HostRuntime) -> anyhow::Result<()> {

@@ -14,7 +14,7 @@ use row::Row;
 use rows_reader::tell_table;
 use std::fs;
 
-const TABLES: [&str; 21] = [
+const TABLES: [&str; 26] = [
     "words.rows",
     "expressions.rows",
     "control.rows",
@@ -36,6 +36,11 @@ const TABLES: [&str; 21] = [
     "values.rows",
     "frames.rows",
     "dict.rows",
+    "redefined.rows",
+    "loops.rows",
+    "texts.rows",
+    "traces.rows",
+    "deep.rows",
 ];
 
 fn main(rt: HostRuntime) -> anyhow::Result<()> {
