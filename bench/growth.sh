@@ -15,6 +15,7 @@ cd "$(dirname "$0")/.."
 few=${1:-5000}
 runs=${2:-3}
 . bench/lib/scripts.bash
+. bench/lib/costs.bash
 
 # Each row: a name, with `timed` before it if instructions don't say what it costs, and a script in which N stands for
 # the number.
@@ -46,39 +47,6 @@ lsearch over names|set l {}; for {set i 0} {$i < N} {incr i} {lappend l name$i};
 variables by name|for {set i 0} {$i < N} {incr i} {set v$i $i}; for {set i 0} {$i < N} {incr i} {set v$i}
 timed append of a text to itself|set s abc; while {[string length $s] < 1000 * N} {append s $s}
 ROWS
-}
-
-# The least processor time of a run of a command, in microseconds; it is taken by the millisecond.
-least() {
-    local best='' took run
-    local TIMEFORMAT='%3U+%3S'
-    for ((run = 0; run < runs; run++)); do
-        took=$({ time "$@" >/dev/null; } 2>&1)
-        took=${took//./}
-        took=$((1000 * (10#${took%+*} + 10#${took#*+})))
-        if [ -z "$best" ] || [ "$took" -lt "$best" ]; then best=$took; fi
-    done
-    echo "$best"
-}
-
-# The thousands of instructions of a run of a command.
-counted() {
-    valgrind --tool=callgrind --callgrind-out-file=/dev/null "$@" 2>&1 >/dev/null |
-        awk '/Collected/ {printf "%d\n", $NF / 1000}'
-}
-
-# What a run of a command takes, in the unit.
-cost() {
-    if [ "$unit" = us ]; then least "$@"; else counted "$@"; fi
-}
-
-# What a command takes for a row's script with so many, without its start: a thousand at least.
-cost_of() {
-    local script=$1 count=$2 start=$3 took
-    shift 3
-    echo "${script//N/$count}" >"$folder/row.tcl"
-    took=$(($(cost "$@" "$folder/row.tcl") - start))
-    echo $((took > 1000 ? took : 1000))
 }
 
 # How many times the first number the second is, with one digit after the point.
