@@ -1,6 +1,7 @@
 pub mod ExpressionLaw
 pub mod Growing
 pub mod Newest
+pub mod Numbers
 pub mod Operands
 pub mod Stepping
 pub mod WordLaw

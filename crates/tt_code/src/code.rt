@@ -1,11 +1,16 @@
+ghost use Rattle.std.specs.Prelude.{◌≡◌, IfOk};
+ghost use Rattle.tt_code.specs.declared.code.Instruction.TheVariants as code;
+
+use std::alloc::Global;
 use tt_exprs::Op;
-use tt_text::Text;
+use tt_text::{NoMemory, Text};
+use tt_value::Value;
 
 /// What is done with the values so far.
 #[derive(Debug, Drop)]
 pub(crate) enum Instruction {
-    /// Adds this text.
-    Push(Text),
+    /// Adds this value.
+    Push(Value),
     /// Adds the value of the variable of this name.
     Variable(Text),
     /// Replaces the newest, an index, by the value of the element of the array of this name.
@@ -38,4 +43,17 @@ pub(crate) enum Instruction {
 #[derive(Debug, Drop)]
 pub struct Code {
     pub(crate) instructions: Vec<Instruction>,
+}
+
+impl Instruction {
+    /// The one that adds this text, as the number whose decimal text it is if it is one.
+    ///
+    /// `NoMemory` if memory is refused.
+    pub(crate) fn literal(alloc: Global, text: Text) -> Result<Self, NoMemory>
+        ensures literal { IfOk result (λ instruction. instruction ≡ code.Push text) }
+    {
+        let mut value = Value::from_text(text);
+        let _ = value.whole(alloc)?;
+        Ok(Instruction::Push(value))
+    }
 }

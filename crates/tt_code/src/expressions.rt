@@ -21,7 +21,7 @@ pub(crate) fn push_expression(
     ensures { OnOk result (code.new ≡ making.expression_code (plain_expr expression.now) code.old) }
 {
     match expression {
-        Expr::Leaf(text) => code.push(Instruction::Push(text.copy()?)),
+        Expr::Leaf(text) => code.push(Instruction::literal(alloc, text.copy()?)?),
         Expr::Words(parts) => push_parts(alloc, parts, code),
         Expr::Node(op, operands) => push_operator(alloc, kind_of(*op), *op, operands, code),
     }
@@ -72,7 +72,7 @@ fn push_both(alloc: Global, operands: &[Expr], code: &mut Builder) -> Result<(),
         code.push(Instruction::WrongOperands)?;
         return Ok(());
     }
-    code.push(Instruction::Push(Text::from_bytes(alloc, b"0")?))?;
+    code.push(Instruction::literal(alloc, Text::from_bytes(alloc, b"0")?)?)?;
     let end = code.len();
     push_truth(alloc, &operands[1], code)?;
     code.push(Instruction::SkipIfFalse(code.len().saturating_sub(end)))?;
@@ -90,7 +90,7 @@ fn push_either(alloc: Global, operands: &[Expr], code: &mut Builder) -> Result<(
         code.push(Instruction::WrongOperands)?;
         return Ok(());
     }
-    code.push(Instruction::Push(Text::from_bytes(alloc, b"1")?))?;
+    code.push(Instruction::literal(alloc, Text::from_bytes(alloc, b"1")?)?)?;
     let end = code.len();
     push_truth(alloc, &operands[1], code)?;
     code.push(Instruction::SkipIfTrue(code.len().saturating_sub(end)))?;

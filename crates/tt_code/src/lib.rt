@@ -11,9 +11,11 @@ mod making;
 mod running;
 mod stack;
 mod steps;
+mod truths;
 mod words;
 
 pub use code::Code;
 pub use making::{condition_code, value_code, words_code};
 pub use running::Running;
 pub use steps::Halt;
+pub use truths::{bit, truth_value};

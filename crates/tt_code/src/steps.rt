@@ -1,5 +1,9 @@
 //! What the instructions do.
-ghost use Rattle.std.specs.Prelude.{◌≡◌, ◌∷◌, ◌++◌, IfOk, List, ℕ, reverse};
+ghost use Rattle.std.specs.Prelude.{◌≡◌, ◌∷◌, ◌++◌, [], IfOk, IfSome, IsTrue, List, ℕ, length, reverse};
+ghost use Rattle.std.specs.Fmt.{signed_decimal};
+ghost use Rattle.tt_calls.specs.Outcomes.{fine};
+ghost use Rattle.tt_exprs.specs.Apply.{operator_outcome, takes_numbers};
+ghost use Rattle.tt_exprs.specs.Operators.{takes};
 ghost use Rattle.tt_code.specs.Code.{Next, act};
 ghost use Rattle.tt_code.specs.Needs.{expansion_needs, unless_failed};
 ghost use Rattle.tt_code.specs.inside.Turns.{step_needs};
@@ -7,9 +11,10 @@ ghost use Rattle.tt_code.specs.declared.code.Instruction.TheVariants as code;
 
 use crate::code::Instruction;
 use crate::stack::Stack;
+use crate::truths::{bit, truth_value};
 use std::alloc::Global;
 use tt_calls::{Code, Outcome};
-use tt_exprs::{Op, apply, result, truth};
+use tt_exprs::{Op, apply, apply_to_numbers, result};
 use tt_text::{NoMemory, Text};
 use tt_value::{Value, texts_of, values_of};
 
@@ -49,7 +54,7 @@ pub(crate) fn perform(
         → act instruction.now next values.old ≡ step_needs step next values.new) }
 {
     match instruction {
-        Instruction::Push(text) => push(values, Value::from_text(text.copy()?)),
+        Instruction::Push(value) => push(values, value.copy()?),
         Instruction::Variable(name) => Ok(Step::Halts(Halt::Variable(name.copy()?))),
         Instruction::Element(name) => element(alloc, name, values),
         Instruction::Script(text) => Ok(Step::Halts(Halt::Script(text.copy()?))),
@@ -137,10 +142,54 @@ fn apply_to(alloc: Global, op: Op, count: usize, values: &mut Stack) -> Result<S
     if op.is_lazy() || !op.takes(operands.len()) {
         return wrong_operands(alloc);
     }
+    if let Some(number) = on_numbers(op, operands) {
+        values.forget(count);
+        return push(values, Value::from_whole(number));
+    }
     let operands = texts_of(alloc, operands)?;
     let outcome = apply(alloc, op, operands.as_slice())?;
     values.forget(count);
     push_value(alloc, outcome, values)
+}
+
+// What an operator gives on operands of which numbers are kept, if that is a number.
+fn on_numbers(op: Op, operands: &[Value]) -> Option<i64>
+    requires { IsTrue (takes op (length operands.now)) }
+    ensures { IfSome result (λ number. operator_outcome op operands.now ≡ fine (signed_decimal number)) }
+{
+    if !op.takes_numbers() {
+        return None;
+    }
+    match operands {
+        [a] => on_one(op, a),
+        [a, b] => on_two(op, a, b),
+        _ => None,
+    }
+}
+
+fn on_one(op: Op, a: &Value) -> Option<i64>
+    requires numbers { IsTrue (takes_numbers op) }
+    requires count { IsTrue (takes op 1) }
+    ensures { IfSome result (λ number. operator_outcome op (a.now ∷ []) ≡ fine (signed_decimal number)) }
+{
+    let a = a.number()?;
+    match apply_to_numbers(op, &[a]) {
+        Ok(number) => Some(number),
+        Err(_) => None,
+    }
+}
+
+fn on_two(op: Op, a: &Value, b: &Value) -> Option<i64>
+    requires numbers { IsTrue (takes_numbers op) }
+    requires count { IsTrue (takes op 2) }
+    ensures { IfSome result (λ number. operator_outcome op (a.now ∷ b.now ∷ []) ≡ fine (signed_decimal number)) }
+{
+    let a = a.number()?;
+    let b = b.number()?;
+    match apply_to_numbers(op, &[a, b]) {
+        Ok(number) => Some(number),
+        Err(_) => None,
+    }
 }
 
 /// The value of an outcome, unless it has failed.
@@ -159,12 +208,15 @@ fn result_of(alloc: Global, values: &mut Stack) -> Result<Step, NoMemory>
     ensures { IfOk result (λ step. (next : Next)
         → act code.Result next values.old ≡ step_needs step next values.new) }
 {
-    match values.pop() {
-        Some(value) => {
+    let Some(value) = values.pop() else {
+        return wrong_operands(alloc);
+    };
+    match value.number() {
+        Some(_) => push(values, value),
+        None => {
             let outcome = result(alloc, value.into_text(alloc)?)?;
             push_value(alloc, outcome, values)
         }
-        None => wrong_operands(alloc),
     }
 }
 
@@ -185,9 +237,8 @@ fn truth_of(alloc: Global, values: &mut Stack) -> Result<Step, NoMemory>
     let Some(value) = values.pop() else {
         return wrong_operands(alloc);
     };
-    match truth(alloc, value.into_text(alloc)?.as_bytes())? {
-        Ok(true) => push(values, Value::from_text(Text::from_bytes(alloc, b"1")?)),
-        Ok(false) => push(values, Value::from_text(Text::from_bytes(alloc, b"0")?)),
+    match truth_value(alloc, value)? {
+        Ok(truth) => push(values, bit(truth)),
         Err(message) => Ok(Step::Halts(Halt::Refused(message))),
     }
 }
@@ -199,7 +250,7 @@ fn skip_if_false(alloc: Global, count: usize, values: &mut Stack) -> Result<Step
     let Some(value) = values.pop() else {
         return wrong_operands(alloc);
     };
-    match truth(alloc, value.into_text(alloc)?.as_bytes())? {
+    match truth_value(alloc, value)? {
         Ok(true) => Ok(Step::Goes(0)),
         Ok(false) => Ok(Step::Goes(count)),
         Err(message) => Ok(Step::Halts(Halt::Refused(message))),
@@ -213,7 +264,7 @@ fn skip_if_true(alloc: Global, count: usize, values: &mut Stack) -> Result<Step,
     let Some(value) = values.pop() else {
         return wrong_operands(alloc);
     };
-    match truth(alloc, value.into_text(alloc)?.as_bytes())? {
+    match truth_value(alloc, value)? {
         Ok(true) => Ok(Step::Goes(count)),
         Ok(false) => Ok(Step::Goes(0)),
         Err(message) => Ok(Step::Halts(Halt::Refused(message))),

@@ -7,14 +7,15 @@ use crate::builder::Builder;
 use crate::code::Instruction;
 use std::alloc::Global;
 use tt_script::{Part, Word};
-use tt_text::{NoMemory, Text};
+use tt_text::NoMemory;
+use tt_value::Value;
 
 #[cycle(part)]
 fn push_part(alloc: Global, part: &Part, code: &mut Builder) -> Result<(), NoMemory>
     ensures { OnOk result (code.new ≡ making.part_code (plain_part part.now) code.old) }
 {
     match part {
-        Part::Letters(text) => code.push(Instruction::Push(text.copy()?)),
+        Part::Letters(text) => code.push(Instruction::literal(alloc, text.copy()?)?),
         Part::Variable(name) => code.push(Instruction::Variable(name.copy()?)),
         Part::Element(name, index) => {
             code.push(Instruction::Element(name.copy()?))?;
@@ -31,7 +32,7 @@ pub(crate) fn push_parts(alloc: Global, parts: &[Part], code: &mut Builder) -> R
 {
     let mut left = parts.len();
     if left == 0 {
-        return code.push(Instruction::Push(Text::new(alloc)));
+        return code.push(Instruction::Push(Value::new(alloc)));
     }
     while left > 1 {
         left -= 1;

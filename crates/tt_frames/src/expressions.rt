@@ -9,7 +9,6 @@ ghost use Rattle.tt_frames.specs.declared.job.Frame.TheVariants as frames;
 ghost use Rattle.tt_frames.specs.declared.state.Counts.{Counts};
 ghost use Rattle.tt_evaluation.specs.Frames.{plan_of};
 ghost use Rattle.tt_evaluation.specs.declared.language.Move.TheVariants as moves;
-ghost use Rattle.tt_outcomes.specs.declared.ending.Ending.TheVariants as endings;
 ghost use Rattle.tt_outcomes.specs.declared.want.Want.TheVariants as wants;
 
 use crate::job::{Asking, Frame, Job, Purpose};
@@ -17,8 +16,7 @@ use crate::kept::Made;
 use crate::language::Next;
 use crate::state::State;
 use std::alloc::Global;
-use tt_code::{Halt, Running};
-use tt_exprs::truth;
+use tt_code::{Halt, Running, bit, truth_value};
 use tt_outcomes::{Ending, Want};
 use tt_text::{NoMemory, Text};
 use tt_value::Value;
@@ -93,30 +91,23 @@ pub fn ending_for(alloc: Global, purpose: Purpose, value: Value) -> Result<Endin
     match purpose {
         Purpose::Value => Ok(Ending::Fine(value)),
         Purpose::Condition => {
-            let ending = truth_of(alloc, &value.into_text(alloc)?)?;
+            let ending = truth_ending(alloc, value)?;
             Ok(ending)
         }
     }
 }
 
-fn truth_of(alloc: Global, value: &Text) -> Result<Ending, NoMemory>
-    ensures { IfOk result (λ ending. ending ≡ truth_ending (truth_of value.now)) }
+// The truth of a value, as 1 or 0.
+fn truth_ending(alloc: Global, value: Value) -> Result<Ending, NoMemory>
+    ensures { IfOk result (λ ending. ending ≡ truth_ending (truth_of value)) }
 {
-    match truth(alloc, value.as_bytes())? {
-        Ok(true) => fine(alloc, b"1"),
-        Ok(false) => fine(alloc, b"0"),
+    match truth_value(alloc, value)? {
+        Ok(truth) => Ok(Ending::Fine(bit(truth))),
         Err(message) => {
             let ending = Ending::failed(alloc, message)?;
             Ok(ending)
         }
     }
-}
-
-fn fine(alloc: Global, text: &[u8]) -> Result<Ending, NoMemory>
-    ensures { IfOk result (λ ending. ending ≡ endings.Fine text.now) }
-{
-    let text = Text::from_bytes(alloc, text)?;
-    Ok(Ending::Fine(Value::from_text(text)))
 }
 
 fn reads(name: Text, index: Option<Text>, purpose: Purpose, running: Running) -> Next

@@ -1,6 +1,7 @@
 ghost use Rattle.std.specs.Prelude.{◌≡◌, IfOk, OnOk, OnErr};
 ghost use Rattle.std.specs.Option.{option_copied};
 ghost use Rattle.tt_store.specs.Held as held;
+ghost use Rattle.tt_store.specs.Spots as spots;
 
 use crate::messages::{cannot_read, cannot_set};
 use crate::nesting::Nesting;
@@ -58,9 +59,8 @@ impl Store {
     {
         let spot = spot_named(self.alloc, name, index)?;
         let found = self.find(&spot)?;
-        let word = full_name(self.alloc, name, index)?;
         self.read_again(&spot, &found);
-        let outcome = value_of(self.alloc, &word, found)?;
+        let outcome = value_named(self.alloc, name, index, found)?;
         Ok(outcome)
     }
 
@@ -68,8 +68,8 @@ impl Store {
     fn read_again(&mut self, spot: &Spot, found: &Result<Value, VarFault>)
         ensures same { self.new ≡ self.old }
     {
-        if let Some(length) = long_length(self.alloc, found) {
-            if self.rereads.is_due(spot, length) {
+        if let Some(text) = long_text(self.alloc, found) {
+            if self.rereads.is_due(spot, text.len()) && has_white_front(text.as_bytes()) {
                 self.nesting.keep_items(spot);
             }
         }
@@ -88,10 +88,9 @@ impl Store {
             held.IsWritten self.old name.now (option_copied index.entry) value outcome self.new) }
     {
         let spot = spot_named(self.alloc, name, index)?;
-        let word = full_name(self.alloc, name, index)?;
         let result = value.copy()?;
         let written = self.set_spot(&spot, value)?;
-        let outcome = stored(self.alloc, &word, result, written)?;
+        let outcome = stored_named(self.alloc, name, index, result, written)?;
         Ok(outcome)
     }
 
@@ -212,21 +211,39 @@ impl Store {
 }
 
 // How many bytes of a text are looked at for white space.
-const FRONT: usize = 256;
+const FRONT: usize = 1 << 16;
 
-// How many bytes a long text has that was found, if it may be a list of many items and can be shared.
-fn long_length(alloc: Global, found: &Result<Value, VarFault>) -> Option<usize> {
+// The long text that was found, if it can be shared.
+fn long_text(alloc: Global, found: &Result<Value, VarFault>) -> Option<Text> {
     match found {
-        Ok(value) if value.is_long_text() => {
-            let text = value.to_text(alloc).ok()?;
-            has_white_front(text.as_bytes()).then_some(text.len())
-        }
+        Ok(value) if value.is_long_text() => value.to_text(alloc).ok(),
         _ => None,
     }
 }
 
+// Whether a text may be a list of many items.
 fn has_white_front(text: &[u8]) -> bool {
     text.iter().take(FRONT).any(u8::is_ascii_whitespace)
+}
+
+// What reading a name gives. The name is spelled for an error alone.
+fn value_named(
+    alloc: Global,
+    name: &[u8],
+    index: Option<&[u8]>,
+    found: Result<Value, VarFault>,
+) -> Result<Outcome, NoMemory>
+    ensures { IfOk result (λ outcome.
+        outcome ≡ held.value_of (spots.full_name name.now (option_copied index.entry)) found) }
+{
+    match found {
+        Ok(value) => Ok(Outcome::with_result(alloc, value)),
+        Err(fault) => {
+            let word = full_name(alloc, name, index)?;
+            let outcome = value_of(alloc, &word, Err(fault))?;
+            Ok(outcome)
+        }
+    }
 }
 
 fn value_of(alloc: Global, word: &Text, found: Result<Value, VarFault>) -> Result<Outcome, NoMemory>
@@ -237,6 +254,27 @@ fn value_of(alloc: Global, word: &Text, found: Result<Value, VarFault>) -> Resul
         Err(fault) => {
             let message = cannot_read(alloc, word.as_bytes(), fault)?;
             let outcome = Outcome::failed(message)?;
+            Ok(outcome)
+        }
+    }
+}
+
+// What writing to it gives, likewise.
+fn stored_named(
+    alloc: Global,
+    name: &[u8],
+    index: Option<&[u8]>,
+    value: Value,
+    written: Written,
+) -> Result<Outcome, NoMemory>
+    ensures { IfOk result (λ outcome.
+        outcome ≡ held.write_outcome (spots.full_name name.now (option_copied index.entry)) value written) }
+{
+    match written {
+        Written::Yes => Ok(Outcome::with_result(alloc, value)),
+        Written::No(fault) => {
+            let word = full_name(alloc, name, index)?;
+            let outcome = stored(alloc, &word, value, Written::No(fault))?;
             Ok(outcome)
         }
     }
