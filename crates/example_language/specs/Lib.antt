@@ -1,1 +1,3 @@
+pub mod Deliveries
+pub mod DeliveriesLaws
 pub mod Greatest
