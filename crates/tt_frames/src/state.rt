@@ -85,6 +85,13 @@ impl State {
         self.counts.me
     }
 
+    /// How many units are spent.
+    pub fn units(&self) -> u64
+        ensures units { result ≡ self.now.units }
+    {
+        self.counts.units
+    }
+
     /// A script, made into code.
     ///
     /// `NoMemory` if memory is refused.

@@ -27,8 +27,9 @@ use Rattle.tt_kept.specs.Beginning.{IsNext}
 use Rattle.tt_interp.specs.declared.interp.Standing.{Standing}
 use Rattle.tt_interp.specs.declared.interp.Standing.TheVariants as standing
 use Rattle.tt_kept.specs.declared.kept.Kept.{Kept}
-use Rattle.tt_interp.specs.declared.settling.Reached.{Reached}
-use Rattle.tt_interp.specs.declared.settling.Reached.TheVariants as reached
+use Rattle.tt_hosting.specs.Hosting as hosting
+use Rattle.tt_hosting.specs.declared.driving.Reached.{Reached}
+use Rattle.tt_hosting.specs.declared.driving.Reached.TheVariants as reached
 use Rattle.tt_kept.specs.declared.setup.Setup.{Setup}
 
 -- an interpreter: what it keeps, and where its evaluation stands
@@ -96,6 +97,12 @@ abbrev pub serving_of : Standing → List ℕ
 serving_of (standing.Asks stack request) = frames.serving stack
 serving_of other = []
 
+-- the units that are spent
+abbrev pub units_of : Standing → ℕ
+units_of (standing.Fresh start me limit) = 0
+units_of (standing.Asks stack request) = stack.state.units
+units_of (standing.Over stack ending) = stack.state.units
+
 -- what is asked where it halts: a request, or at its end the last one
 abbrev pub request_of : Standing → Request
 request_of (standing.Fresh start me limit) = ask.End (pos 0)
@@ -122,11 +129,10 @@ pub record IsStanding (standing : Standing) (last : Request) : Type 0 where
 abbrev pub after_got : Stack Counts Frame Asking → Got → Coming
 after_got stack got gots = after_answer plan after on_got stack got gots
 
--- what was reached, as the halt of its stack, and where the evaluation stands with it
-abbrev pub halt_of : Reached → Halt Want Ending
-halt_of (reached.Asks request) = Wants (Ask request)
-halt_of (reached.Over ending) = Ended ending
+-- what a stack comes to from where it was reached, and where the evaluation stands with it
+abbrev pub from_reached : Reached Request Ending → Stack Counts Frame Asking → Coming
+from_reached reached stack = hosting.from_reached plan after on_got Ask reached stack
 
-abbrev pub standing_of : Reached → Stack Counts Frame Asking → Standing
+abbrev pub standing_of : Reached Request Ending → Stack Counts Frame Asking → Standing
 standing_of (reached.Asks request) stack = standing.Asks stack request
 standing_of (reached.Over ending) stack = standing.Over stack ending

@@ -103,6 +103,17 @@ impl Interp {
         }
     }
 
+    /// How many units the thread has spent: one for each command, each turn of a loop, and each event that was asked
+    /// for.
+    pub fn units(&self) -> u64
+        ensures units { result ≡ interps.units_of self.now.standing }
+    {
+        match &self.standing {
+            Standing::Fresh { .. } => 0,
+            Standing::Asks { stack, .. } | Standing::Over { stack, .. } => stack.units(),
+        }
+    }
+
     /// What the thread asks next: a request, or after its evaluation its end.
     pub fn request(&self) -> &Request
         requires halted { IsTrue (interps.is_halted self.now.standing) }

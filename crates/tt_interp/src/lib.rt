@@ -2,6 +2,7 @@
 //! reply.
 #![tactic(auto)]
 
+mod hosted;
 mod interp;
 mod paused;
 mod settling;

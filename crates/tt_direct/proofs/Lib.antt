@@ -1,0 +1,4 @@
+pub mod Remains
+pub mod Needing
+pub mod Spending
+pub mod Turning

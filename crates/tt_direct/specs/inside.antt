@@ -1,0 +1,4 @@
+pub mod Coming
+pub mod Needing
+pub mod Commands
+pub mod Loops
