@@ -14,7 +14,7 @@ use std::sync::{Mutex, Wait};
 use std::thread::Threads;
 use std::time::{Duration, Instant};
 use std::{env, io, thread};
-use tt_noted::{Noted, Pass, Tie};
+use tt_noted::{Noted, Pass, Tie, Wakes};
 
 // Enters and leaves of all threads together, with and without the argument `time`.
 const TIMED: u64 = 1 << 20;
@@ -154,7 +154,7 @@ fn rest_until<R: Wait>(
     for _ in rt.forever() {
         let turn = lock.enter(rt, pass);
         let count = turn.state;
-        lock.leave_quietly(pass, turn, ());
+        lock.leave_waking(pass, turn, (), Wakes::Nobody);
         if count >= rounds {
             return;
         }
@@ -177,7 +177,7 @@ fn count_quietly<R: Wait + Clock>(
     for _ in 1..rounds {
         let mut turn = lock.enter(rt, pass);
         turn.state = turn.state.wrapping_add(1);
-        lock.leave_quietly(pass, turn, ());
+        lock.leave_waking(pass, turn, (), Wakes::Nobody);
     }
     let end = Instant::now(rt);
     enter_and_leave(rt, lock, pass, 1);

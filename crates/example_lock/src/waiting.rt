@@ -9,7 +9,7 @@ use std::sync::atomic::AtomicU64;
 use std::sync::atomic::Ordering::SeqCst;
 use std::thread;
 use std::time::Duration;
-use tt_noted::{Noted, Pass};
+use tt_noted::{Noted, Pass, Wakes};
 
 type Count = Unnoted<u64>;
 
@@ -31,7 +31,7 @@ fn add_quietly<R: Wait>(rt: &R, lock: &Noted<Count>, pass: &mut Pass<Count>, mor
     let mut turn = lock.enter(rt, pass);
     let count = turn.state.wrapping_add(more);
     turn.state = count;
-    lock.leave_quietly(pass, turn, ());
+    lock.leave_waking(pass, turn, (), Wakes::Nobody);
     count
 }
 

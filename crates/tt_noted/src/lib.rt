@@ -8,7 +8,9 @@ mod noted;
 mod pass;
 mod table;
 mod tie;
+mod wakes;
 
 pub use noted::Noted;
 pub use pass::{Pass, Turn};
 pub use tie::Tie;
+pub use wakes::Wakes;

@@ -6,6 +6,7 @@ ghost use Rattle.std.specs.List.{enumerate_from};
 use crate::pass::{Pass, Turn};
 use crate::table::{Board, ByNote, Leaves, Note, Opening, Place, Take};
 use crate::tie::Tie;
+use crate::wakes::Wakes;
 use atomic_table::{Refused, Table};
 use std::alloc::Global;
 use std::hint::spin_loop;
@@ -20,27 +21,6 @@ use std::thread::yield_now;
 const SPINS: u32 = 16;
 
 const YIELDS: u32 = 32;
-
-/// How a pass leaves: with news for those that rest, or without.
-#[derive(Clone, Copy)]
-enum Manner {
-    Loud,
-    Quiet,
-}
-
-impl Manner {
-    // What a leave adds to word 0: one, so that it is even again, and where it has news one to its upper half, which
-    // counts them. That the lower half runs over into the upper one after 2 ^ 32 steps is news too, which does no harm.
-    #[inline]
-    fn adds(self) -> u64
-        ensures odd { result % 2 ≡ 1 }
-    {
-        match self {
-            Manner::Loud => (1 << 32) + 1,
-            Manner::Quiet => 1,
-        }
-    }
-}
 
 /// A lock round one state, for 1 to 64 passes. Threads share it by reference, and it ends in `close`.
 pub struct Noted<T: Tie> {
@@ -217,7 +197,7 @@ impl<T: Tie> Noted<T> {
         seat: &mut Place<T>,
         state: T::State,
         _note: &T::Note,
-        manner: Manner,
+        wakes: Wakes,
     ) -> u64
         requires of_table { seat.old.table_id ≡ self.now.table.shared.table_id }
         requires held { seat.old.me.1 ≡ (0, None) ∷ [] }
@@ -229,7 +209,7 @@ impl<T: Tie> Noted<T> {
         let shared = &self.table.shared;
         let found = shared.exchange(seat, 0, Some(state));
         let None = found else { unreachable!() };
-        let more = manner.adds();
+        let more = wakes.adds();
         shared
             .fetch_add::<Note<K>>(seat, 0, more)
             .wrapping_add(more)
@@ -237,7 +217,7 @@ impl<T: Tie> Noted<T> {
 
     // Puts the state back, and gives the pass its new note and the lock up.
     #[inline]
-    fn end_turn(&self, pass: &mut Pass<T>, turn: Turn<T>, note: T::Note, manner: Manner)
+    fn end_turn(&self, pass: &mut Pass<T>, turn: Turn<T>, note: T::Note, wakes: Wakes)
         requires own { IsPassOf self.now pass.old }
         requires turn { turn_of pass.old ≡ Some (state_at_entry turn) }
         requires fits { KeepsFit T.fits self.now pass.old turn note }
@@ -251,13 +231,13 @@ impl<T: Tie> Noted<T> {
             left,
             seat,
         } = pass;
-        *left = news_in(self.put_back::<Brand>(seat, state, &note, manner));
+        *left = news_in(self.put_back::<Brand>(seat, state, &note, wakes));
         if self.waiting.load(SeqCst) > 0 {
             self.table.shared.wake_one(0);
         }
     }
 
-    /// Puts the state back, gives the pass its new note and the lock up, and wakes the passes that rest.
+    /// Puts the state back, gives the pass its new note and the lock up, and wakes all passes that rest.
     /// Whatever the other notes are, the state has to fit with the new note if it fitted with the old one as it was
     /// entered.
     #[inline]
@@ -269,17 +249,13 @@ impl<T: Tie> Noted<T> {
         ensures note { note_of pass.new ≡ Some note }
         ensures no_turn { turn_of pass.new ≡ None }
     {
-        self.end_turn(pass, turn, note, Manner::Loud);
-        if self.resting.load(SeqCst) > 0 {
-            self.wakes.fetch_add(1, SeqCst);
-            self.wakes.wake_all();
-        }
+        self.leave_waking(pass, turn, note, Wakes::All);
     }
 
-    /// Puts the state back, and gives the pass its new note and the lock up, as `leave` does. It wakes no pass that
-    /// rests, and ends no rest: for a turn that found nothing to do.
+    /// Puts the state back, and gives the pass its new note and the lock up, as `leave` does. It wakes as many of the
+    /// passes that rest as it is asked to; if that is nobody, it ends no rest either.
     #[inline]
-    pub fn leave_quietly(&self, pass: &mut Pass<T>, turn: Turn<T>, note: T::Note)
+    pub fn leave_waking(&self, pass: &mut Pass<T>, turn: Turn<T>, note: T::Note, wakes: Wakes)
         requires own { IsPassOf self.now pass.old }
         requires turn { turn_of pass.old ≡ Some (state_at_entry turn) }
         requires fits { KeepsFit T.fits self.now pass.old turn note }
@@ -287,11 +263,20 @@ impl<T: Tie> Noted<T> {
         ensures note { note_of pass.new ≡ Some note }
         ensures no_turn { turn_of pass.new ≡ None }
     {
-        self.end_turn(pass, turn, note, Manner::Quiet);
+        self.end_turn(pass, turn, note, wakes);
+        if wakes == Wakes::Nobody || self.resting.load(SeqCst) == 0 {
+            return;
+        }
+        self.wakes.fetch_add(1, SeqCst);
+        if wakes == Wakes::One {
+            self.wakes.wake_one();
+        } else {
+            self.wakes.wake_all();
+        }
     }
 
-    /// Waits for another pass's `leave`. It may end for no reason, and begins no wait where a pass has left, other than
-    /// quietly, since this pass's own last leave of either kind.
+    /// Waits for a leave of another pass that wakes. It may end for no reason, and begins no wait if a pass has left so
+    /// since this pass's own last leave.
     pub fn rest<R: Wait>(&self, rt: &R, pass: &mut Pass<T>)
         requires own { IsPassOf self.now pass.old }
         requires no_turn { turn_of pass.old ≡ None }

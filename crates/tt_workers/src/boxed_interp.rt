@@ -12,6 +12,8 @@ use tt_text::NoMemory;
 #[derive(Debug, Drop)]
 pub struct BoxedInterp {
     inside: Box<Interp>,
+    // How many units it spent when it was resumed last.
+    spent: u64,
 }
 
 impl Model for BoxedInterp {
@@ -38,6 +40,7 @@ impl BoxedInterp {
         let interp = Interp::new(alloc, start, number, setup)?;
         Ok(BoxedInterp {
             inside: Box::new(alloc, interp)?,
+            spent: 0,
         })
     }
 
@@ -49,7 +52,10 @@ impl BoxedInterp {
         ensures stands { OnOk result (interps.GoesOn self.new self.old reply) }
         ensures halts { OnOk result (IsTrue (interps.is_halted self.new.standing)) }
     {
-        self.inside.resume(reply)
+        let before = self.inside.units();
+        self.inside.resume(reply)?;
+        self.spent = self.inside.units().saturating_sub(before);
+        Ok(())
     }
 
     /// Whether it can be resumed with this: at first without a reply, and then with one, but after its end with
@@ -58,6 +64,11 @@ impl BoxedInterp {
         ensures fits { result ≡ interps.fits self.now.standing reply.now }
     {
         self.inside.can_resume(reply)
+    }
+
+    /// How many units it spent when it was resumed last. No clause says it: whom a worker wakes is free.
+    pub(crate) fn spent(&self) -> u64 {
+        self.spent
     }
 
     /// What the thread asks next: a request, or after its evaluation its end.

@@ -66,7 +66,19 @@ fn one_round<R: Wait, S: Source + Send, K: Sink + Send, E: Sink + Send, G: Gate>
     }
 }
 
-/// One turn under the lock. It wakes the workers that rest if one of them could do something.
+// From so many units on that its slice spent a worker counts as busy: so many commands take about as long as to wake
+// another worker, which then takes part of the work.
+const BUSY: u64 = 50;
+
+/// Whether a worker that brings this back is busy: its slice was long, or it was woken, since there was work.
+fn is_busy(done: &Option<Done>) -> bool {
+    match done {
+        Some(done) => done.interp.spent() >= BUSY,
+        None => true,
+    }
+}
+
+/// One turn under the lock. It wakes workers that rest if they are to take part.
 fn take_turn<R: Wait, S: Source + Send, K: Sink + Send, E: Sink + Send>(
     rt: &R,
     lock: &Noted<Tied<S, K, E>>,
@@ -81,13 +93,11 @@ fn take_turn<R: Wait, S: Source + Send, K: Sink + Send, E: Sink + Send>(
     ensures noted { IsNotedNext (note_of pass.old) (note_of pass.new) result }
     ensures ready { IsReady result }
 {
+    let was_busy = is_busy(&done);
     let mut turn = lock.enter(rt, pass);
     let next = turn.state.turn(pass.number(), done);
     let note = turn.state.note(&next);
-    if turn.state.wakes() {
-        lock.leave(pass, turn, note);
-    } else {
-        lock.leave_quietly(pass, turn, note);
-    }
+    let wakes = turn.state.wakes(was_busy, &next);
+    lock.leave_waking(pass, turn, note, wakes);
     next
 }

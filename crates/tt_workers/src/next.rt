@@ -43,6 +43,13 @@ pub enum Next {
     Over,
 }
 
+impl Next {
+    /// Whether it is a thread that has not begun.
+    pub(crate) fn is_fresh(&self) -> bool {
+        matches!(self, Next::Run(task) if task.reply.is_none())
+    }
+}
+
 /// How a run ends.
 #[derive(Clone, Copy, Debug, PartialEq, Eq)]
 pub enum RunEnd {

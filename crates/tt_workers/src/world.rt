@@ -25,6 +25,7 @@ use tt_calls::{Reply, Start};
 use tt_core::Began;
 use tt_devices::{Sink, Source};
 use tt_interp::Setup;
+use tt_noted::Wakes;
 use tt_run::{Desk, NewFault, StepFault};
 use tt_text::NoMemory;
 
@@ -133,14 +134,20 @@ impl<S: Source, K: Sink, E: Sink> World<S, K, E> {
         }
     }
 
-    /// Whether a worker could do something: whether the run has its end, or a thread can go on. It takes no memory.
-    pub fn wakes(&self) -> bool
-        ensures end { IsSome self.now.end → IsTrue result }
-        ensures able { (number : ℕ) → IsTrue (can_go self.now.desk self.now.places number) → IsTrue result }
-        ensures barren { self.now.end ≡ None →
-            ((number : ℕ) → IsFalse (can_go self.now.desk self.now.places number)) → IsFalse result }
+    /// Whom a worker wakes of those that rest, after its turn: all if the run has its end; one if another thread can go
+    /// on, and the worker may be busy for long, or was; else nobody, since it comes back soon and takes that thread
+    /// itself. It takes no memory.
+    pub fn wakes(&self, was_busy: bool, next: &Next) -> Wakes
+        ensures end { IsSome self.now.end → result ≡ Wakes.All }
     {
-        self.end.is_some() || self.roster.next_after(&self.desk, 0).is_some()
+        if self.end.is_some() {
+            return Wakes::All;
+        }
+        if (was_busy || next.is_fresh()) && self.roster.next_after(&self.desk, 0).is_some() {
+            Wakes::One
+        } else {
+            Wakes::Nobody
+        }
     }
 
     /// The note of a pass after a turn.

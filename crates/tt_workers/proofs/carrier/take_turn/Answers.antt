@@ -24,35 +24,22 @@ turn-next-requires-clause-tied g c =
       returns-of _ f.0 _ _ (ap (λ n. slice_get f.0 (n - 1)) c.number.ensures ∙ (f.2 ∙ c.enter-turn.ensures.own.1)) c.requires.may,
     )
 
-pub leave-requires-send-T-State : goal.leave-requires-send-T-State
-leave-requires-send-T-State g c κs within =
+pub leave_waking-requires-send-T-State : goal.leave_waking-requires-send-T-State
+leave_waking-requires-send-T-State g c κs within =
     state-send (param 1 g.row.S) (param 2 g.row.K) (param 3 g.row.E) g.S.Source g.K.Sink g.E.Sink _ c.type_bounds.send-S
     c.type_bounds.send-K c.type_bounds.send-E
 
-pub leave-requires-clause-fits : goal.leave-requires-clause-fits
-leave-requires-clause-fits g c κs within notes long at fit =
+pub leave_waking-requires-clause-fits : goal.leave_waking-requires-clause-fits
+leave_waking-requires-clause-fits g c κs within notes long at fit =
     turn-fits g.S.Source g.K.Sink g.E.Sink notes _ c.number.result c.deref_mut.result.now _ c.turn-next.new.self c.args.done
     c.turn-next.result _ _ c.number.ensures
     (ap (λ world. world.value) c.enter-turn.ensures.turn.1 ∙ sym c.deref_mut.ensures.value)
     (c.note-note.ensures ∙ ap (λ world. note_after world (out_of c.turn-next.result)) c.deref.ensures)
     c.turn-next.ensures.keeps (at ∙ c.enter-turn.ensures.own.1) c.requires.may fit
 
-pub leave_quietly-requires-send-T-State : goal.leave_quietly-requires-send-T-State
-leave_quietly-requires-send-T-State g c κs within =
-    state-send (param 1 g.row.S) (param 2 g.row.K) (param 3 g.row.E) g.S.Source g.K.Sink g.E.Sink _ c.type_bounds.send-S
-    c.type_bounds.send-K c.type_bounds.send-E
-
-pub leave_quietly-requires-clause-fits : goal.leave_quietly-requires-clause-fits
-leave_quietly-requires-clause-fits g c κs within notes long at fit =
-    turn-fits g.S.Source g.K.Sink g.E.Sink notes _ c.number.result c.deref_mut.result.now _ c.turn-next.new.self c.args.done
-    c.turn-next.result _ _ c.number.ensures
-    (ap (λ world. world.value) c.enter-turn.ensures.turn.1 ∙ sym c.deref_mut.ensures.value)
-    (c.note-note.ensures ∙ ap (λ world. note_after world (out_of c.turn-next.result)) c.deref.ensures)
-    c.turn-next.ensures.keeps (at ∙ c.enter-turn.ensures.own.1) c.requires.may fit
-
-pub returns-then-wakes-clause-noted : goal.returns-then-wakes-clause-noted
-returns-then-wakes-clause-noted g c =
+pub returns-clause-noted : goal.returns-clause-noted
+returns-clause-noted g c =
     let f = c.enter-turn.ensures.fits in
     next-noted g.S.Source g.K.Sink g.E.Sink _ _ f.0 _ _ c.turn-next.new.self _ (f.2 ∙ c.enter-turn.ensures.own.1) f.3
     (c.turn-next.ensures.begun ∙ ap (λ world. world.begun) c.deref_mut.ensures.value)
-    (c.leave.ensures.note ∙ ap Some (c.note-note.ensures ∙ ap (λ world. note_after world (out_of c.turn-next.result)) c.deref.ensures))
+    (c.leave_waking.ensures.note ∙ ap Some (c.note-note.ensures ∙ ap (λ world. note_after world (out_of c.turn-next.result)) c.deref.ensures))
