@@ -1,0 +1,12 @@
+pub mod Clocking
+pub mod Deciding
+pub mod RaceCounts
+pub mod RaceLawProofs
+pub mod Hops
+pub mod Joins
+pub mod Lists
+pub mod Places
+pub mod Racing
+pub mod Ranks
+pub mod Same
+pub mod Telling

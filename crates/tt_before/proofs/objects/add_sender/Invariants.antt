@@ -1,0 +1,7 @@
+use Rattle.std.proofs.Common.{◌≡◌, ◌++◌, take}
+use Rattle.std.specs.List.{filter_map}
+use Rattle.tt_before.specs.Objects.{sender_if}
+use Rattle.tt_before.proofs.objects.add_sender.Given as goal
+
+abbrev pub invariant-loop-post : goal.invariant-loop-post
+invariant-loop-post l = l.objects.items ≡ l.fn.objects.items ++ filter_map (sender_if l.number) (take l.post-index l.posts)

@@ -1,0 +1,11 @@
+use Rattle.std.proofs.Common.{◌∙◌, ◌++◌, ap}
+use Rattle.std.specs.Option.{option_to_list}
+use Rattle.tt_before.specs.Objects.{sender_if_to}
+use Rattle.tt_before.proofs.Lists.{one_more}
+use Rattle.tt_before.proofs.objects.add_senders_to.Goals as goal
+
+pub loop-post-preserved : goal.loop-post-preserved
+loop-post-preserved c =
+    one_more (sender_if_to c.args.thread) c.args.posts.now c.loop-post.post-index _ c.args.objects.now.items c.loop-post.objects.items
+    c.add_some.new.objects.items c.loop-post-test.true c.loop-post.invariant
+    (c.in_ok-add_some.ensures ∙ ap (λ o. c.loop-post.objects.items ++ option_to_list o) c.sender_if_to.ensures)

@@ -1,0 +1,5 @@
+pub mod Clocks
+pub mod Keeping
+pub mod Kept
+pub mod Found
+pub mod Told
