@@ -58,6 +58,14 @@ impl Few {
         Few { room: self.room }
     }
 
+    /// The bytes of the other take the place of its own.
+    #[inline]
+    pub(crate) fn set(&mut self, other: &Few)
+        ensures set { self.new ≡ other.now }
+    {
+        self.room = other.room;
+    }
+
     /// Whether the other has the same bytes.
     #[tactic(auto, using(crate::proofs::RoomLemmas::by_rooms, crate::proofs::RoomLemmas::by_lengths))]
     pub(crate) fn is_same(&self, other: &Few) -> bool

@@ -171,11 +171,21 @@ impl Text {
         let alloc = self.alloc;
         match &self.storage {
             Storage::Short(few) => {
-                let storage = Storage::Short(few.copy());
-                items.push_reserved(Text { alloc, storage });
+                push_few(alloc, few, items);
                 Ok(())
             }
             Storage::Long(shared) => push_shared(alloc, shared, items),
+        }
+    }
+
+    // It becomes the text of these few bytes.
+    #[inline]
+    fn set_few(&mut self, few: &Few)
+        ensures set { self.new ≡ few.now }
+    {
+        match &mut self.storage {
+            Storage::Short(own) => own.set(few),
+            storage @ Storage::Long(_) => *storage = Storage::Short(few.copy()),
         }
     }
 
@@ -220,6 +230,20 @@ fn shared(alloc: Global, bytes: Vec<u8>) -> Result<Storage, NoMemory>
     ensures stored { IfOk result (λ storage. bytes_of storage ≡ bytes.items) }
 {
     Ok(Storage::Long(Arc::new(alloc, Many::from_vec(bytes))?))
+}
+
+// A text of these few bytes goes to the end of a list. It is written at its place: a text that is built elsewhere, in
+// pieces, and moved there as a whole takes twice the time.
+#[inline]
+fn push_few(alloc: Global, few: &Few, items: &mut Vec<Text>)
+    requires room { vec_len items.old < vec_capacity items.old }
+    ensures pushed { items.new.items ≡ items.old.items ++ few.now ∷ [] }
+    ensures len { vec_len items.new ≡ vec_len items.old + 1 }
+    ensures capacity { vec_capacity items.new ≡ vec_capacity items.old }
+{
+    let place = items.len();
+    items.push_reserved(Text::new(alloc));
+    items[place].set_few(few);
 }
 
 // A text of these bytes goes to the end of a list. It is a function of its own, so that the way of short texts is short.
