@@ -1,5 +1,6 @@
-ghost use Rattle.std.specs.Prelude.{◌≡◌, ◌++◌, ◌∷◌, ◌≤◌, ◌==◌, [], length, not, OnErr, OnOk};
-ghost use Rattle.std.specs.List.{prefix_len};
+ghost use Rattle.std.specs.Prelude.{◌≡◌, ◌++◌, ◌∷◌, ◌≤◌, ◌==◌, ◌↔◌, ℕ, [], length, not, IfOk, OnErr, OnOk};
+ghost use Rattle.std.specs.List.{Contains, prefix_len};
+ghost use Rattle.std.specs.List.Sorted.{IsStrictlyIncreasing};
 ghost use Rattle.tt_locks.specs.Lock.{has_none, is_among, without_one};
 
 use std::alloc::Global;
@@ -70,6 +71,17 @@ impl Holders {
             .iter()
             .take_while(|holder| **holder != thread)
             .count()
+    }
+
+    // Each of the threads once, by number.
+    pub(crate) fn different(&self) -> Result<Vec<u32>, NoMemory>
+        ensures by_number { IfOk result (λ threads. IsStrictlyIncreasing threads.items) }
+        ensures exactly { IfOk result (λ threads. (u : ℕ) → Contains threads.items u ↔ Contains self.now u) }
+    {
+        let mut threads = self.threads.clone()?;
+        threads.sort_unstable();
+        threads.dedup();
+        Ok(threads)
     }
 
     pub(crate) fn clear(&mut self)

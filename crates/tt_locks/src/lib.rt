@@ -2,6 +2,7 @@
 #![tactic(auto)]
 
 mod answers;
+mod blocking;
 mod holders;
 pub mod laws;
 mod lock;

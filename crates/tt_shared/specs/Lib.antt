@@ -1,4 +1,6 @@
 pub mod Acts
+pub mod Blocking
+pub mod BlockingLaws
 pub mod Enabled
 pub mod Ends
 pub mod Mail

@@ -4,8 +4,10 @@
 
 mod applied;
 mod apply;
+mod blocking;
 mod enabled;
 mod ends;
+pub mod laws;
 mod parts;
 mod posts;
 mod queues;

@@ -1,4 +1,5 @@
 ghost use Rattle.std.specs.Prelude.{◌≡◌, ◌<◌, ◌-◌, ◌++◌, ◌∷◌, [], length, IfNone, IfSome, None, OnOk, is_some};
+ghost use Rattle.std.specs.Option.{option_copied};
 ghost use Rattle.tt_shared.specs.Mail.{queues_without_events, first_of, with_event, queue_of, queues_with_event};
 ghost use Rattle.tt_shared.specs.Mail.{scripts_of, without_first};
 
@@ -51,6 +52,14 @@ impl Queues {
     {
         let place = usize::try_from(thread).ok()?.checked_sub(1)?;
         (place < self.queues.len()).then_some(place)
+    }
+
+    /// The queue of a thread; `None` exactly if there is no such thread. It takes no memory.
+    pub fn of(&self, thread: u32) -> Option<&Queue>
+        ensures queue { option_copied result ≡ queue_of self.now thread }
+    {
+        let place = self.place(thread)?;
+        Some(&self.queues[place])
     }
 
     /// An event more for a thread, before all others with `head`, else behind them; nothing if there is no such thread.

@@ -1,8 +1,10 @@
-ghost use Rattle.std.specs.Prelude.{◌≡◌, [], IfOk, IsSome, OnOk, Some, length, option_map};
+ghost use Rattle.std.specs.Prelude.{◌≡◌, [], IfOk, IsSome, OnOk, Some, length, option_copied, option_map};
 ghost use Rattle.tt_calls.specs.declared.reply.Reply.TheVariants.{Refused};
+ghost use Rattle.tt_shared.specs.Mail.{queue_of};
 ghost use Rattle.tt_shared.specs.Sends.{tells, unwinds};
 ghost use Rattle.tt_shared.specs.State.{answer, is_marked, is_marked_life, room, start_state};
 ghost use Rattle.tt_threads.specs.Rows.{is_living, row_of};
+ghost use Rattle.tt_tsv.specs.Calls.{array_text};
 
 use crate::{Applied, ErrorProcedure, Posts, Queues};
 use std::alloc::Global;
@@ -11,6 +13,7 @@ use tt_calls::{Event, Reply, Start};
 use tt_chans::Chans;
 use tt_locks::Locks;
 use tt_pools::Pools;
+use tt_queue::Queue;
 use tt_text::{NoMemory, Text};
 use tt_threads::{Life, Threads};
 use tt_tsv::Arrays;
@@ -106,6 +109,23 @@ impl Shared {
         ensures over { result ≡ self.now.over }
     {
         self.over
+    }
+
+    /// The queue of a thread, one that has ended too; `None` exactly if there is no such thread. It takes no memory.
+    pub fn queue_of(&self, thread: u32) -> Option<&Queue>
+        ensures queue { option_copied result ≡ queue_of self.now.queues thread }
+    {
+        self.queues.of(thread)
+    }
+
+    /// The list of the keys of a shared array, each followed by its value (tsv(n), tsv::array get). `None` exactly if
+    /// there is no such array.
+    ///
+    /// `NoMemory` if memory for it is refused.
+    pub fn array_text(&self, name: &[u8]) -> Result<Option<Text>, NoMemory>
+        ensures text { IfOk result (λ text. text ≡ array_text self.now.arrays name.now) }
+    {
+        self.arrays.text(name)
     }
 
     // A reply, with nothing written and no thread made.

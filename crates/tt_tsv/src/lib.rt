@@ -5,6 +5,7 @@ mod answers;
 mod array;
 mod array_calls;
 mod arrays;
+mod blocking;
 mod change;
 mod elements;
 pub mod laws;
