@@ -1,3 +1,4 @@
 pub mod Walks
 pub mod WaitLaws
+pub mod Waiting
 pub mod inside
