@@ -1,3 +1,4 @@
 pub mod OneRequest
 pub mod Steps
 pub mod RunActionLemmas
+pub mod WaitingLists

@@ -1,3 +1,5 @@
 pub mod MachineLaws
 pub mod Machine
 pub mod RunActions
+pub mod Waiting
+pub mod WaitingLaws

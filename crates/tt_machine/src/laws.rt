@@ -1,6 +1,7 @@
 //! What holds of the machine.
 ghost use Rattle.tt_machine.specs.MachineLaws.{BarredLaw, OneMoreLaw, OneRunLaw, OneStepLaw};
 ghost use Rattle.tt_machine.specs.RunActions.{FewChannelsLaw, OrderlyStepLaw, RunActionsLaw};
+ghost use Rattle.tt_machine.specs.WaitingLaws.{OneWaitingLaw, WaitingGrowsLaw};
 
 /// A step of a thread leads to one machine.
 pub fn one_step()
@@ -35,4 +36,14 @@ pub fn steps_are_orderly()
 /// A step draws two numbers of channels at most.
 pub fn channels_are_few()
     ensures { FewChannelsLaw }
+{}
+
+/// There is one list of the threads that wait.
+pub fn one_list_of_waiting()
+    ensures { OneWaitingLaw }
+{}
+
+/// The list of the threads that wait grows thread by thread.
+pub fn waiting_grows()
+    ensures { WaitingGrowsLaw }
 {}
