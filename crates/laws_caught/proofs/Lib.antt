@@ -1,0 +1,12 @@
+pub mod Caught
+pub mod Answers
+pub mod Arrays
+pub mod Ended
+pub mod Moving
+pub mod Numbers
+pub mod Posts
+pub mod LockDeeds
+pub mod LockTables
+pub mod Locks
+pub mod Lines
+pub mod PipeEnds

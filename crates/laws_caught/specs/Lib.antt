@@ -1,0 +1,2 @@
+pub mod CaughtLaws
+pub mod WaitLaws
