@@ -268,6 +268,27 @@ impl<S: Source, K: Sink, E: Sink> Desk<S, K, E> {
         self.shared.start_of(thread)
     }
 
+    /// What the threads share. It takes no memory.
+    pub fn shared(&self) -> &Shared
+        ensures shared { result.now ≡ self.now.shared }
+    {
+        &self.shared
+    }
+
+    /// Standard output, as it is. It takes no memory.
+    pub fn output(&self) -> &K
+        ensures output { result.now ≡ self.now.devices.output }
+    {
+        &self.devices.output
+    }
+
+    /// Standard error, as it is. It takes no memory.
+    pub fn errors(&self) -> &E
+        ensures errors { result.now ≡ self.now.devices.errors }
+    {
+        &self.devices.errors
+    }
+
     /// The steps that were taken.
     pub fn schedule(&self) -> &Schedule
         ensures schedule { result.now.threads ≡ self.now.schedule }
