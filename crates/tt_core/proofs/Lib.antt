@@ -3,3 +3,4 @@ pub mod CrewLemmas
 pub mod PlaceLemmas
 pub mod StandLemmas
 pub mod StepLemmas
+pub mod TellLemmas

@@ -66,12 +66,12 @@ asks-it number request places interp found is = λ machine are lives.
     }
 
 -- the interpreter that a request is asked by
-record IsAskedBy (places : Places) (number : ℕ) (request : Request) : Type 0 where
-  interp : Interpreter
-  found : interp_of places number ≡ Some interp
-  asks : AsksIn (InPlaces places) number request (serving_of interp.standing)
+pub record IsAskedBy (places : Places) (number : ℕ) (request : Request) : Type 0 where
+  pub interp : Interpreter
+  pub found : interp_of places number ≡ Some interp
+  pub asks : AsksIn (InPlaces places) number request (serving_of interp.standing)
 
-asked-in : (places : Places) (number : ℕ) (request : Request) → Some request ≡ asked_by places number → IsAskedBy places number request
+pub asked-in : (places : Places) (number : ℕ) (request : Request) → Some request ≡ asked_by places number → IsAskedBy places number request
 asked-in places number request is = by-case (interp_of places number) refl is
   where
     by-case : (found : Option Interpreter) → interp_of places number ≡ found
@@ -93,7 +93,7 @@ places-after setup number reply rows old mid new replied_is begin = λ machine n
 
 module _ {S K E : Type 0} (held : S → Option (List ℕ)) (got_out : K → Option (List ℕ)) (got_err : E → Option (List ℕ)) where
   -- all is as the machine has it
-  abbrev In : (setup : Setup) → (began : Began S K E) → (desk : Ground S K E) → Places → Type 0
+  abbrev pub In : (setup : Setup) → (began : Began S K E) → (desk : Ground S K E) → Places → Type 0
   In setup began desk places = Stood held got_out got_err setup began desk (InPlaces places)
 
   -- it began

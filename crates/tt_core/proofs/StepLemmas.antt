@@ -113,6 +113,8 @@ pub record Goes {S K E : Type 0} (held : S → Option (List ℕ)) (old new : Gro
     (number : ℕ) (request : Request) (line : Line) (machine : Machine) : Type 0 where
   pub next : Machine
   pub steps : Steps machine number next
+  pub asked : steps.can.request ≡ request
+  pub took : steps.line ≡ line
   pub setup : next.setup ≡ machine.setup
   pub shared : new.shared ≡ next.shared
   pub left : input_left held new.devices ≡ Some next.input
@@ -145,6 +147,8 @@ goes held old new number request serving line machine its can asking read did =
         read = was.reads;
         becomes = refl;
       };
+      asked = refl;
+      took = refl;
       setup = refl;
       shared = rw (← its.is_shared) did;
       left = was.told;

@@ -2,3 +2,4 @@ pub mod Faithful
 pub mod inside
 pub mod Parts
 pub mod Stage
+pub mod Telling

@@ -4,8 +4,10 @@
 mod began;
 mod crew;
 mod system;
+mod told;
 
 pub use began::Began;
 pub use system::System;
+pub use told::Told;
 pub use tt_interp::Setup;
 pub use tt_run::{NewFault, StepFault};

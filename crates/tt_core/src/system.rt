@@ -3,21 +3,25 @@ ghost use Rattle.std.specs.Prelude.{Err, IsSome, IsTrue, IsFalse, IfOk, IfErr, O
 ghost use Rattle.laws_runs.specs.Lawful.{Lawful};
 ghost use Rattle.tt_calls.specs.declared.start.Start.TheVariants as start;
 ghost use Rattle.tt_core.specs.inside.Crew.{AllBegin, AreBusy, AreIdle, BeginsLast, IsFirstReady};
-ghost use Rattle.tt_core.specs.inside.Crew.{IsReadyAfter, IsReplied, Places, interp_of, is_ready};
+ghost use Rattle.tt_core.specs.inside.Crew.{IsReadyAfter, IsReplied, Places, asked_by, interp_of, is_ready};
+ghost use Rattle.tt_core.specs.inside.Standing.{IsOf};
 ghost use Rattle.tt_devices.specs.Faults.{Rises};
+ghost use Rattle.tt_devices.specs.Streams.{Grows};
 ghost use Rattle.tt_machine.specs.Machine.{CanStep, IsBarred, IsStuck};
 ghost use Rattle.tt_machine.specs.RunActions.{StepsOrderly};
 ghost use Rattle.tt_schedule.specs.ScheduleText.{most_steps};
 
 use crate::began::Began;
 use crate::crew::Crew;
+use crate::told::Told;
 use std::alloc::Global;
 use std::marker::Model;
-use tt_calls::{Reply, Start};
+use tt_calls::{Boxed, Request, Start};
 use tt_devices::{Sink, Source};
 use tt_interp::Setup;
-use tt_run::{Desk, NewFault, StepFault};
+use tt_run::{Acted, Desk, NewFault, StepFault};
 use tt_schedule::Schedule;
+use tt_shared::Shared;
 use tt_text::NoMemory;
 
 /// A run of a script, stepped one action at a time.
@@ -46,6 +50,7 @@ impl<S: Source, K: Sink, E: Sink> System<S, K, E> {
     ghost use Rattle.tt_core.specs.Faithful.{AreFaithful, AsksLine, StepWrites};
     ghost use Rattle.tt_core.specs.Parts.{HoldsLastPart};
     ghost use Rattle.tt_core.specs.Stage.{IsNextAfter, OfMachine, SameBeginning};
+    ghost use Rattle.tt_core.specs.Telling.{IsAsking, IsSilent, IsStep};
 
     /// A run of this script over these devices, with no step taken.
     ///
@@ -149,6 +154,66 @@ impl<S: Source, K: Sink, E: Sink> System<S, K, E> {
             (K.fault_count self.new.desk.devices.output ≡ K.fault_count self.old.desk.devices.output)
             × (E.fault_count self.new.desk.devices.errors ≡ E.fault_count self.old.desk.devices.errors) }
     {
+        match self.take_step(thread, false) {
+            Ok(_) => Ok(()),
+            Err(fault) => Err(fault),
+        }
+    }
+
+    // A step, of which is told what it was if this says so.
+    pub(crate) fn take_step(
+        &mut self,
+        thread: u32,
+        tells: bool,
+    ) -> Result<Option<Boxed<Told>>, StepFault>
+        requires { length self.old.desk.schedule < most_steps }
+
+        ensures stepped { OnOk result (self.new.desk.schedule ≡ self.old.desk.schedule ++ thread ∷ []) }
+        ensures could { OnOk result (OfMachine S.held self.old (λ machine. CanStep machine thread)) }
+        ensures goes_on { OnOk result (self.new.desk.kept ≡ None) }
+        ensures orderly { OnOk result (OfMachine S.held self.old (StepsOrderly thread)) }
+        ensures lawful { OnOk result (Lawful self.new.setup self.new.desk.schedule) }
+        ensures not_enabled { IsErrOf result StepFault.NotEnabled →
+            (self.old.desk.kept ≡ None) × OfMachine S.held self.old (λ machine. IsBarred machine thread) }
+        ensures unchanged { IsErrOf result StepFault.NotEnabled → self.new ≡ self.old }
+
+        // Faults and want of memory stay.
+        ensures again { IfSome self.old.desk.kept (λ fault. (result ≡ Err fault) × (self.new ≡ self.old)) }
+        ensures kept { IfErr result (λ fault. (fault ≡ StepFault.NotEnabled) ⊎ (self.new.desk.kept ≡ Some fault)) }
+        ensures entry_added { IsErrOf result StepFault.WriteFault → self.old.desk.kept ≡ None →
+            self.new.desk.schedule ≡ self.old.desk.schedule ++ thread ∷ [] }
+        ensures no_entry { IsErrOf result StepFault.ReadFault → self.new.desk.schedule ≡ self.old.desk.schedule }
+        ensures at_most_one { IsErrOf result StepFault.NoMemory →
+            (self.new.desk.schedule ≡ self.old.desk.schedule)
+            ⊎ (self.new.desk.schedule ≡ self.old.desk.schedule ++ thread ∷ []) }
+        ensures tried { IfErr result (λ fault. (fault ≢ StepFault.NotEnabled) → self.old.desk.kept ≡ None →
+            OfMachine S.held self.old (λ machine. CanStep machine thread)) }
+        ensures read_fault { IsErrOf result StepFault.ReadFault → self.old.desk.kept ≡ None →
+            Rises (S.fault_count self.old.desk.devices.input) (S.fault_count self.new.desk.devices.input) }
+        ensures a_line { IsErrOf result StepFault.ReadFault → self.old.desk.kept ≡ None →
+            OfMachine S.held self.old (AsksLine thread) }
+        ensures write_fault { IsErrOf result StepFault.WriteFault → self.old.desk.kept ≡ None →
+            Rises (K.fault_count self.old.desk.devices.output) (K.fault_count self.new.desk.devices.output)
+            ⊎ Rises (E.fault_count self.old.desk.devices.errors) (E.fault_count self.new.desk.devices.errors) }
+        ensures a_piece { IsErrOf result StepFault.WriteFault → self.old.desk.kept ≡ None →
+            OfMachine S.held self.old (StepWrites thread) }
+
+        // What stays.
+        ensures same_beginning { SameBeginning self.old self.new }
+        ensures no_output { self.new.desk.schedule ≡ self.old.desk.schedule →
+            self.new.desk.devices.output ≡ self.old.desk.devices.output }
+        ensures no_errors { self.new.desk.schedule ≡ self.old.desk.schedule →
+            self.new.desk.devices.errors ≡ self.old.desk.devices.errors }
+        ensures reads_steady { (result ≢ Err StepFault.ReadFault) →
+            S.fault_count self.new.desk.devices.input ≡ S.fault_count self.old.desk.devices.input }
+        ensures writes_steady { (result ≢ Err StepFault.WriteFault) →
+            (K.fault_count self.new.desk.devices.output ≡ K.fault_count self.old.desk.devices.output)
+            × (E.fault_count self.new.desk.devices.errors ≡ E.fault_count self.old.desk.devices.errors) }
+
+        // What is told.
+        ensures tells { IfOk result (λ told. IsTrue tells → IsSome told) }
+        ensures told { IfOk result (λ told. IfSome told (λ told. OfMachine S.held self.old (IsStep thread told))) }
+    {
         if let Some(fault) = self.desk.kept_fault() {
             return Err(fault);
         }
@@ -164,13 +229,14 @@ impl<S: Source, K: Sink, E: Sink> System<S, K, E> {
                     &self.desk,
                     &self.setup,
                     thread,
-                    acted.reply,
+                    acted,
+                    tells,
                 );
-                if gone_on.is_err() {
+                let Ok(told) = gone_on else {
                     self.desk.run_out();
                     return Err(StepFault::NoMemory);
-                }
-                Ok(())
+                };
+                Ok(told)
             }
         }
     }
@@ -201,6 +267,53 @@ impl<S: Source, K: Sink, E: Sink> System<S, K, E> {
             OfMachine S.held self.now (λ machine. machine.shared.over ≡ result) }
     {
         self.desk.over()
+    }
+
+    /// What the threads share. It takes no memory.
+    pub fn shared(&self) -> &Shared
+        ensures is { result.now ≡ self.now.desk.shared }
+        ensures shared { self.now.desk.kept ≡ None →
+            OfMachine S.held self.now (λ machine. machine.shared ≡ result.now) }
+    {
+        let shared = self.desk.shared();
+        shared
+    }
+
+    /// What the thread asks next; `None` exactly if it doesn't live, or asks nothing since the run is over, or a fault
+    /// or want of memory was met. It takes no memory.
+    pub fn request(&self, thread: u32) -> Option<&Request>
+        ensures going { IsSome result → self.now.desk.kept ≡ None }
+        ensures asks { IfSome result (λ request. OfMachine S.held self.now (IsAsking thread request.now)) }
+        ensures silent { result ≡ None → self.now.desk.kept ≡ None → OfMachine S.held self.now (IsSilent thread) }
+    {
+        if self.desk.kept_fault().is_some() {
+            return None;
+        }
+        if !self.desk.lives(thread) {
+            return None;
+        }
+        let request = self.crew.request(thread)?;
+        Some(request)
+    }
+
+    /// Standard output, as it is. It takes no memory.
+    pub fn output(&self) -> &K
+        ensures is { result.now ≡ self.now.desk.devices.output }
+        ensures got { self.now.desk.kept ≡ None → OfMachine S.held self.now
+            (λ machine. Grows (K.got self.now.began.output) (K.got result.now) machine.out) }
+    {
+        let output = self.desk.output();
+        output
+    }
+
+    /// Standard error, as it is. It takes no memory.
+    pub fn errors(&self) -> &E
+        ensures is { result.now ≡ self.now.desk.devices.errors }
+        ensures got { self.now.desk.kept ≡ None → OfMachine S.held self.now
+            (λ machine. Grows (E.got self.now.began.errors) (E.got result.now) machine.err) }
+    {
+        let errors = self.desk.errors();
+        errors
     }
 
     /// The steps that were taken.
@@ -305,22 +418,48 @@ fn first_ready<S: Source, K: Sink, E: Sink>(
     None
 }
 
-/// A thread goes on with its reply, and threads that were made begin.
+/// A thread goes on with its reply, and threads that were made begin. Before that it is told what was done, if this
+/// says so.
 fn go_on<S: Source, K: Sink, E: Sink>(
     alloc: Global,
     crew: &mut Crew,
     desk: &Desk<S, K, E>,
     setup: &Setup,
     thread: u32,
-    reply: Reply,
-) -> Result<(), NoMemory>
+    acted: Acted,
+    tells: bool,
+) -> Result<Option<Boxed<Told>>, NoMemory>
     requires there { IsSome (interp_of crew.old thread) }
-    ensures goes { OnOk result ((mid : Places) × IsReplied thread reply crew.old mid
+    ensures goes { OnOk result ((mid : Places) × IsReplied thread acted.reply crew.old mid
         × AllBegin setup.now desk.now.shared.rows mid crew.new) }
+    ensures tells { IfOk result (λ told. IsTrue tells → IsSome told) }
+    ensures told { IfOk result (λ told. IfSome told (λ told. IsOf told (asked_by crew.old thread) acted)) }
 {
+    let told = told_if(alloc, tells, crew, thread, &acted)?;
+    let reply = acted.reply;
     crew.reply(thread, reply)?;
     crew.begin_all(alloc, desk, setup)?;
-    Ok(())
+    Ok(told)
+}
+
+/// What a thread asked and what was done, if this says so.
+fn told_if(
+    alloc: Global,
+    tells: bool,
+    crew: &Crew,
+    thread: u32,
+    acted: &Acted,
+) -> Result<Option<Boxed<Told>>, NoMemory>
+    requires there { IsSome (interp_of crew.now thread) }
+    ensures tells { IfOk result (λ told. IsTrue tells → IsSome told) }
+    ensures told { IfOk result (λ told. IfSome told (λ told. IsOf told (asked_by crew.now thread) acted.now)) }
+{
+    if !tells {
+        return Ok(None);
+    }
+    let request = crew.request(thread).unwrap();
+    let told = Told::of(alloc, request, acted)?;
+    Ok(Some(told))
 }
 
 /// The main thread begins.

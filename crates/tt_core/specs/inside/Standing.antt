@@ -1,6 +1,8 @@
 -- Where a run stands: what ties its parts to the machine after its schedule.
 use Rattle.std.specs.Prelude.{◌≡◌, ⊤, ℕ, List, Option, Some, None, IfSome}
+use Rattle.tt_calls.specs.declared.request.Request.{Request}
 use Rattle.tt_run.specs.Desk.{input_left}
+use Rattle.tt_run.specs.declared.desk.Acted.{Acted}
 use Rattle.tt_run.specs.declared.fault.StepFault.{StepFault}
 use Rattle.tt_run.specs.declared.fault.StepFault.TheVariants as fault
 use Rattle.tt_machine.specs.Machine.{Machine, Runs, start_machine}
@@ -9,6 +11,7 @@ use Rattle.tt_core.specs.inside.Crew.{ArePlaced, Places}
 use Rattle.tt_core.specs.Faithful.{IsFaithful, is_cut}
 use Rattle.tt_core.specs.Parts.{HoldsLastPart}
 use Rattle.tt_core.specs.Stage.{Stage}
+use Rattle.tt_core.specs.declared.told.Told.{Told}
 
 -- what the threads share, and what standard input still has, are the machine's
 pub record IsIts (shared : State) (left : Option (List ℕ)) (machine : Machine) : Type 0 where
@@ -50,3 +53,9 @@ IsStanding held got_out got_err stage Where =
 -- its threads are in these places
 abbrev pub InPlaces : Places → Machine → Type 0
 InPlaces places machine = ArePlaced machine.setup 1 machine.threads places
+
+-- it tells a request and what answering it gave
+pub record IsOf (told : Told) (asked : Option Request) (acted : Acted) : Type 0 where
+  pub request : asked ≡ Some told.request
+  pub reply : told.reply ≡ acted.reply
+  pub made : told.made ≡ acted.made

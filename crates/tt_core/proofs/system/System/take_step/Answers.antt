@@ -1,11 +1,12 @@
-use Rattle.std.proofs.Common.{◌≡◌, ◌∙◌, ◌<◌, false, None, Err, ap, is_err, length, subst, sym}
+use Rattle.std.proofs.Common.{◌≡◌, ◌∙◌, ◌<◌, None, Err, ap, length, subst, sym}
 use Rattle.laws_runs.proofs.Lawful.{lawful_law}
-use Rattle.tt_core.specs.inside.Crew.{AllBegin, IsReplied, Places, asked_by}
+use Rattle.tt_core.specs.inside.Crew.{asked_by}
 use Rattle.tt_core.specs.Stage.{Stage}
 use Rattle.tt_schedule.specs.ScheduleText.{most_steps}
-use Rattle.tt_core.proofs.StepLemmas.{could-be, on-ok}
+use Rattle.tt_core.proofs.StepLemmas.{could-be}
 use Rattle.tt_core.proofs.StandLemmas.{asked-could, asked-line, failed, keeps-to, ran-out, unable, unasked, went-on, wrote}
-use Rattle.tt_core.proofs.system.System.step.Goals as goal
+use Rattle.tt_core.proofs.TellLemmas.{told-if}
+use Rattle.tt_core.proofs.system.System.take_step.Goals as goal
 use Rattle.tt_run.specs.declared.fault.StepFault.TheVariants as fault
 
 pub returns-in_default-request-clause-not_enabled : goal.returns-in_default-request-clause-not_enabled
@@ -35,30 +36,24 @@ invariant_of-self g c =
       no_piece = c.act.ensures.no_piece;
     }) c.self.invariant
 
-pub invariant_of-self-then-is_err : goal.invariant_of-self-then-is_err
-invariant_of-self-then-is_err g c =
+pub invariant_of-self-in_default-gone_on : goal.invariant_of-self-in_default-gone_on
+invariant_of-self-in_default-gone_on g c =
     ran-out g.S.Source.held g.K.Sink.got g.E.Sink.got c.self.inside.setup c.self.inside.began c.self.inside.desk c.act.new.self
     c.run_out.new.self c.args.thread c.in-Some-request.request.now c.in-Ok.acted c.self.inside.crew c.go_on-gone_on.new.crew
     c.in-Ok.ensures.able c.in-Some-request.ensures.asks c.in-Ok.ensures.acts c.run_out.ensures.kept c.self.invariant
 
-pub returns-then-is_err-clause-tried : goal.returns-then-is_err-clause-tried
-returns-then-is_err-clause-tried g c = λ other was_none.
+pub returns-in_default-gone_on-clause-tried : goal.returns-in_default-gone_on-clause-tried
+returns-in_default-gone_on-clause-tried g c = λ other was_none.
     rw (← c.self.view_is)
     (asked-could g.S.Source.held g.K.Sink.got g.E.Sink.got c.self.inside.setup c.self.inside.began c.self.inside.desk c.args.thread
     c.in-Some-request.request.now c.self.inside.crew
     c.in-Some-request.ensures.asks c.in-Ok.ensures.able c.self.invariant)
 
-pub invariant_of-self-else-is_err : goal.invariant_of-self-else-is_err
-invariant_of-self-else-is_err g c =
-    let value = c.is_err.ensures.value in
-    let test = c.if-is_err.false in
-    let fine : is_err c.go_on-gone_on.result ≡ false = cc in
-    let goes = on-ok
-    ((mid : Places) × IsReplied c.args.thread c.in-Ok.acted.reply c.self.inside.crew mid × AllBegin c.self.inside.setup
-    c.act.new.self.shared.rows mid c.go_on-gone_on.new.crew) c.go_on-gone_on.result fine c.go_on-gone_on.ensures.goes in
+pub invariant_of-self-in-Ok-gone_on : goal.invariant_of-self-in-Ok-gone_on
+invariant_of-self-in-Ok-gone_on g c =
     went-on g.S.Source.held g.K.Sink.got g.E.Sink.got c.self.inside.setup c.self.inside.began c.self.inside.desk c.act.new.self
     c.args.thread c.in-Some-request.request.now c.in-Ok.acted c.self.inside.crew c.go_on-gone_on.new.crew
-    c.in-Ok.ensures.able c.in-Some-request.ensures.asks c.in-Ok.ensures.acts c.in-Ok.ensures.goes_on goes c.self.invariant
+    c.in-Ok.ensures.able c.in-Some-request.ensures.asks c.in-Ok.ensures.acts c.in-Ok.ensures.goes_on c.in-Ok-gone_on.ensures.goes c.self.invariant
 
 pub returns-in-Err-clause-not_enabled : goal.returns-in-Err-clause-not_enabled
 returns-in-Err-clause-not_enabled g c e =
@@ -82,8 +77,8 @@ returns-in-Err-clause-tried g c = λ other was_none.
     (could-be c.self.inside.desk c.args.thread c.in-Some-request.request.now c.act.result c.in-Err.fault kept c.act.ensures.refused c.in-Err.is other)
     c.self.invariant)
 
-pub returns-else-is_err-clause-could : goal.returns-else-is_err-clause-could
-returns-else-is_err-clause-could g c =
+pub returns-in-Ok-gone_on-clause-could : goal.returns-in-Ok-gone_on-clause-could
+returns-in-Ok-gone_on-clause-could g c =
     rw (← c.self.view_is)
     (asked-could g.S.Source.held g.K.Sink.got g.E.Sink.got c.self.inside.setup c.self.inside.began c.self.inside.desk c.args.thread
     c.in-Some-request.request.now c.self.inside.crew
@@ -113,8 +108,8 @@ returns-in-Err-clause-a_piece g c e = λ was_none.
     (could-be c.self.inside.desk c.args.thread c.in-Some-request.request.now c.act.result fault.WriteFault kept c.act.ensures.refused was (λ is. cc))
     (c.act.ensures.cut was kept) c.self.invariant)
 
-pub returns-else-is_err-clause-orderly : goal.returns-else-is_err-clause-orderly
-returns-else-is_err-clause-orderly g c =
+pub returns-in-Ok-gone_on-clause-orderly : goal.returns-in-Ok-gone_on-clause-orderly
+returns-in-Ok-gone_on-clause-orderly g c =
     rw (← c.self.view_is)
     (keeps-to g.S.Source.held g.K.Sink.got g.E.Sink.got c.self.inside.setup c.self.inside.began c.self.inside.desk c.act.new.self
     c.args.thread c.in-Some-request.request.now c.in-Ok.acted c.self.inside.crew
@@ -122,5 +117,12 @@ returns-else-is_err-clause-orderly g c =
     (subst (λ (stage : Stage g.row.S.Denot g.row.K.Denot g.row.E.Denot). length stage.desk.schedule < most_steps) (sym c.self.view_is)
     c.requires) c.self.invariant)
 
-pub returns-else-is_err-clause-lawful : goal.returns-else-is_err-clause-lawful
-returns-else-is_err-clause-lawful g c = lawful_law _ _
+pub returns-in-Ok-gone_on-clause-lawful : goal.returns-in-Ok-gone_on-clause-lawful
+returns-in-Ok-gone_on-clause-lawful g c = lawful_law _ _
+
+pub returns-in-Ok-gone_on-clause-told : goal.returns-in-Ok-gone_on-clause-told
+returns-in-Ok-gone_on-clause-told g c =
+    rw (← c.self.view_is)
+    (told-if g.S.Source.held g.K.Sink.got g.E.Sink.got c.self.inside.setup c.self.inside.began c.self.inside.desk c.act.new.self
+    c.args.thread c.in-Some-request.request.now c.in-Ok.acted c.self.inside.crew
+    c.in-Some-request.ensures.asks c.in-Ok.ensures.able c.in-Ok.ensures.acts c.in-Ok-gone_on.told c.in-Ok-gone_on.ensures.told c.self.invariant)
