@@ -4,10 +4,11 @@
 # script stands beside each, with both times at 4 N and their ratio; for shared lists its Thread package is needed too.
 # The start of the process, with that package, is taken off. Times are the processor's, in microseconds, the least of
 # RUNS runs; with `instructions` in place of RUNS they are thousands of instructions as valgrind counts them, which other
-# work on the machine doesn't change, and take a quarter of an hour. A row of copied bytes is timed all the same: one
-# instruction may copy many.
+# work on the machine doesn't change, and take a quarter of an hour. A row of copied bytes or items is timed all the same:
+# one instruction may copy many.
 #
-# It ends with 1 if a row grows more than twice as fast as tclsh's.
+# It ends with 1 if a row grows more than twice as fast as tclsh's. Of a row that takes tclsh less than ten milliseconds
+# instructions alone can tell.
 # Usage: bench/growth.sh [N] [RUNS|instructions]
 set -euo pipefail
 shopt -s inherit_errexit
@@ -32,6 +33,7 @@ linsert at the end|set l {}; for {set i 0} {$i < N/10} {incr i} {set l [linsert 
 lappend|set l {}; for {set i 0} {$i < N} {incr i} {lappend l $i}
 foreach|set l [lrepeat N abc]; for {set i 0} {$i < 20} {incr i} {foreach x $l {}}
 lassign|set l [lrepeat N abc]; for {set i 0} {$i < N} {incr i} {lassign $l a b}
+timed copies of different items|set l {}; for {set i 0} {$i < N} {incr i} {lappend l item$i}; for {set i 0} {$i < 1000} {incr i} {set q [lassign $l a b]; set q [lrange $l 1 end]; set q [linsert $l end x]}
 lrange, one less|set q [lrepeat [expr {N / 10}] abc]; while {[llength $q]} {set q [lrange $q 1 end]}
 a procedure given a list|proc p {l} {lindex $l 0}; set l [lrepeat N abc]; for {set i 0} {$i < N} {incr i} {p $l}
 string index|set s [string repeat abc N]; for {set i 0} {$i < N} {incr i} {string index $s $i}
@@ -62,6 +64,11 @@ runs_beside() {
     esac
 }
 
+# Whether growth to so many can be told. Times are taken by the millisecond, so those of a few of them can't.
+can_be_told() {
+    [ "$unit" = thousands ] || [ "$1" -ge 10000 ]
+}
+
 program=./crates/tclthread/out/tclthread
 units=us
 if [ "$runs" = instructions ]; then units=thousands runs=3; fi
@@ -85,7 +92,7 @@ while IFS='|' read -r name script; do
         its_four=$(cost_of "$script" $((4 * few)) "$beside_start" tclsh)
         printf '; tclsh by %s, %d %s; %s of its' \
             "$(ratio "$its_one" "$its_four")" "$its_four" $unit "$(ratio "$its_four" "$four")"
-        if [ $((four * its_one)) -gt $((2 * one * its_four)) ]; then
+        if can_be_told "$its_four" && [ $((four * its_one)) -gt $((2 * one * its_four)) ]; then
             printf '; grows too fast'
             fast=$((fast + 1))
         fi
