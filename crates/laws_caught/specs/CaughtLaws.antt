@@ -1,4 +1,4 @@
--- Threads that wait for one another wait for ever (thread(n), tsv(n), chan(n)).
+-- Threads that wait for one another, in every run that goes on from there (thread(n), tsv(n), chan(n)).
 use Rattle.std.specs.Prelude.{◌≡◌, ℕ, List, None}
 use Rattle.std.specs.List.{Contains}
 use Rattle.laws_caught.specs.WaitLaws.{AllFit}

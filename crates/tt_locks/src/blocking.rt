@@ -8,8 +8,8 @@ use tt_calls::{Family, LockCall};
 use tt_text::NoMemory;
 
 impl Locks {
-    /// The threads that hold the lock that a call is to hold, by number, each once; of the end of a wait for a condition
-    /// those that hold the mutex. None for calls that never wait (thread(n)).
+    /// The threads that hold the lock that a call is to hold, by number, each once; of the end of a wait for a
+    /// condition those that hold the mutex. None for calls that never wait (thread(n)).
     ///
     /// `NoMemory` if memory for them is refused.
     pub fn holders(&self, call: &LockCall) -> Result<Vec<u32>, NoMemory>

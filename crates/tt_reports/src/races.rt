@@ -1,7 +1,8 @@
 ghost use Rattle.std.specs.Prelude.{◌≡◌, ◌++◌, IfOk, OnOk};
 ghost use Rattle.std.specs.Fmt.{decimal};
 ghost use Rattle.std.specs.List.{flat_map};
-ghost use Rattle.tt_reports.specs.RaceText.{as_element, count_line, entries_text, key_text, place_text, race_line, races_text_of};
+ghost use Rattle.tt_reports.specs.RaceText.{as_element, count_line, entries_text, key_text, place_text, race_line};
+ghost use Rattle.tt_reports.specs.RaceText.{races_text_of};
 
 use std::alloc::Global;
 use std::slice::from_ref;

@@ -233,7 +233,7 @@ fn shared(alloc: Global, bytes: Vec<u8>) -> Result<Storage, NoMemory>
 }
 
 // A text of these few bytes goes to the end of a list. It is written at its place: a text that is built elsewhere, in
-// pieces, and moved there as a whole takes twice the time.
+// pieces, and moved there as a whole takes three times as long.
 #[inline]
 fn push_few(alloc: Global, few: &Few, items: &mut Vec<Text>)
     requires room { vec_len items.old < vec_capacity items.old }
