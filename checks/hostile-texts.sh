@@ -210,4 +210,18 @@ cat >script <<'TCL'
 puts [string length [gets stdin]]
 TCL
 check 'input of zero bytes' 0 1000000 script
+
+# ---- commands of a debugging session
+
+printf 'schedule 1\n1 2\n' >schedule
+echo 'tsv::set a k [string repeat x 10000000]' >script
+session=(--replay schedule --debug commands script)
+lines 150000 'step 1' >commands
+check '1 MiB of steps in a debugging session' 0 $'at 1\nat 2\nat 2' "${session[@]}"
+letters 16777216 >commands
+check 'a command of 16 MiB' 0 'unknown command' "${session[@]}"
+printf 'threads\0\n\0\nbytes\n' >commands
+check 'commands with zero bytes' 0 $'unknown command\nunknown command\nout 0 err 0' "${session[@]}"
+printf 'step 1\narray a\n' >commands
+check 'an array of 10 MB in a debugging session' 0 $'at 1\nk xxx' "${session[@]}"
 exit "$failed"

@@ -1,4 +1,5 @@
 pub mod Caught
+pub mod Deadlock
 pub mod Answers
 pub mod Arrays
 pub mod Ended
@@ -9,4 +10,3 @@ pub mod LockDeeds
 pub mod LockTables
 pub mod Locks
 pub mod Lines
-pub mod PipeEnds

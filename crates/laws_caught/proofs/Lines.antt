@@ -19,13 +19,13 @@ use Rattle.tt_chans.specs.declared.channel.Owner.{Owner}
 use Rattle.tt_chans.specs.declared.channel.Owner.TheVariants.{Thread, Detached, Moving}
 use Rattle.laws_caught.proofs.Arrays.{in_none}
 use Rattle.laws_caught.proofs.Ended.{lives_on, one_of}
-use Rattle.laws_caught.proofs.PipeEnds.{one_writer}
 use Rattle.laws_caught.specs.WaitLaws.{LineWaitLaw}
 use Rattle.laws_shared.proofs.Apart.{left, left-is, other_key}
 use Rattle.laws_shared.proofs.ChannelCalls.{Changes, attached, by_call, detached, moved, moves_bytes, speaks}
 use Rattle.laws_shared.proofs.Channels.{IsFound, by_action, owned_is}
 use Rattle.laws_shared.proofs.Deciding as deciding
 use Rattle.laws_shared.proofs.Drawn.{IsDrawn, by_pipe, reached_drawn, read_new, up_after, write_new}
+use Rattle.laws_shared.proofs.PipeEnds.{one_writer}
 use Rattle.laws_shared.proofs.Tables.{by_remove, by_set, is_key, same_key}
 use Rattle.laws_shared.specs.Actions.{NumbersFit, Reached}
 use Rattle.laws_shared.specs.Orderly.{later}

@@ -4,7 +4,9 @@ use Rattle.std.specs.List.{Contains}
 use Rattle.laws_caught.specs.WaitLaws.{AllFit}
 use Rattle.tt_kept.specs.declared.setup.Setup.{Setup}
 use Rattle.tt_machine.specs.Machine.{Machine, Runs, start_machine}
-use Rattle.tt_machine.specs.Waiting.{WaitsFor}
+use Rattle.tt_machine.specs.Waiting.{AreWaiting, WaitsFor}
+use Rattle.tt_reports.specs.WaitsText.{IsWaitsText}
+use Rattle.tt_waits.specs.Waiting.{Waiting}
 
 -- a thread waits for one of these
 pub record WaitsForOneOf (machine : Machine) (threads : List ℕ) (t : ℕ) : Type 0 where
@@ -29,3 +31,14 @@ CaughtStayLaw =
     AllFit new.shared →
     AreCaught machine threads →
     StayCaught threads later new
+
+-- the threads that the line `deadlock` of a report names take no step in any run that goes on from its machine
+abbrev pub DeadlockLaw : Type 0
+DeadlockLaw =
+    (setup : Setup) (input text : List ℕ) (machine new : Machine) (schedule later : List ℕ) (waiting : List Waiting) →
+    Runs (start_machine setup input) schedule machine →
+    Runs machine later new →
+    AllFit new.shared →
+    AreWaiting machine waiting →
+    (report : IsWaitsText waiting text) →
+    StayCaught report.caught later new

@@ -1,5 +1,5 @@
 //! Laws about the definitions, each proved as the contract of a function that does nothing.
-ghost use Rattle.laws_caught.specs.CaughtLaws.{CaughtStayLaw};
+ghost use Rattle.laws_caught.specs.CaughtLaws.{CaughtStayLaw, DeadlockLaw};
 ghost use Rattle.laws_caught.specs.WaitLaws.{AnswerWaitLaw, ArrayWaitLaw, EndWaitLaw, LineWaitLaw};
 ghost use Rattle.laws_caught.specs.WaitLaws.{LockWaitLaw, MoveWaitLaw};
 
@@ -36,4 +36,9 @@ pub fn who_waits_for_a_line_waits_on()
 /// Threads that wait for one another take no step in any run that goes on from there.
 pub fn the_caught_stay_caught()
     ensures { CaughtStayLaw }
+{}
+
+/// Threads that a report says are in a deadlock take no step in any run that goes on from there.
+pub fn a_deadlock_stays()
+    ensures { DeadlockLaw }
 {}

@@ -25,5 +25,6 @@ pub mod Numbered
 pub mod Orderly
 pub mod Owners
 pub mod PipeCalls
+pub mod PipeEnds
 pub mod Pipes
 pub mod Tables

@@ -14,7 +14,6 @@ pub mod Found
 pub mod LockFits
 pub mod LockRows
 pub mod LockWords
-pub mod PipeEnds
 pub mod PoolFits
 pub mod PoolRows
 pub mod PoolWords

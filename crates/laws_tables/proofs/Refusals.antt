@@ -4,7 +4,6 @@ use Rattle.laws_tables.proofs.ChannelRows as channel_rows
 use Rattle.laws_tables.proofs.Commands.{asked_fine}
 use Rattle.laws_tables.proofs.Found.{found_is, found_row, named_row, own_id}
 use Rattle.laws_tables.proofs.LockRows as lock_rows
-use Rattle.laws_tables.proofs.PipeEnds.{reads_other}
 use Rattle.laws_tables.proofs.PoolRows as pool_rows
 use Rattle.laws_tables.proofs.PoolRows.{Steps}
 use Rattle.laws_tables.proofs.Steps.{by_step}
@@ -13,6 +12,7 @@ use Rattle.laws_tables.proofs.Asked.{IsFine, IsFineArray, IsFineChan, IsFineLock
 use Rattle.laws_tables.proofs.SaysWhy.{SaysWhy, not_empty}
 use Rattle.laws_tables.specs.Refusals.{HasRead, RefusalLaw}
 use Rattle.laws_shared.proofs.Channels.{owned_is}
+use Rattle.laws_shared.proofs.PipeEnds.{reads_other}
 use Rattle.tt_calls.specs.declared.chan_call.ChanCall.{ChanCall}
 use Rattle.tt_calls.specs.declared.chan_call.ChanCall.TheVariants as chan
 use Rattle.tt_calls.specs.declared.lock_call.LockCall.{LockCall}

@@ -31,12 +31,13 @@ use row::Row;
 use rows_reader::{Tally, tell_table};
 use std::fs;
 
-const TABLES: [&str; 5] = [
+const TABLES: [&str; 6] = [
     "statuses.rows",
     "limits.rows",
     "output.rows",
     "input.rows",
     "files.rows",
+    "reports.rows",
 ];
 
 fn main(rt: HostRuntime) -> anyhow::Result<()> {

@@ -23,6 +23,7 @@ fn words(alloc: Global, status: &Status) -> anyhow::Result<Text> {
         }
         Status::BadSchedule(Place::Byte(offset)) => numbered(alloc, "bad byte ", *offset),
         Status::BadSchedule(Place::Entry(number)) => numbered(alloc, "bad entry ", *number),
+        Status::TooLong(entries) => numbered(alloc, "too long ", *entries),
         Status::ScheduleEnded => plain(alloc, "schedule ended"),
         Status::Stalled => plain(alloc, "stalled"),
         Status::StepLimit(steps) => numbered(alloc, "step limit ", *steps),

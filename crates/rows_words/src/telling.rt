@@ -2,7 +2,7 @@
 
 use std::alloc::{AllocError, Global};
 use tt_search_words::{Difference, Search};
-use tt_words::Asked;
+use tt_words::{Asked, Report};
 
 /// The words in parentheses, parted by spaces.
 fn words_text(alloc: Global, words: &[&str]) -> Result<String, AllocError> {
@@ -15,6 +15,16 @@ fn words_text(alloc: Global, words: &[&str]) -> Result<String, AllocError> {
     }
     text.push_str(")")?;
     Ok(text)
+}
+
+/// What a replay reports of itself.
+fn report_text(alloc: Global, report: Report<'_>) -> Result<String, AllocError> {
+    match report {
+        Report::None => String::from_str(alloc, "unreported"),
+        Report::Waits => String::from_str(alloc, "waits"),
+        Report::Races => String::from_str(alloc, "races"),
+        Report::Debug(file) => format!(in alloc; "debug {file}"),
+    }
 }
 
 /// What is asked for, in a line.
@@ -35,7 +45,8 @@ pub(crate) fn asked_text(alloc: Global, asked: Option<Asked<'_>>) -> Result<Stri
         Some(Asked::Replay(replay)) => {
             let arguments = words_text(alloc, replay.arguments.as_slice())?;
             let (schedule, script, limit) = (replay.schedule, replay.script, replay.limit);
-            format!(in alloc; "replay {schedule} {script} {arguments} {limit}")
+            let report = report_text(alloc, replay.report)?;
+            format!(in alloc; "replay {schedule} {script} {arguments} {limit} {report}")
         }
         Some(Asked::Generate(generate)) => {
             let (number, size, steps, limit) = (

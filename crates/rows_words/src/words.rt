@@ -1,8 +1,9 @@
 //! Rows of command lines.
 //!
 //! The words are parted by spaces, and `''` is the empty word. They ask for `usage`, if they are none of the program's,
-//! for `plain SCRIPT (ARGUMENTS) WORKERS STEPS LIMIT FILE`, for `replay FILE SCRIPT (ARGUMENTS) LIMIT`, or for
-//! `generate NUMBER SIZE STEPS LIMIT FILE`; `unkept` stands for no file.
+//! for `plain SCRIPT (ARGUMENTS) WORKERS STEPS LIMIT FILE`, for `replay FILE SCRIPT (ARGUMENTS) LIMIT REPORT`, or for
+//! `generate NUMBER SIZE STEPS LIMIT FILE`. `unkept` stands for no file. The report is `unreported`, if there is none,
+//! `waits`, `races`, or `debug FILE`.
 
 use crate::telling::asked_text;
 use std::alloc::{AllocError, Global};

@@ -42,6 +42,7 @@ fn status_words(alloc: Global, status: &Status) -> Result<String, Fail> {
         Status::NoFile(name) => format!(in alloc; "no file of {} bytes", name.as_bytes().len())?,
         Status::BadSchedule(Place::Byte(offset)) => format!(in alloc; "bad schedule at {offset}")?,
         Status::BadSchedule(Place::Entry(number)) => format!(in alloc; "bad entry {number}")?,
+        Status::TooLong(entries) => format!(in alloc; "too long: {entries}")?,
         Status::ScheduleEnded => format!(in alloc; "schedule ended")?,
         Status::Stalled => format!(in alloc; "stalled")?,
         Status::StepLimit(steps) => format!(in alloc; "step limit {steps}")?,

@@ -4,7 +4,7 @@ ghost use Rattle.laws_runs.specs.Lawful.{Lawful};
 ghost use Rattle.tt_calls.specs.declared.start.Start.TheVariants as start;
 ghost use Rattle.tt_core.specs.inside.Crew.{AllBegin, AreBusy, AreIdle, BeginsLast, IsFirstReady};
 ghost use Rattle.tt_core.specs.inside.Crew.{IsReadyAfter, IsReplied, Places, asked_by, interp_of, is_ready};
-ghost use Rattle.tt_core.specs.inside.Standing.{IsOf};
+ghost use Rattle.tt_core.specs.inside.Standing.{IsOf, IsTold};
 ghost use Rattle.tt_devices.specs.Faults.{Rises};
 ghost use Rattle.tt_devices.specs.Streams.{Grows};
 ghost use Rattle.tt_machine.specs.Machine.{CanStep, IsBarred, IsStuck};
@@ -13,7 +13,7 @@ ghost use Rattle.tt_schedule.specs.ScheduleText.{most_steps};
 
 use crate::began::Began;
 use crate::crew::Crew;
-use crate::told::Told;
+use crate::told::{Telling, Told};
 use std::alloc::Global;
 use std::marker::Model;
 use tt_calls::{Boxed, Request, Start};
@@ -154,17 +154,17 @@ impl<S: Source, K: Sink, E: Sink> System<S, K, E> {
             (K.fault_count self.new.desk.devices.output ≡ K.fault_count self.old.desk.devices.output)
             × (E.fault_count self.new.desk.devices.errors ≡ E.fault_count self.old.desk.devices.errors) }
     {
-        match self.take_step(thread, false) {
+        match self.take_step(thread, Telling::Nothing) {
             Ok(_) => Ok(()),
             Err(fault) => Err(fault),
         }
     }
 
-    // A step, of which is told what it was if this says so.
+    // A step, which answers this.
     pub(crate) fn take_step(
         &mut self,
         thread: u32,
-        tells: bool,
+        telling: Telling,
     ) -> Result<Option<Boxed<Told>>, StepFault>
         requires { length self.old.desk.schedule < most_steps }
 
@@ -211,7 +211,7 @@ impl<S: Source, K: Sink, E: Sink> System<S, K, E> {
             × (E.fault_count self.new.desk.devices.errors ≡ E.fault_count self.old.desk.devices.errors) }
 
         // What is told.
-        ensures tells { IfOk result (λ told. IsTrue tells → IsSome told) }
+        ensures tells { IfOk result (λ told. IsTold telling → IsSome told) }
         ensures told { IfOk result (λ told. IfSome told (λ told. OfMachine S.held self.old (IsStep thread told))) }
     {
         if let Some(fault) = self.desk.kept_fault() {
@@ -230,7 +230,7 @@ impl<S: Source, K: Sink, E: Sink> System<S, K, E> {
                     &self.setup,
                     thread,
                     acted,
-                    tells,
+                    telling,
                 );
                 let Ok(told) = gone_on else {
                     self.desk.run_out();
@@ -418,8 +418,7 @@ fn first_ready<S: Source, K: Sink, E: Sink>(
     None
 }
 
-/// A thread goes on with its reply, and threads that were made begin. Before that it is told what was done, if this
-/// says so.
+/// A thread goes on with its reply, and threads that were made begin. What was done is answered if this says so.
 fn go_on<S: Source, K: Sink, E: Sink>(
     alloc: Global,
     crew: &mut Crew,
@@ -427,15 +426,15 @@ fn go_on<S: Source, K: Sink, E: Sink>(
     setup: &Setup,
     thread: u32,
     acted: Acted,
-    tells: bool,
+    telling: Telling,
 ) -> Result<Option<Boxed<Told>>, NoMemory>
     requires there { IsSome (interp_of crew.old thread) }
     ensures goes { OnOk result ((mid : Places) × IsReplied thread acted.reply crew.old mid
         × AllBegin setup.now desk.now.shared.rows mid crew.new) }
-    ensures tells { IfOk result (λ told. IsTrue tells → IsSome told) }
+    ensures tells { IfOk result (λ told. IsTold telling → IsSome told) }
     ensures told { IfOk result (λ told. IfSome told (λ told. IsOf told (asked_by crew.old thread) acted)) }
 {
-    let told = told_if(alloc, tells, crew, thread, &acted)?;
+    let told = told_if(alloc, telling, crew, thread, &acted)?;
     let reply = acted.reply;
     crew.reply(thread, reply)?;
     crew.begin_all(alloc, desk, setup)?;
@@ -445,21 +444,23 @@ fn go_on<S: Source, K: Sink, E: Sink>(
 /// What a thread asked and what was done, if this says so.
 fn told_if(
     alloc: Global,
-    tells: bool,
+    telling: Telling,
     crew: &Crew,
     thread: u32,
     acted: &Acted,
 ) -> Result<Option<Boxed<Told>>, NoMemory>
     requires there { IsSome (interp_of crew.now thread) }
-    ensures tells { IfOk result (λ told. IsTrue tells → IsSome told) }
+    ensures tells { IfOk result (λ told. IsTold telling → IsSome told) }
     ensures told { IfOk result (λ told. IfSome told (λ told. IsOf told (asked_by crew.now thread) acted.now)) }
 {
-    if !tells {
-        return Ok(None);
+    match telling {
+        Telling::Nothing => Ok(None),
+        Telling::Step => {
+            let request = crew.request(thread).unwrap();
+            let told = Told::of(alloc, request, acted)?;
+            Ok(Some(told))
+        }
     }
-    let request = crew.request(thread).unwrap();
-    let told = Told::of(alloc, request, acted)?;
-    Ok(Some(told))
 }
 
 /// The main thread begins.

@@ -26,6 +26,15 @@ pub struct Told {
     pub made: u32,
 }
 
+/// What a step answers, if it is taken.
+#[derive(Clone, Copy, Debug)]
+pub(crate) enum Telling {
+    /// Nothing.
+    Nothing,
+    /// What it was.
+    Step,
+}
+
 impl Told {
     // Of a request and what answering it gave.
     pub(crate) fn of(
@@ -105,7 +114,7 @@ impl<S: Source, K: Sink, E: Sink> System<S, K, E> {
         // What is told.
         ensures told { IfOk result (λ told. OfMachine S.held self.old (IsStep thread told)) }
     {
-        match self.take_step(thread, true) {
+        match self.take_step(thread, Telling::Step) {
             Ok(Some(told)) => Ok(told.into_inner()),
             Ok(None) => unreachable!(),
             Err(fault) => Err(fault),

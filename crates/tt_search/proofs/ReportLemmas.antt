@@ -8,8 +8,9 @@ use Rattle.tt_search.specs.Searched.{IsReported, IsWholeInput, PutsRefusal}
 use Rattle.tt_session.specs.Lines.{PutsLine, line_of}
 use Rattle.tt_session.specs.Lines as line
 use Rattle.tt_session.specs.declared.status.Status.{Status}
-use Rattle.tt_session.specs.declared.status.Status.TheVariants.{Done, Usage, NoFile, BadSchedule, ScheduleEnded}
-use Rattle.tt_session.specs.declared.status.Status.TheVariants.{Stalled, StepLimit, ReadFault, WriteFault, NoMemory}
+use Rattle.tt_session.specs.declared.status.Status.TheVariants.{Done, Usage, NoFile, BadSchedule, TooLong}
+use Rattle.tt_session.specs.declared.status.Status.TheVariants.{ScheduleEnded, Stalled, StepLimit}
+use Rattle.tt_session.specs.declared.status.Status.TheVariants.{ReadFault, WriteFault, NoMemory}
 
 pub no-report : (got : Option (List ℕ)) → IsReported got got
 no-report got = record { text = []; grew = Grows-same got }
@@ -24,22 +25,23 @@ pub part-report : (old new : Option (List ℕ)) (piece : List ℕ) → GrowsByPa
 part-report old new piece is = record { text = is.part; grew = is.grew }
 
 -- a status line is a report
-pub line-report : {E : Type 0} (errors : OfSink E) (before : ℕ) (status : Status) (old new : E) → PutsLine errors before status old new
+pub line-report : {E : Type 0} (errors : OfSink E) (before : ℕ) (status : Status) (old new : E) → PutsLine errors before status [] old new
     → IsReported (errors.got old) (errors.got new)
 line-report {E = E} errors before status old new (line.silent none same) =
     subst (λ (e : E). IsReported (errors.got old) (errors.got e)) (sym same) (no-report (errors.got old))
-line-report {E = E} errors before status old new (line.whole some grew steady) = record { text = line_of status; grew = grew }
-line-report {E = E} errors before status old new (line.part some grew rises) = part-report (errors.got old) (errors.got new) (line_of status) grew
+line-report {E = E} errors before status old new (line.whole some grew steady) = record { text = line_of status ++ []; grew = grew }
+line-report {E = E} errors before status old new (line.part some grew rises) = part-report (errors.got old) (errors.got new) (line_of status ++ []) grew
 
 -- the line of a refusal, by whether it is one of wrong usage
 pub refusal-put : {E : Type 0} (errors : OfSink E) (status : Status) (old new : E)
     → (status ≡ Usage → IsReported (errors.got old) (errors.got new))
-    → ((status ≡ Usage → ⊥) → PutsLine errors (errors.fault_count old) status old new)
+    → ((status ≡ Usage → ⊥) → PutsLine errors (errors.fault_count old) status [] old new)
     → PutsRefusal errors status old new
 refusal-put errors Usage old new usage others = usage refl
 refusal-put errors (Done code) old new usage others = others (λ is. cc is)
 refusal-put errors (NoFile name) old new usage others = others (λ is. cc is)
 refusal-put errors (BadSchedule place) old new usage others = others (λ is. cc is)
+refusal-put errors (TooLong entries) old new usage others = others (λ is. cc is)
 refusal-put errors ScheduleEnded old new usage others = others (λ is. cc is)
 refusal-put errors Stalled old new usage others = others (λ is. cc is)
 refusal-put errors (StepLimit steps) old new usage others = others (λ is. cc is)

@@ -48,9 +48,12 @@ module _ {F K E : Type 0} (files : OfFiles F) (output : OfSink K) (errors : OfSi
     setup = is.setup;
     mode = is.mode;
     finish = is.finish;
+    asks = tt;
     begins = rw (← same) is.begins;
     leaves = is.leaves;
     records = records-after files named.kept is.finish.end is.finish.schedule.threads old middle new ended.status same writes is.records;
+    more = is.more;
+    report = is.report;
     line = is.line;
     schedule = is.schedule;
     input = is.input;

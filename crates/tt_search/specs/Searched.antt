@@ -1,5 +1,5 @@
 -- What a search answers and leaves, by its words, its files and its streams.
-use Rattle.std.specs.Prelude.{◌≡◌, ℕ, List, Option, Some, IfSome}
+use Rattle.std.specs.Prelude.{◌≡◌, ℕ, List, [], Option, Some, IfSome}
 use Rattle.tt_core.specs.Stage.{Began}
 use Rattle.tt_devices.specs.Memory.{Supply}
 use Rattle.tt_devices.specs.Streams.{Grows}
@@ -44,7 +44,7 @@ in_memory = record { held = λ source. Some source.left; fault_count = λ source
 -- what is put for a refusal: how the program is called, or the status line of `tclthread`
 abbrev pub PutsRefusal : {E : Type 0} → OfSink E → Status → (old new : E) → Type 0
 PutsRefusal errors status.Usage old new = IsReported (errors.got old) (errors.got new)
-PutsRefusal errors end old new = PutsLine errors (errors.fault_count old) end old new
+PutsRefusal errors end old new = PutsLine errors (errors.fault_count old) end [] old new
 
 module _ {F S K E : Type 0} (files : OfFiles F) (source : OfSource S) (output : OfSink K) (errors : OfSink E) where
   -- The find: after the reports so far, a run of the script as its words say, over all of standard input, which is

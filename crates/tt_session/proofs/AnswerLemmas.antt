@@ -1,10 +1,10 @@
 -- That the answer is one.
-use Rattle.std.proofs.Common.{◌≡◌, ◌∙◌, ℕ, Bool, false, List, [], ◌++◌, Option, None, Some}
-use Rattle.std.proofs.Common.{IfSome, refl, sym, ap, subst, arith, inl, inr}
+use Rattle.std.proofs.Common.{◌≡◌, ◌∙◌, ℕ, Bool, false, List, [], ◌++◌, length, Option, None, Some}
+use Rattle.std.proofs.Common.{IfSome, refl, sym, ap, ap₂, subst, arith, inl, inr}
 use Rattle.tt_core.specs.Faithful.{IsFaithful}
 use Rattle.tt_devices.proofs.StreamLemmas.{Grows-append, Grows-same}
 use Rattle.tt_devices.specs.Faults.{Rises}
-use Rattle.tt_devices.specs.Names.{Names, Tells}
+use Rattle.tt_devices.specs.Names.{Names}
 use Rattle.tt_devices.specs.Streams.{Grows}
 use Rattle.tt_kept.specs.declared.setup.Setup.{Setup}
 use Rattle.tt_machine.proofs.Steps.{same_run}
@@ -12,7 +12,7 @@ use Rattle.tt_machine.specs.Machine.{Machine, Runs, start_machine}
 use Rattle.tt_schedule.proofs.LawLemmas.{one_list, one_place}
 use Rattle.tt_schedule.specs.ScheduleText.{IsFirstWrong, IsScheduleText}
 use Rattle.tt_words.proofs.OneLemmas.{one_reading}
-use Rattle.tt_words.specs.Asked.{Asked, Plain, WordsAskFor, Replay, generate, plain, replay}
+use Rattle.tt_words.specs.Asked.{Asked, Debug, Plain, Report, WordsAskFor, Replay, generate, plain, replay}
 use Rattle.tt_core.specs.Stage.{Began}
 use Rattle.tt_devices.specs.declared.files.Files.{Ghosts as OfFiles}
 use Rattle.tt_devices.specs.declared.sink.Sink.{Ghosts as OfSink}
@@ -20,11 +20,13 @@ use Rattle.tt_devices.specs.declared.source.Source.{Ghosts as OfSource}
 use Rattle.tt_session.specs.Answer.{AnswersTo, IsAnswered, IsRefusal, IsUntouched, HasRun, IsWordRefusal}
 use Rattle.tt_session.specs.Answer as answer
 use Rattle.tt_session.specs.AnswerLaws.{GotSame, IsSameAnswer, IsSettled, OneAnswerLaw}
-use Rattle.tt_session.specs.Asking.{BeginsAs, HasWrongText, IsMissing, generate_setup, plain_setup, record_of, replay_setup}
+use Rattle.tt_session.specs.Asking.{BeginsAs, HasLongText, HasWrongText, IsMissing, IsNoSession, IsTooMuch, generate_setup, plain_setup}
+use Rattle.tt_session.specs.Asking.{record_of, replay_setup}
 use Rattle.tt_session.specs.Choosing.{Allows, Chooses, Freely, InTurn, Mode, Replaying}
 use Rattle.tt_session.specs.Lines.{PutsLine, line_of}
 use Rattle.tt_session.specs.Lines as lines
 use Rattle.tt_session.specs.Recording.{Records}
+use Rattle.tt_session.specs.Reporting.{IsReport, report_of}
 use Rattle.tt_session.specs.Recording as recording
 use Rattle.tt_session.specs.Running.{HasMachine}
 use Rattle.tt_session.specs.Status.{ended_status, refused_status}
@@ -34,7 +36,10 @@ use Rattle.tt_session.specs.declared.status.Place.TheVariants.{Byte}
 use Rattle.tt_session.specs.declared.status.Refusal.{Refusal}
 use Rattle.tt_session.specs.declared.status.Refusal.TheVariants as refusal
 use Rattle.tt_session.specs.declared.status.Status.{Status}
-use Rattle.tt_session.specs.declared.status.Status.TheVariants.{Done, Usage, NoFile, BadSchedule}
+use Rattle.tt_session.specs.declared.status.Status.TheVariants.{Usage, NoFile, BadSchedule, TooLong}
+use Rattle.tt_session.proofs.ByteLemmas.{got-same, line-put}
+use Rattle.tt_session.proofs.SessionLemmas.{Kind, is_run, is_session, kind_of, one-session, tells-is}
+use Rattle.tt_session.proofs.OneReportLemmas.{no-report, one-report}
 use Rattle.tt_session.proofs.EndLemmas.{EndView, end-view, same-end, uncut, not-write}
 use Rattle.tt_session.proofs.WayLemmas.{same-way, stopped, same-turns, rests}
 
@@ -42,12 +47,12 @@ use Rattle.tt_session.proofs.WayLemmas.{same-way, stopped, same-turns, rests}
 
 data Found : Type 0 where
   missing : (name : List ℕ) → Found
-  with_text : (setup : Setup) (text : List ℕ) → Found
+  with_text : (setup : Setup) (wanted : Report) (text : List ℕ) → Found
   begins : (setup : Setup) (mode : Mode) → Found
 
-abbrev with_found : Setup → (schedule : List ℕ) → Option (List ℕ) → Found
-with_found setup schedule None = missing schedule
-with_found setup schedule (Some text) = with_text setup text
+abbrev with_found : Setup → Report → (schedule : List ℕ) → Option (List ℕ) → Found
+with_found setup wanted schedule None = missing schedule
+with_found setup wanted schedule (Some text) = with_text setup wanted text
 
 abbrev plain_by : Plain → Option (List ℕ) → Found
 plain_by named None = missing named.script
@@ -55,7 +60,7 @@ plain_by named (Some script) = begins (plain_setup named script) (Freely named.s
 
 abbrev replay_by : Replay → Names → Option (List ℕ) → Found
 replay_by named names None = missing named.script
-replay_by named names (Some script) = with_found (replay_setup named script) named.schedule (names named.schedule)
+replay_by named names (Some script) = with_found (replay_setup named script) named.report named.schedule (names named.schedule)
 
 abbrev found_by : Asked → Names → Found
 found_by (plain named) names = plain_by named (names named.script)
@@ -83,24 +88,22 @@ record IsRunTo (setup : Setup) (mode : Mode) (input : List ℕ) (status : Status
   view : EndView mode machine taken.steps status
   wrote : taken ≡ deeds_of taken.steps machine
 
-data TextView (setup : Setup) (text input : List ℕ) : Status → Deeds → Type 0 where
+data TextView (setup : Setup) (wanted : Report) (text input : List ℕ) : Status → Deeds → Type 0 where
   wrong_text : {place : ℕ} {taken : Deeds} → IsFirstWrong text place → ((threads : List ℕ) → ¬ (IsScheduleText text threads)) → taken ≡ no_deeds
-      → TextView setup text input (BadSchedule (Byte place)) taken
-  with_run : {status : Status} {given : List ℕ} {taken : Deeds} → IsScheduleText text given → IsRunTo setup (Replaying given) input status taken
-      → TextView setup text input status taken
+      → TextView setup wanted text input (BadSchedule (Byte place)) taken
+  too_long : {entries : ℕ} {given : List ℕ} {taken : Deeds} → IsScheduleText text given → entries ≡ length given → IsTooMuch wanted entries
+      → taken ≡ no_deeds → TextView setup wanted text input (TooLong entries) taken
+  with_run : {status : Status} {given : List ℕ} {taken : Deeds} → IsScheduleText text given → ¬ IsTooMuch wanted (length given)
+      → IsRunTo setup (Replaying given) input status taken → TextView setup wanted text input status taken
 
 abbrev View : Found → (input : List ℕ) → Status → Deeds → Type 0
 View (missing name) input status taken = (status ≡ NoFile name) × (taken ≡ no_deeds)
-View (with_text setup text) input status taken = TextView setup text input status taken
+View (with_text setup wanted text) input status taken = TextView setup wanted text input status taken
 View (begins setup mode) input status taken = IsRunTo setup mode input status taken
 
 pub told-is : {X : Type 0} (told : Option X) (x : X) (P : X → Type 0) → told ≡ Some x → IfSome told P → P x
 told-is None x P is all = absurd (cc is)
 told-is (Some y) x P is all = let same : y ≡ x = cc is in subst P same all
-
-pub tells-is : (told : Option Names) (names : Names) (name : List ℕ) (found : Option (List ℕ)) → told ≡ Some names → Tells told name found → names name ≡ found
-tells-is None names name found is tells = absurd (cc is)
-tells-is (Some map) names name found is tells = let same : map ≡ names = cc is in subst (λ (m : Names). m name ≡ found) same tells
 
 -- a settled status is that of the run
 pub settled-end : {F : Type 0} (files : OfFiles F) (file : Option (List ℕ)) (end : End) (schedule : List ℕ) (old new : F) (status : Status)
@@ -127,17 +130,23 @@ ran-view (replay named) told names setup mode status input taken is asks ran =
       tells-is told names named.schedule (Some asks.text)
           is asks.there.text_is,
     )
-    (with_run asks.is_text (moved-run setup _ mode _ input status taken asks.begins asks.chosen ran))
+    (with_run asks.is_text asks.short (moved-run setup _ mode _ input status taken asks.begins asks.chosen ran))
 ran-view (generate named) told names setup mode status input taken is asks ran = moved-run setup _ mode _ input status taken asks.0 asks.1 ran
 
+-- a run is no debugging session
+no-session : (wanted : Report) (file : List ℕ) → IsNoSession wanted → wanted ≡ Debug file → ⊥
+no-session wanted file run is = let P : Report → Type 0 = λ r. IsNoSession r in subst P is run
+
 missing-view : (asked : Asked) (told : Option Names) (names : Names) (name input : List ℕ) (taken : Deeds) → told ≡ Some names
-    → IsMissing asked told name → taken ≡ no_deeds → View (found_by asked names) input (NoFile name) taken
-missing-view (plain named) told names name input taken is absent empty = rw (tells-is told names named.script None is absent.1) (ap NoFile absent.0, empty)
-missing-view (replay named) told names name input taken is (inl absent) empty =
+    → IsMissing asked told name → ((named : Replay) → asked ≡ replay named → IsNoSession named.report) → taken ≡ no_deeds
+    → View (found_by asked names) input (NoFile name) taken
+missing-view (plain named) told names name input taken is absent runs empty = rw (tells-is told names named.script None is absent.1) (ap NoFile absent.0, empty)
+missing-view (replay named) told names name input taken is (inl absent) runs empty =
     rw (tells-is told names named.script None is absent.1) (ap NoFile absent.0, empty)
-missing-view (replay named) told names name input taken is (inr absent) empty =
+missing-view (replay named) told names name input taken is (inr (inl absent)) runs empty =
     rw (tells-is told names named.script (Some absent.1.0) is absent.1.1, tells-is told names named.schedule None is absent.2) (ap NoFile absent.0, empty)
-missing-view (generate named) told names name input taken is absent empty = absurd absent
+missing-view (replay named) told names name input taken is (inr (inr lacks)) runs empty = absurd (no-session named.report name (runs named refl) lacks.asked)
+missing-view (generate named) told names name input taken is absent runs empty = absurd absent
 
 wrong-view : (asked : Asked) (told : Option Names) (names : Names) (place : ℕ) (input : List ℕ) (taken : Deeds) → told ≡ Some names
     → HasWrongText asked told place → taken ≡ no_deeds → View (found_by asked names) input (BadSchedule (Byte place)) taken
@@ -151,16 +160,64 @@ wrong-view (replay named) told names place input taken is wrong empty =
     (wrong_text wrong.wrong wrong.no_text empty)
 wrong-view (generate named) told names place input taken is wrong empty = absurd wrong
 
+long-view : (asked : Asked) (told : Option Names) (names : Names) (entries : ℕ) (input : List ℕ) (taken : Deeds) → told ≡ Some names
+    → HasLongText asked told entries → taken ≡ no_deeds → View (found_by asked names) input (TooLong entries) taken
+long-view (plain named) told names entries input taken is long empty = absurd long
+long-view (replay named) told names entries input taken is long empty =
+    rw (
+      tells-is told names named.script (Some long.script) is long.there.script_is,
+      tells-is told names named.schedule
+          (Some long.text) is long.there.text_is,
+    )
+    (too_long long.is_text long.counted long.too_long empty)
+long-view (generate named) told names entries input taken is long empty = absurd long
+
 refusal-view : {F : Type 0} (files : OfFiles F) (asked : Asked) (why : Refusal) (names : Names) (old new : F) (input : List ℕ) (taken : Deeds)
-    → files.map old ≡ Some names → IsSettled (refused_status why) → IsRefusal files asked why old new → taken ≡ no_deeds
+    → files.map old ≡ Some names → IsSettled (refused_status why) → IsRefusal files asked why old new
+    → ((named : Replay) → asked ≡ replay named → IsNoSession named.report) → taken ≡ no_deeds
     → View (found_by asked names) input (refused_status why) taken
-refusal-view files asked (refusal.NoFile name) names old new input taken is settled why empty =
-    missing-view asked (files.map old) names name input taken is why empty
-refusal-view files asked (refusal.BadText offset) names old new input taken is settled why empty =
+refusal-view files asked (refusal.NoFile name) names old new input taken is settled why runs empty =
+    missing-view asked (files.map old) names name input taken is why runs empty
+refusal-view files asked (refusal.BadText offset) names old new input taken is settled why runs empty =
     wrong-view asked (files.map old) names offset input taken is why empty
-refusal-view files asked refusal.Usage names old new input taken is settled why empty = absurd why
-refusal-view files asked refusal.ReadFault names old new input taken is settled why empty = absurd settled
-refusal-view files asked refusal.NoMemory names old new input taken is settled why empty = absurd settled
+refusal-view files asked (refusal.TooLong entries) names old new input taken is settled why runs empty =
+    long-view asked (files.map old) names entries input taken is why empty
+refusal-view files asked refusal.Usage names old new input taken is settled why runs empty = absurd why
+refusal-view files asked refusal.ReadFault names old new input taken is settled why runs empty = absurd settled
+refusal-view files asked refusal.NoMemory names old new input taken is settled why runs empty = absurd settled
+
+-- ---- what is reported
+
+-- the bytes that follow the status line, by what was found
+abbrev MoreView : Found → (input : List ℕ) → Status → (steps more : List ℕ) → Type 0
+MoreView (missing name) input status steps more = more ≡ []
+MoreView (with_text setup wanted text) input status steps more = IsReport wanted status setup (Some input) steps more
+MoreView (begins setup mode) input status steps more = more ≡ []
+
+ran-more : (asked : Asked) (told : Option Names) (names : Names) (setup : Setup) (mode : Mode) (status : Status) (input steps more : List ℕ)
+    → told ≡ Some names → BeginsAs asked told setup mode → IsReport (report_of asked) status setup (Some input) steps more
+    → MoreView (found_by asked names) input status steps more
+ran-more (plain named) told names setup mode status input steps more is asks report =
+    rw (tells-is told names named.script (Some asks.script) is asks.script_is) report
+ran-more (replay named) told names setup mode status input steps more is asks report =
+    rw (
+      tells-is told names named.script (Some asks.script) is asks.there.script_is,
+      tells-is told names named.schedule (Some asks.text)
+          is asks.there.text_is,
+    )
+    (subst (λ (s : Setup). IsReport named.report status s (Some input) steps more) asks.begins report)
+ran-more (generate named) told names setup mode status input steps more is asks report = report
+
+refused-more : (found : Found) (why : Refusal) (input : List ℕ) → MoreView found input (refused_status why) [] []
+refused-more (missing name) why input = refl
+refused-more (with_text setup wanted text) why input = no-report wanted why setup input
+refused-more (begins setup mode) why input = refl
+
+one-more : (found : Found) (input : List ℕ) (status : Status) (steps one other : List ℕ)
+    → MoreView found input status steps one → MoreView found input status steps other → one ≡ other
+one-more (missing name) input status steps one other a b = a ∙ sym b
+one-more (with_text setup wanted text) input status steps one other a b = one-report wanted status setup input steps one other a b
+one-more (begins setup mode) input status steps one other a b = a ∙ sym b
 
 module _ {F S K E : Type 0} (files : OfFiles F) (source : OfSource S) (output : OfSink K) (errors : OfSink E) where
   -- what an answer is by the words, and what its sinks got: on standard error its status line comes last
@@ -172,7 +229,9 @@ module _ {F S K E : Type 0} (files : OfFiles F) (source : OfSource S) (output : 
     middle : E
     err : Grows (errors.got began.errors) (errors.got middle) deeds.err
     steady : errors.fault_count middle ≡ errors.fault_count began.errors
-    line : PutsLine errors (errors.fault_count began.errors) ended.status middle ended.errors
+    more : List ℕ
+    reported : MoreView found input ended.status deeds.steps more
+    line : PutsLine errors (errors.fault_count began.errors) ended.status more middle ended.errors
 
   run-to : (asked : Asked) (names : Names) (old new : F) (began : Began S K E) (ended : Ended S K E) (input : List ℕ) → files.map old ≡ Some names
       → source.held began.input ≡ Some input → IsSettled ended.status
@@ -198,24 +257,33 @@ module _ {F S K E : Type 0} (files : OfFiles F) (source : OfSource S) (output : 
         middle = is.finish.errors;
         err = faithful.err;
         steady = (is.leaves.writes_steady (not-write is.finish.end still)).1;
+        more = is.more;
+        reported = ran-more asked (files.map old) names is.setup is.mode ended.status input is.finish.schedule.threads is.more map_is is.begins
+            (subst (λ (held : Option (List ℕ)). IsReport (report_of asked) ended.status is.setup held is.finish.schedule.threads is.more) told is.report);
         line = is.line;
       }
 
   view : (asked : Asked) (names : Names) (input : List ℕ) (old new : F) (began : Began S K E) (ended : Ended S K E)
       → files.map old ≡ Some names → source.held began.input ≡ Some input → IsSettled ended.status
+      → ((named : Replay) → asked ≡ replay named → IsNoSession named.report)
       → AnswersTo files source output errors asked old new began ended → HasView (found_by asked names) input began ended
-  view asked names input old new began ended is told settled (answer.ran ran) = run-to asked names old new began ended input is told settled ran
-  view asked names input old new began ended is told settled (answer.refused why refuses untouched) =
+  view asked names input old new began ended is told settled runs (answer.debugged named same has) =
+      absurd (no-session named.report has.file (runs named same) has.asked)
+  view asked names input old new began ended is told settled runs (answer.ran ran) = run-to asked names old new began ended input is told settled ran
+  view asked names input old new began ended is told settled runs (answer.refused why refuses untouched) =
       let still : IsSettled (refused_status why) = let P : Status → Type 0 = λ s. IsSettled s in subst P untouched.status settled in
       record {
         deeds = no_deeds;
         steps = untouched.no_step;
         view = subst (λ (s : Status). View (found_by asked names) input s no_deeds) (sym untouched.status)
-            (refusal-view files asked why names old new input no_deeds is still refuses refl);
+            (refusal-view files asked why names old new input no_deeds is still refuses runs refl);
         out = subst (λ (sink : K). Grows (output.got began.output) (output.got sink) []) (sym untouched.output) (Grows-same (output.got began.output));
         middle = began.errors;
         err = Grows-same (errors.got began.errors);
         steady = refl;
+        more = [];
+        reported = subst (λ (s : Status). MoreView (found_by asked names) input s [] []) (sym untouched.status)
+            (refused-more (found_by asked names) why input);
         line = untouched.line;
       }
 
@@ -250,13 +318,28 @@ same-run-end setup (InTurn steps) input one other taken also a b free =
     (omega (arith, b.allowed)) (rests one steps a.machine taken.steps a.view) (rests other steps b.machine also.steps b.view)
 same-run-end setup (Freely steps) input one other taken also a b free = free steps refl
 
-same-text : (setup : Setup) (text input : List ℕ) (one other : Status) (taken also : Deeds) → TextView setup text input one taken
-    → TextView setup text input other also → IsSame one other taken also
-same-text setup text input one other taken also (wrong_text {place = place} wrong no_text empty)
+-- what a schedule's text is read as is too much, or it isn't
+same-much : (wanted : Report) (text : List ℕ) (entries : ℕ) (given given' : List ℕ) → IsScheduleText text given → IsScheduleText text given'
+    → entries ≡ length given → IsTooMuch wanted entries → ¬ IsTooMuch wanted (length given') → ⊥
+same-much wanted text entries given given' is is' counted much short =
+    short (subst (λ (n : ℕ). IsTooMuch wanted n) (counted ∙ ap length (one_list text given given' is is')) much)
+
+same-text : (setup : Setup) (wanted : Report) (text input : List ℕ) (one other : Status) (taken also : Deeds)
+    → TextView setup wanted text input one taken → TextView setup wanted text input other also → IsSame one other taken also
+same-text setup wanted text input one other taken also (wrong_text {place = place} wrong no_text empty)
     (wrong_text {place = place'} wrong' no_text' empty') = (ap (λ (n : ℕ). BadSchedule (Byte n)) (one_place text place place' wrong wrong'), empty ∙ sym empty')
-same-text setup text input one other taken also (wrong_text wrong no_text empty) (with_run is ran) = absurd (no_text _ is)
-same-text setup text input one other taken also (with_run is ran) (wrong_text wrong no_text empty) = absurd (no_text _ is)
-same-text setup text input one other taken also (with_run {given = given} is ran) (with_run {given = given'} is' ran') =
+same-text setup wanted text input one other taken also (wrong_text wrong no_text empty) (too_long is counted much none) = absurd (no_text _ is)
+same-text setup wanted text input one other taken also (wrong_text wrong no_text empty) (with_run is short ran) = absurd (no_text _ is)
+same-text setup wanted text input one other taken also (too_long is counted much none) (wrong_text wrong no_text empty) = absurd (no_text _ is)
+same-text setup wanted text input one other taken also (too_long {given = given} is counted much none)
+    (too_long {given = given'} is' counted' much' none') =
+    (ap TooLong (counted ∙ (ap length (one_list text given given' is is') ∙ sym counted')), none ∙ sym none')
+same-text setup wanted text input one other taken also (too_long is counted much none) (with_run is' short ran) =
+    absurd (same-much wanted text _ _ _ is is' counted much short)
+same-text setup wanted text input one other taken also (with_run is short ran) (wrong_text wrong no_text empty) = absurd (no_text _ is)
+same-text setup wanted text input one other taken also (with_run is short ran) (too_long is' counted much none) =
+    absurd (same-much wanted text _ _ _ is' is counted much short)
+same-text setup wanted text input one other taken also (with_run {given = given} is short ran) (with_run {given = given'} is' short' ran') =
     let lists : given ≡ given' = one_list text given given' is is' in
     let moved = subst (λ (list : List ℕ). IsRunTo setup (Replaying list) input one taken) lists ran in
     same-steps setup (Replaying given') input one other taken also moved ran'
@@ -265,7 +348,7 @@ same-text setup text input one other taken also (with_run {given = given} is ran
 same-view : (found : Found) (input : List ℕ) (one other : Status) (taken also : Deeds) → View found input one taken
     → View found input other also → ((setup : Setup) (steps : ℕ) → found ≡ begins setup (Freely steps) → taken.steps ≡ also.steps) → IsSame one other taken also
 same-view (missing name) input one other taken also a b free = (a.0 ∙ sym b.0, a.1 ∙ sym b.1)
-same-view (with_text setup text) input one other taken also a b free = same-text setup text input one other taken also a b
+same-view (with_text setup wanted text) input one other taken also a b free = same-text setup wanted text input one other taken also a b
 same-view (begins setup mode) input one other taken also a b free =
     same-steps setup mode input one other taken also a b
     (same-run-end setup mode input one other taken also a b (λ steps is. free setup steps (ap (λ (m : Mode). begins setup m) is)))
@@ -276,7 +359,7 @@ only-plain : (asked : Asked) (names : Names) (setup : Setup) (steps : ℕ) (P : 
 only-plain (plain named) names setup steps P then is = then named refl
 only-plain (replay named) names setup steps P then is = go (names named.script) (names named.schedule) is
   where
-    inner : (script : List ℕ) (text : Option (List ℕ)) → with_found (replay_setup named script) named.schedule text ≡ begins setup (Freely steps) → P
+    inner : (script : List ℕ) (text : Option (List ℕ)) → with_found (replay_setup named script) named.report named.schedule text ≡ begins setup (Freely steps) → P
     inner script None is = absurd (cc is)
     inner script (Some text) is = absurd (cc is)
 
@@ -291,6 +374,7 @@ unread-usage refusal.Usage words settled is = (refl, is)
 unread-usage refusal.NoMemory words settled is = absurd settled
 unread-usage (refusal.NoFile name) words settled is = absurd is
 unread-usage (refusal.BadText offset) words settled is = absurd is
+unread-usage (refusal.TooLong entries) words settled is = absurd is
 unread-usage refusal.ReadFault words settled is = absurd is
 
 -- wrong words are answered by `Usage`
@@ -301,45 +385,7 @@ wrong-words why words status same settled is =
     let found = unread-usage why words still is in
     (same ∙ found.0, found.1)
 
--- ---- bytes
-
--- how the line of a call is put whose standard error met no failure
-data LinePut {E : Type 0} (errors : OfSink E) (status : Status) (old new : E) : Type 0 where
-  no_line : (code : ℕ) → status ≡ Done code → new ≡ old → LinePut errors status old new
-  one_line : ((code : ℕ) → status ≡ Done code → ⊥) → Grows (errors.got old) (errors.got new) (line_of status) → LinePut errors status old new
-
-line-put : {E : Type 0} (errors : OfSink E) (before : ℕ) (status : Status) (old new : E)
-    → errors.fault_count old ≡ before → ¬ (Rises before (errors.fault_count new)) → PutsLine errors before status old new
-    → LinePut errors status old new
-line-put errors before status old new was steady (lines.silent (inl code) same) = no_line code.0 code.1 same
-line-put errors before status old new was steady (lines.silent (inr rises) same) =
-    absurd (steady (subst (λ (sink : _). Rises before (errors.fault_count sink)) (sym same) rises))
-line-put errors before status old new was steady (lines.whole loud grew still) = one_line (λ code is. loud (inl (code, is))) grew
-line-put errors before status old new was steady (lines.part loud grew rises) =
-    absurd (steady (subst (λ (n : ℕ). Rises n (errors.fault_count new)) was rises))
-
 module _ {F S K E : Type 0} (files : OfFiles F) (source : OfSource S) (output : OfSink K) (errors : OfSink E) where
-  -- two answers with the same status, after the same bytes
-  got-same : (status other : Status) (wrote : List ℕ) (old middle new before between after : E) → status ≡ other
-      → Grows (errors.got old) (errors.got middle) wrote → Grows (errors.got before) (errors.got between) wrote
-      → LinePut errors status middle new → LinePut errors other between after
-      → GotSame (errors.got old) (errors.got new) (errors.got before) (errors.got after)
-  got-same status other wrote old middle new before between after same grew grows (no_line code is quiet) (no_line value also silent) = record {
-    bytes = wrote;
-    grew = subst (λ (sink : E). Grows (errors.got old) (errors.got sink) wrote) (sym quiet) grew;
-    grows = subst (λ (sink : E). Grows (errors.got before) (errors.got sink) wrote) (sym silent) grows;
-  }
-  got-same status other wrote old middle new before between after same grew grows (no_line code is quiet) (one_line loud more) =
-      absurd (loud code (sym same ∙ is))
-  got-same status other wrote old middle new before between after same grew grows (one_line loud more) (no_line code is quiet) =
-      absurd (loud code (same ∙ is))
-  got-same status other wrote old middle new before between after same grew grows (one_line loud more) (one_line also most) = record {
-    bytes = wrote ++ line_of status;
-    grew = Grows-append (errors.got old) (errors.got middle) (errors.got new) wrote (line_of status) grew more;
-    grows = Grows-append (errors.got before) (errors.got between) (errors.got after) wrote (line_of status) grows
-        (subst (λ (s : Status). Grows (errors.got between) (errors.got after) (line_of s)) (sym same) most);
-  }
-
   -- two answers that are explained alike
   explained : (found : Found) (input : List ℕ) (began again : Began S K E) (one other : Ended S K E)
       → HasView files source output errors found input began one → HasView files source output errors found input again other
@@ -350,6 +396,11 @@ module _ {F S K E : Type 0} (files : OfFiles F) (source : OfSource S) (output : 
       (λ setup steps is. sym a.steps ∙ (free setup steps is ∙ b.steps)) in
       let out : a.deeds.out ≡ b.deeds.out = ap (λ (d : Deeds). d.out) same.1 in
       let err : a.deeds.err ≡ b.deeds.err = ap (λ (d : Deeds). d.err) same.1 in
+      let steps : a.deeds.steps ≡ b.deeds.steps = ap (λ (d : Deeds). d.steps) same.1 in
+      let moved : MoreView found input other.status b.deeds.steps a.more =
+      subst (λ (list : List ℕ). MoreView found input other.status list a.more) steps
+      (subst (λ (s : Status). MoreView found input s a.deeds.steps a.more) same.0 a.reported) in
+      let mores : a.more ≡ b.more = one-more found input other.status b.deeds.steps a.more b.more moved b.reported in
       record {
         status = same.0;
         steps = a.steps ∙ (ap (λ (d : Deeds). d.steps) same.1 ∙ sym b.steps);
@@ -359,10 +410,11 @@ module _ {F S K E : Type 0} (files : OfFiles F) (source : OfSource S) (output : 
           grows = subst (λ (bytes : List ℕ). Grows (output.got again.output) (output.got other.output) bytes) (sym out) b.out;
         };
         err = λ stays rests.
-            got-same one.status other.status a.deeds.err began.errors a.middle one.errors again.errors b.middle other.errors same.0
+            got-same errors (line_of one.status ++ a.more) (line_of other.status ++ b.more) a.deeds.err began.errors a.middle one.errors again.errors b.middle
+            other.errors (ap₂ (λ (s : Status) (bytes : List ℕ). line_of s ++ bytes) same.0 mores)
             a.err (subst (λ (bytes : List ℕ). Grows (errors.got again.errors) (errors.got b.middle) bytes) (sym err) b.err)
-            (line-put errors (errors.fault_count began.errors) one.status a.middle one.errors a.steady stays a.line)
-            (line-put errors (errors.fault_count again.errors) other.status b.middle other.errors b.steady rests b.line);
+            (line-put errors (errors.fault_count began.errors) one.status a.more a.middle one.errors a.steady stays a.line)
+            (line-put errors (errors.fault_count again.errors) other.status b.more b.middle other.errors b.steady rests b.line);
       }
 
   -- words that can't be read
@@ -378,10 +430,11 @@ module _ {F S K E : Type 0} (files : OfFiles F) (source : OfSource S) (output : 
       grows = subst (λ (sink : K). Grows (output.got again.output) (output.got sink) []) (sym b.output) (Grows-same (output.got again.output));
     };
     err = λ stays rests.
-        got-same one.status other.status [] began.errors began.errors one.errors again.errors again.errors other.errors same
+        got-same errors (line_of one.status ++ []) (line_of other.status ++ []) [] began.errors began.errors one.errors again.errors again.errors
+        other.errors (ap (λ (s : Status). line_of s ++ []) same)
         (Grows-same (errors.got began.errors)) (Grows-same (errors.got again.errors))
-        (line-put errors (errors.fault_count began.errors) one.status began.errors one.errors refl stays a.line)
-        (line-put errors (errors.fault_count again.errors) other.status again.errors other.errors refl rests b.line);
+        (line-put errors (errors.fault_count began.errors) one.status [] began.errors one.errors refl stays a.line)
+        (line-put errors (errors.fault_count again.errors) other.status [] again.errors other.errors refl rests b.line);
   }
 
   pub one_answer : OneAnswerLaw files source output errors
@@ -397,8 +450,16 @@ module _ {F S K E : Type 0} (files : OfFiles F) (source : OfSource S) (output : 
       let same : repeated ≡ asked = one_reading words repeated asked rereads reads in
       let moved : AnswersTo files source output errors asked store kept again other =
       subst (λ (x : Asked). AnswersTo files source output errors x store kept again other) same b in
-      explained (found_by asked names) input began again one other
-      (view files source output errors asked names input old new began one is told s a)
-      (view files source output errors asked names input store kept again other also heard t moved)
-      (λ setup steps begun. only-plain asked names setup steps (one.schedule.threads ≡ other.schedule.threads)
-      (λ named plain_is. free named (subst (λ (x : Asked). WordsAskFor words x) plain_is reads)) begun)
+      go (kind_of asked) moved
+    where
+      go : Kind asked → AnswersTo files source output errors asked store kept again other → IsSameAnswer output errors began again one other
+      go (is_session named file plays wanted) moved =
+          one-session files source output errors named file names old new store kept began again one other wanted is also s t
+          (subst (λ (x : Asked). AnswersTo files source output errors x old new began one) plays a)
+          (subst (λ (x : Asked). AnswersTo files source output errors x store kept again other) plays moved)
+      go (is_run runs) moved =
+          explained (found_by asked names) input began again one other
+          (view files source output errors asked names input old new began one is told s runs a)
+          (view files source output errors asked names input store kept again other also heard t runs moved)
+          (λ setup steps begun. only-plain asked names setup steps (one.schedule.threads ≡ other.schedule.threads)
+          (λ named plain_is. free named (subst (λ (x : Asked). WordsAskFor words x) plain_is reads)) begun)

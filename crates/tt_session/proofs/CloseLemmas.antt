@@ -62,6 +62,7 @@ wrong-usage refusal.Usage words is same = is
 wrong-usage refusal.NoMemory words is same = absurd (cc same)
 wrong-usage (refusal.NoFile name) words is same = absurd is
 wrong-usage (refusal.BadText offset) words is same = absurd is
+wrong-usage (refusal.TooLong entries) words is same = absurd is
 wrong-usage refusal.ReadFault words is same = absurd is
 
 unread-status : (why : Refusal) (words : List (List ℕ)) (status : Status) → IsWordRefusal why words → status ≡ refused_status why
@@ -70,6 +71,7 @@ unread-status refusal.Usage words status is same = inl same
 unread-status refusal.NoMemory words status is same = inr same
 unread-status (refusal.NoFile name) words status is same = absurd is
 unread-status (refusal.BadText offset) words status is same = absurd is
+unread-status (refusal.TooLong entries) words status is same = absurd is
 unread-status refusal.ReadFault words status is same = absurd is
 
 module _ {F S K E : Type 0} (files : OfFiles F) (source : OfSource S) (output : OfSink K) (errors : OfSink E) where
@@ -78,6 +80,7 @@ module _ {F S K E : Type 0} (files : OfFiles F) (source : OfSource S) (output : 
   refused-usage asked refusal.NoMemory old new is same = cc
   refused-usage asked (refusal.NoFile name) old new is same = cc
   refused-usage asked (refusal.BadText offset) old new is same = cc
+  refused-usage asked (refusal.TooLong entries) old new is same = cc
   refused-usage asked refusal.ReadFault old new is same = cc
 
   recorded-usage : (file : Option (List ℕ)) (end : End) (schedule : List ℕ) (old new : F) (status : Status)
@@ -92,6 +95,7 @@ module _ {F S K E : Type 0} (files : OfFiles F) (source : OfSource S) (output : 
   answered-usage asked old new began ended (answer.refused why is untouched) usage = refused-usage asked why old new is (sym untouched.status ∙ usage)
   answered-usage asked old new began ended (answer.ran is) usage =
       recorded-usage (record_of asked) is.finish.end is.finish.schedule.threads old new ended.status is.records usage
+  answered-usage asked old new began ended (answer.debugged named same is) usage = no-usage is.end (sym is.status ∙ usage)
 
   pub usage-answer : (words : List (List ℕ)) (old new : F) (began : Began S K E) (ended : Ended S K E)
       → IsAnswered files source output errors words old new began ended → IsUsage ended.status words
@@ -107,7 +111,7 @@ module _ {F S K E : Type 0} (files : OfFiles F) (source : OfSource S) (output : 
   -- words that aren't read
   pub unread-answer : (words : List (List ℕ)) (why : Refusal) (now : F) (began : Began S K E) (ended : Ended S K E) → IsWordRefusal why words
       → ended.status ≡ refused_status why → ended.schedule.threads ≡ [] → (ended.input ≡ began.input) × (ended.output ≡ began.output)
-      → PutsLine errors (errors.fault_count began.errors) ended.status began.errors ended.errors
+      → PutsLine errors (errors.fault_count began.errors) ended.status [] began.errors ended.errors
       → IsAnswered files source output errors words now now began ended
   unread-answer words why now began ended is status no_step streams line = answer.unread why is (record {
     status = status;
@@ -148,6 +152,7 @@ no-plain refusal.Usage words status is same some named = is (plain named)
 no-plain refusal.NoMemory words status is same some named = absurd (some same)
 no-plain (refusal.NoFile name) words status is same some named = absurd is
 no-plain (refusal.BadText offset) words status is same some named = absurd is
+no-plain (refusal.TooLong entries) words status is same some named = absurd is
 no-plain refusal.ReadFault words status is same some named = absurd is
 
 -- what a map has is there

@@ -1,11 +1,15 @@
 -- How a status line is put, piece by piece.
-use Rattle.std.proofs.Common.{◌≡◌, ◌∙◌, ℕ, List, ◌++◌, Option, Ok, Err, Result, OnOk, OnErr, sym, ap, append_assoc}
+use Rattle.std.proofs.Common.{◌≡◌, ◌∙◌, ◌↔◌, ℕ, List, [], ◌++◌, Option, Ok, Err, Result, OnOk, OnErr, IsTrue, refl, sym, ap, append_assoc, append-nil}
 use Rattle.tt_devices.proofs.StreamLemmas.{Grows-append}
 use Rattle.tt_devices.specs.Faults.{Rises}
 use Rattle.tt_devices.specs.Streams.{Grows, GrowsByPart}
 use Rattle.tt_devices.specs.declared.sink.Sink.{Ghosts as OfSink}
-use Rattle.tt_session.specs.Lines.{HasNoLine, PutsLine, line_of, part, whole}
+use Rattle.tt_session.specs.Lines.{IsSilent, PutsLine, line_of, part, whole}
+use Rattle.tt_session.specs.declared.status.Place.TheVariants.{Byte, Entry}
 use Rattle.tt_session.specs.declared.status.Status.{Status}
+use Rattle.tt_session.specs.declared.status.Status.TheVariants.{Done, Usage, NoFile, BadSchedule, TooLong}
+use Rattle.tt_session.specs.declared.status.Status.TheVariants.{ScheduleEnded, Stalled, StepLimit}
+use Rattle.tt_session.specs.declared.status.Status.TheVariants.{ReadFault, WriteFault, NoMemory}
 
 -- a first part of a piece is one of a longer piece
 pub part-front : (old new : Option (List ℕ)) (piece more : List ℕ) → GrowsByPart old new piece → GrowsByPart old new (piece ++ more)
@@ -54,11 +58,34 @@ pub on-err : {T X : Type 0} (result : Result T X) (P : Type 0) → P → OnErr r
 on-err (Ok x) P is = tt
 on-err (Err x) P is = is
 
--- the line was put, or a first part of it
-pub put-by : {E U X : Type 0} (errors : OfSink E) (before : ℕ) (status : Status) (old new : E) (result : Result U X)
-    → ¬ (HasNoLine errors before status old)
-    → OnOk result (Grows (errors.got old) (errors.got new) (line_of status)) → OnErr result (GrowsByPart (errors.got old) (errors.got new) (line_of status))
+-- the line was put, and the bytes after it, or a first part of them
+pub put-by : {E U X : Type 0} (errors : OfSink E) (before : ℕ) (status : Status) (more : List ℕ) (old new : E) (result : Result U X)
+    → ¬ (IsSilent errors before (line_of status ++ more) old)
+    → OnOk result (Grows (errors.got old) (errors.got new) (line_of status ++ more))
+    → OnErr result (GrowsByPart (errors.got old) (errors.got new) (line_of status ++ more))
     → OnOk result (errors.fault_count new ≡ errors.fault_count old) → OnErr result (Rises (errors.fault_count old) (errors.fault_count new))
-    → PutsLine errors before status old new
-put-by errors before status old new (Ok x) loud grows cut steady rises = whole loud grows steady
-put-by errors before status old new (Err x) loud grows cut steady rises = part loud cut rises
+    → PutsLine errors before status more old new
+put-by errors before status more old new (Ok x) loud grows cut steady rises = whole loud grows steady
+put-by errors before status more old new (Err x) loud grows cut steady rises = part loud cut rises
+
+-- a line alone is all that is told if there is nothing more
+pub line-alone : (old new : Option (List ℕ)) (line more : List ℕ) → more ≡ [] → Grows old new line → Grows old new (line ++ more)
+line-alone old new line more none grows = rw (none, append-nil line) grows
+
+-- every status but that of a run that is over has a line
+pub only-done : (status : Status) (more : List ℕ) → line_of status ++ more ≡ [] → (code : ℕ) × (status ≡ Done code)
+only-done (Done code) more is = (code, refl)
+only-done Usage more is = absurd (cc is)
+only-done (NoFile name) more is = absurd (cc is)
+only-done (BadSchedule (Byte offset)) more is = absurd (cc is)
+only-done (BadSchedule (Entry number)) more is = absurd (cc is)
+only-done (TooLong entries) more is = absurd (cc is)
+only-done ScheduleEnded more is = absurd (cc is)
+only-done Stalled more is = absurd (cc is)
+only-done (StepLimit steps) more is = absurd (cc is)
+only-done ReadFault more is = absurd (cc is)
+only-done WriteFault more is = absurd (cc is)
+only-done NoMemory more is = absurd (cc is)
+
+pub no-more : (status : Status) (more : List ℕ) (code : ℕ) → status ≡ Done code → line_of status ++ more ≡ [] → more ≡ []
+no-more status more code is none = rw is at none

@@ -25,7 +25,8 @@ use Rattle.tt_session.specs.declared.status.Status.{Status}
 use Rattle.tt_session.specs.declared.status.Status.TheVariants.{Done}
 use Rattle.tt_session.proofs.EndLemmas.{EndView, over, not_over, refused, stuck, full, end-view, not-refused, no-limit, some-limit, over-can, uncut}
 use Rattle.tt_session.proofs.WayLemmas.{same-way, stopped}
-use Rattle.tt_session.proofs.AnswerLemmas.{told-is, tells-is, settled-end}
+use Rattle.tt_session.proofs.AnswerLemmas.{told-is, settled-end}
+use Rattle.tt_session.proofs.SessionLemmas.{tells-is}
 
 -- ---- a run that is replayed
 

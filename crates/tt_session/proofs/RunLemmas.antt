@@ -81,7 +81,7 @@ module _ {S K E : Type 0} (source : OfSource S) (output : OfSink K) (errors : Of
     old_errors : before.desk.devices.errors ≡ began.errors
     old_errors = ap (λ (d : Devices S K E). d.errors) devices_are
 
-    pub machine-of : finish.schedule.threads ≡ stage.desk.schedule → stage.desk.kept ≡ cause_of finish.end
+    pub machine-of : finish.schedule.threads ≡ stage.desk.schedule → is_cut stage.desk.kept ≡ is_cut (cause_of finish.end)
         → finish.output ≡ stage.desk.devices.output → finish.errors ≡ stage.desk.devices.errors
         → AreFaithful source.held output.got errors.got stage
         → OfMachine source.held stage (λ machine. HoldsLastPart (source.held finish.input) machine.input)

@@ -2,11 +2,14 @@ pub mod Answer
 pub mod AnswerLaws
 pub mod Asking
 pub mod Choosing
+pub mod Debugging
 pub mod Ended
 pub mod Ending
 pub mod Lines
 pub mod NoWords
 pub mod Recording
+pub mod Reporting
 pub mod Running
 pub mod Status
+pub mod Telling
 pub mod inside

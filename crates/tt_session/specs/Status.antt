@@ -6,8 +6,9 @@ use Rattle.tt_session.specs.declared.status.Place.TheVariants.{Byte, Entry}
 use Rattle.tt_session.specs.declared.status.Refusal.{Refusal}
 use Rattle.tt_session.specs.declared.status.Refusal.TheVariants as refusal
 use Rattle.tt_session.specs.declared.status.Status.{Status}
-use Rattle.tt_session.specs.declared.status.Status.TheVariants.{Done, Usage, NoFile, BadSchedule, ScheduleEnded}
-use Rattle.tt_session.specs.declared.status.Status.TheVariants.{Stalled, StepLimit, ReadFault, WriteFault, NoMemory}
+use Rattle.tt_session.specs.declared.status.Status.TheVariants.{Done, Usage, NoFile, BadSchedule, TooLong}
+use Rattle.tt_session.specs.declared.status.Status.TheVariants.{ScheduleEnded, Stalled, StepLimit}
+use Rattle.tt_session.specs.declared.status.Status.TheVariants.{ReadFault, WriteFault, NoMemory}
 
 -- the exit code of each status
 abbrev pub exit_of : Status → ℕ
@@ -15,6 +16,7 @@ exit_of (Done code) = code
 exit_of Usage = 106
 exit_of (NoFile name) = 107
 exit_of (BadSchedule place) = 108
+exit_of (TooLong entries) = 111
 exit_of ScheduleEnded = 109
 exit_of Stalled = 101
 exit_of (StepLimit steps) = 102
@@ -38,5 +40,6 @@ abbrev pub refused_status : Refusal → Status
 refused_status refusal.Usage = Usage
 refused_status (refusal.NoFile name) = NoFile name
 refused_status (refusal.BadText offset) = BadSchedule (Byte offset)
+refused_status (refusal.TooLong entries) = TooLong entries
 refused_status refusal.ReadFault = ReadFault
 refused_status refusal.NoMemory = NoMemory

@@ -3,6 +3,7 @@
 #![tactic(auto)]
 
 mod along;
+mod debugging;
 mod ended;
 mod given_words;
 pub mod laws;
@@ -10,8 +11,10 @@ mod line;
 mod on_workers;
 mod prepare;
 mod recording;
+mod reporting;
 mod run;
 mod status;
+mod telling;
 mod without_workers;
 
 pub use ended::{Alone, Ended, Finish};

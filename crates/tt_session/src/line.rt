@@ -1,8 +1,8 @@
-ghost use Rattle.std.specs.Prelude.{◌≡◌, ◌++◌, ◌↔◌, OnOk, OnErr, IsTrue};
+ghost use Rattle.std.specs.Prelude.{◌≡◌, ◌++◌, ◌↔◌, [], OnOk, OnErr, IsTrue};
 ghost use Rattle.std.specs.Fmt.{decimal};
 ghost use Rattle.tt_devices.specs.Faults.{Rises};
 ghost use Rattle.tt_devices.specs.Streams.{Grows, GrowsByPart};
-ghost use Rattle.tt_session.specs.Lines.{HasNoLine, PutsLine, program_line, line_of};
+ghost use Rattle.tt_session.specs.Lines.{PutsLine, program_line, line_of};
 
 use crate::status::{Place, Status};
 use itoa::Buffer;
@@ -12,19 +12,26 @@ use tt_words::USAGE;
 /// Puts the status line, for every status but `Done`. `before` is the count of faults of standard error when the call
 /// began: after a failure nothing is put. It takes no memory.
 pub fn put_status<E: Sink>(status: &Status, before: u64, errors: &mut E)
-    ensures { PutsLine E.Sink before status.now errors.old errors.new }
+    ensures { PutsLine E.Sink before status.now [] errors.old errors.new }
 {
-    if has_no_line(status, before, errors) {
-        return;
-    }
-    let _ = put_line(status, errors);
+    put_report(status, b"", before, errors);
 }
 
-/// Whether nothing is put.
-fn has_no_line<E: Sink>(status: &Status, before: u64, errors: &E) -> bool
-    ensures { IsTrue result ↔ HasNoLine E.Sink before status.now errors.now }
+/// Puts the status line, and after it these bytes as one piece.
+pub(crate) fn put_report<E: Sink>(status: &Status, more: &[u8], before: u64, errors: &mut E)
+    ensures { PutsLine E.Sink before status.now more.now errors.old errors.new }
 {
-    matches!(status, Status::Done(_)) || has_risen(before, errors.faults())
+    if is_empty(status, more) || has_risen(before, errors.faults()) {
+        return;
+    }
+    let _ = put_all(status, more, errors);
+}
+
+/// Whether there is nothing to put.
+fn is_empty(status: &Status, more: &[u8]) -> bool
+    ensures { IsTrue result ↔ (line_of status.now ++ more.now ≡ []) }
+{
+    matches!(status, Status::Done(_)) && more.is_empty()
 }
 
 /// Whether a count of faults rose, or stands at its greatest.
@@ -32,6 +39,21 @@ fn has_risen(before: u64, after: u64) -> bool
     ensures { IsTrue result ↔ Rises before after }
 {
     before < after || (before == after && after == u64::MAX)
+}
+
+/// Puts the line of the status, and then these bytes, if there are any.
+fn put_all<E: Sink>(status: &Status, more: &[u8], errors: &mut E) -> Result<(), Failed>
+    ensures put { OnOk result (Grows (E.got errors.old) (E.got errors.new) (line_of status.now ++ more.now)) }
+    ensures part { OnErr result (GrowsByPart (E.got errors.old) (E.got errors.new) (line_of status.now ++ more.now)) }
+    ensures steady { OnOk result (E.fault_count errors.new ≡ E.fault_count errors.old) }
+    ensures cause { OnErr result (Rises (E.fault_count errors.old) (E.fault_count errors.new)) }
+{
+    put_line(status, errors)?;
+    if more.is_empty() {
+        return Ok(());
+    }
+    errors.put(more)?;
+    Ok(())
 }
 
 /// Puts the line of the status.
@@ -42,10 +64,11 @@ fn put_line<E: Sink>(status: &Status, errors: &mut E) -> Result<(), Failed>
     ensures cause { OnErr result (Rises (E.fault_count errors.old) (E.fault_count errors.new)) }
 {
     match status {
-        Status::Done(_) => put_words(errors, b"", b""),
+        Status::Done(_) => Ok(()),
         Status::Usage => put_words(errors, b"usage: ", USAGE),
         Status::NoFile(name) => put_words(errors, b"no file ", name.as_bytes()),
         Status::BadSchedule(place) => put_place(errors, *place),
+        Status::TooLong(_) => put_words(errors, b"schedule longer than 10000", b""),
         Status::ScheduleEnded => put_words(errors, b"schedule ended", b""),
         Status::Stalled => put_words(errors, b"stalled", b""),
         Status::StepLimit(steps) => put_number(errors, b"step limit ", *steps),

@@ -1,12 +1,14 @@
-ghost use Rattle.std.specs.Prelude.{◌≡◌, ◌≢◌, ◌⊎◌, map, string_bytes, Some, Err, IfOk, IfErr, IsErrOf};
+ghost use Rattle.std.specs.Prelude.{◌≡◌, ◌≢◌, ◌⊎◌, ◌↔◌, map, string_bytes, length, Some, Err};
+ghost use Rattle.std.specs.Prelude.{IfOk, IfErr, IsErrOf, IsTrue};
 ghost use Rattle.std.specs.Borrow.{Bor};
 ghost use Rattle.tt_devices.specs.Faults.{Rises};
 ghost use Rattle.tt_devices.specs.Names.{Tells};
 ghost use Rattle.tt_words.specs.Asked.{WordsAskFor};
 ghost use Rattle.tt_words.specs.Asked as words_asked;
 ghost use Rattle.tt_words.specs.CodeValues.{text_of, asked_as_text, generate_as_text, plain_as_text, replay_as_text};
+ghost use Rattle.tt_words.specs.CodeValues.{report_as_text};
 ghost use Rattle.tt_session.specs.Answer.{IsRefusal, IsWordRefusal};
-ghost use Rattle.tt_session.specs.Asking.{BeginsPlain, BeginsReplay, generate_setup};
+ghost use Rattle.tt_session.specs.Asking.{BeginsPlain, BeginsReplay, IsTooMuch, generate_setup};
 ghost use Rattle.tt_session.specs.Choosing.{Freely, Replaying};
 ghost use Rattle.tt_session.specs.inside.Following.{IsFileRefusal};
 
@@ -17,7 +19,10 @@ use tt_devices::{Files, ReadAnswer};
 use tt_generate::workload;
 use tt_schedule::{ReadSchedule, Schedule, read};
 use tt_text::{NoMemory, Text, Texts};
-use tt_words::{Asked, Generate, Plain, Replay, read_words};
+use tt_words::{Asked, Generate, Plain, Replay, Report, read_words};
+
+/// Races are reported of a schedule of at most so many entries.
+const MOST_RACED: u64 = 10_000;
 
 /// What the words ask for.
 ///
@@ -97,6 +102,9 @@ pub(crate) fn prepare_replay<F: Files>(
         ReadSchedule::Read(given) => given,
         ReadSchedule::Bad(fault) => return Err(Refusal::BadText(fault.place)),
     };
+    if is_too_long(&replay.report, &given) {
+        return Err(Refusal::TooLong(given.len()));
+    }
     let Ok(setup) = setup_of(
         alloc,
         &script,
@@ -107,6 +115,16 @@ pub(crate) fn prepare_replay<F: Files>(
         return Err(Refusal::NoMemory);
     };
     Ok(Prepared { setup, given })
+}
+
+/// Whether a schedule is too long for what is to be reported.
+fn is_too_long(report: &Report<'_>, given: &Schedule) -> bool
+    ensures { IsTrue result ↔ IsTooMuch (report_as_text report.now) (length given.now.threads) }
+{
+    match report {
+        Report::Races => given.len() > MOST_RACED,
+        _ => false,
+    }
 }
 
 /// What a run of a script begins with that is made of a number.
@@ -155,7 +173,11 @@ fn texts(alloc: Global, words: &[&str]) -> Result<Texts, NoMemory>
 /// The bytes of a file.
 ///
 /// Else why there are none.
-fn read_file<F: Files>(alloc: Global, files: &mut F, name: &str) -> Result<Vec<u8>, Refusal>
+pub(crate) fn read_file<F: Files>(
+    alloc: Global,
+    files: &mut F,
+    name: &str,
+) -> Result<Vec<u8>, Refusal>
     ensures found { IfOk result (λ bytes. Tells (F.map files.old) name.now (Some bytes.items)) }
     ensures refused { IfErr result (λ why. IsFileRefusal why (F.map files.old) name.now) }
     ensures cause { IsErrOf result Refusal.ReadFault →

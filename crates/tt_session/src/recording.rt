@@ -1,11 +1,13 @@
-ghost use Rattle.std.specs.Prelude.{◌≡◌};
+ghost use Rattle.std.specs.Prelude.{◌≡◌, []};
 ghost use Rattle.std.specs.Option.{option_map};
 ghost use Rattle.tt_words.specs.CodeValues.{text_of};
 ghost use Rattle.tt_session.specs.Lines.{PutsLine};
 ghost use Rattle.tt_session.specs.Recording.{Records};
+ghost use Rattle.tt_session.specs.Status.{ended_status};
 
 use crate::ended::{Ended, Finish};
-use crate::line::put_status;
+use crate::line::{put_report, put_status};
+use crate::reporting::Reported;
 use crate::status::{End, Status};
 use std::alloc::Global;
 use tt_devices::{Files, Sink};
@@ -22,7 +24,7 @@ pub fn close<F: Files, S, K, E: Sink>(
 ) -> Ended<S, K, E>
     ensures records { Records F.Files (option_map text_of file.entry) finish.end finish.schedule.threads
         files.old files.new result.status }
-    ensures line { PutsLine E.Sink before result.status finish.errors result.errors }
+    ensures line { PutsLine E.Sink before result.status [] finish.errors result.errors }
     ensures schedule { result.schedule.threads ≡ finish.schedule.threads }
     ensures streams { (result.input ≡ finish.input) × (result.output ≡ finish.output) }
     ensures no_read { F.read_fault_count files.new ≡ F.read_fault_count files.old }
@@ -36,6 +38,35 @@ pub fn close<F: Files, S, K, E: Sink>(
     } = finish;
     let status = put_record(alloc, file, files, end, &schedule);
     put_status(&status, before, &mut errors);
+    Ended {
+        status,
+        schedule,
+        input,
+        output,
+        errors,
+    }
+}
+
+/// Closes a replay, which is not recorded: reports how the call ends, and then what the replay reports of itself.
+pub(crate) fn close_reported<S, K, E: Sink>(
+    before: u64,
+    reported: Reported<S, K, E>,
+) -> Ended<S, K, E>
+    ensures status { result.status ≡ ended_status reported.finish.end }
+    ensures line { PutsLine E.Sink before result.status reported.more reported.finish.errors result.errors }
+    ensures schedule { result.schedule.threads ≡ reported.finish.schedule.threads }
+    ensures streams { (result.input ≡ reported.finish.input) × (result.output ≡ reported.finish.output) }
+{
+    let Reported { finish, more } = reported;
+    let Finish {
+        end,
+        schedule,
+        input,
+        output,
+        mut errors,
+    } = finish;
+    let status = end.status();
+    put_report(&status, more.as_bytes(), before, &mut errors);
     Ended {
         status,
         schedule,

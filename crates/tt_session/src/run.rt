@@ -97,7 +97,10 @@ fn take<S: Source, K: Sink, E: Sink>(system: &mut System<S, K, E>, course: &Cour
 }
 
 /// Takes the steps of the schedule, as far as they go.
-fn follow<S: Source, K: Sink, E: Sink>(system: &mut System<S, K, E>, given: &Schedule) -> End
+pub(crate) fn follow<S: Source, K: Sink, E: Sink>(
+    system: &mut System<S, K, E>,
+    given: &Schedule,
+) -> End
     requires fresh { system.old.desk.schedule ≡ [] }
     requires going { system.old.desk.kept ≡ None }
     ensures allowed { Allows (Replaying given.now.threads) system.new.desk.schedule }

@@ -23,6 +23,8 @@ pub enum Status {
     NoFile(Text),
     /// The schedule's text is none, or a thread can't take the step of an entry.
     BadSchedule(Place),
+    /// The schedule, whose races are asked for, has so many entries, more than there may be.
+    TooLong(u64),
     /// All steps of the schedule were taken, and the run isn't over.
     ScheduleEnded,
     /// No thread can take a step, and the run isn't over.
@@ -67,6 +69,8 @@ pub enum Refusal {
     NoFile(Text),
     /// The schedule's text is none; this is the offset of its first wrong line, in bytes.
     BadText(u64),
+    /// The schedule, whose races are asked for, has so many entries, more than there may be.
+    TooLong(u64),
     /// A file could not be read.
     ReadFault,
     /// Memory was refused.
@@ -100,6 +104,7 @@ impl Refusal {
             Refusal::Usage => Status::Usage,
             Refusal::NoFile(name) => Status::NoFile(name),
             Refusal::BadText(offset) => Status::BadSchedule(Place::Byte(offset)),
+            Refusal::TooLong(entries) => Status::TooLong(entries),
             Refusal::ReadFault => Status::ReadFault,
             Refusal::NoMemory => Status::NoMemory,
         }
@@ -116,6 +121,7 @@ impl Status {
             Status::Usage => 106,
             Status::NoFile(_) => 107,
             Status::BadSchedule(_) => 108,
+            Status::TooLong(_) => 111,
             Status::ScheduleEnded => 109,
             Status::Stalled => 101,
             Status::StepLimit(_) => 102,

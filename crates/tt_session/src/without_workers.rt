@@ -2,23 +2,26 @@ ghost use Rattle.std.specs.Prelude.{◌≡◌, ◌≢◌, ◌≤◌, [], map, st
 ghost use Rattle.tt_schedule.specs.ScheduleText.{most_steps};
 ghost use Rattle.tt_words.specs.Asked.{WordsAskFor};
 ghost use Rattle.tt_words.specs.Asked as words_asked;
-ghost use Rattle.tt_words.specs.CodeValues.{generate_as_text, replay_as_text};
+ghost use Rattle.tt_words.specs.CodeValues.{generate_as_text, replay_as_text, report_as_text};
 ghost use Rattle.tt_session.specs.Answer.{AnswersTo, IsAnswered, IsUsage};
+ghost use Rattle.tt_session.specs.Asking.{IsNoSession};
 ghost use Rattle.tt_session.specs.Ended.{IfEnded, IfPlain};
 ghost use Rattle.tt_session.specs.Lines.{PutsLine};
 ghost use Rattle.tt_session.specs.Status.{refused_status};
 ghost use Rattle.tt_session.specs.declared.status.Status.{Status};
 
+use crate::debugging::debug;
 use crate::ended::{Alone, Ended};
 use crate::line::put_status;
 use crate::prepare::{ask, prepare_generated, prepare_replay};
-use crate::recording::close;
+use crate::recording::{close, close_reported};
+use crate::reporting::run_reported;
 use crate::run::{Course, run_course};
 use crate::status::Refusal;
 use std::alloc::Global;
 use tt_devices::{Files, Sink, Source};
 use tt_schedule::Schedule;
-use tt_words::{Asked, Generate, Replay};
+use tt_words::{Asked, Generate, Replay, Report};
 
 /// Does the whole work of `session` if the words ask for nothing, or have `--replay` or `--generate`. It takes no
 /// runtime, and returns from every call.
@@ -71,7 +74,7 @@ pub fn refuse<S, K, E: Sink>(
     ensures status { result.status ≡ refused_status why }
     ensures no_step { result.schedule.threads ≡ [] }
     ensures streams { (result.input ≡ input) × (result.output ≡ output) }
-    ensures line { PutsLine E.Sink (E.fault_count errors) result.status errors result.errors }
+    ensures line { PutsLine E.Sink (E.fault_count errors) result.status [] errors result.errors }
 {
     let mut errors = errors;
     let before = errors.faults();
@@ -86,7 +89,7 @@ pub fn refuse<S, K, E: Sink>(
     }
 }
 
-/// Runs a script after a schedule.
+/// Runs a script after a schedule, or holds a debugging session over that run.
 fn replay<F: Files, S: Source, K: Sink, E: Sink>(
     alloc: Global,
     asked: &Replay<'_>,
@@ -98,13 +101,41 @@ fn replay<F: Files, S: Source, K: Sink, E: Sink>(
     ensures { AnswersTo F.Files S.Source K.Sink E.Sink (words_asked.replay (replay_as_text asked.now))
         files.old files.new (record { input = input; output = output; errors = errors }) result }
 {
+    match &asked.report {
+        Report::Debug(file) => debug(alloc, asked, file, files, input, output, errors),
+        Report::None | Report::Waits | Report::Races => {
+            run_replay(alloc, asked, files, input, output, errors)
+        }
+    }
+}
+
+/// Runs a script after a schedule.
+fn run_replay<F: Files, S: Source, K: Sink, E: Sink>(
+    alloc: Global,
+    asked: &Replay<'_>,
+    files: &mut F,
+    input: S,
+    output: K,
+    errors: E,
+) -> Ended<S, K, E>
+    requires run { IsNoSession (report_as_text asked.now.report) }
+    ensures { AnswersTo F.Files S.Source K.Sink E.Sink (words_asked.replay (replay_as_text asked.now))
+        files.old files.new (record { input = input; output = output; errors = errors }) result }
+{
     let before = errors.faults();
     match prepare_replay(alloc, asked, files) {
         Err(why) => refuse(alloc, why, input, output, errors),
         Ok(prepared) => {
-            let course = Course::After(prepared.given);
-            let finish = run_course(alloc, prepared.setup, &course, input, output, errors);
-            close(alloc, None, files, before, finish)
+            let reported = run_reported(
+                alloc,
+                prepared.setup,
+                prepared.given,
+                &asked.report,
+                input,
+                output,
+                errors,
+            );
+            close_reported(before, reported)
         }
     }
 }

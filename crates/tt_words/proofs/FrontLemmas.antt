@@ -1,8 +1,10 @@
 -- What words begin with is one thing.
-use Rattle.std.proofs.Common.{◌≡◌, ◌≢◌, ◌==◌, ℕ, true, List, [], ◌∷◌, ◌++◌, bytes_eq, Option, Some, None, if◌then◌else◌, refl, sym, ap, ◌∙◌}
-use Rattle.tt_words.specs.Splitting.{BeginsWith, next, same_word, Given, is_dashed, mark, name_of}
+use Rattle.std.proofs.Common.{◌≡◌, ◌≢◌, ◌==◌, ℕ, true, false, List, [], ◌∷◌, ◌++◌, bytes_eq, Option, Some, None, if◌then◌else◌, refl, sym, ap, ◌∙◌}
+use Rattle.tt_words.specs.Splitting.{BeginsWith, next, same_word, flag, Given, is_dashed, mark, name_of, takes_value}
+use Rattle.tt_words.specs.inside.Program.{bare}
 use Rattle.tt_words.specs.declared.setting.Setting.{Setting}
-use Rattle.tt_words.specs.declared.setting.Setting.TheVariants.{Workers, Steps, Limit, Record, Replay, Generate}
+use Rattle.tt_words.specs.declared.setting.Setting.TheVariants.{Workers, Steps, Limit, Record, Replay}
+use Rattle.tt_words.specs.declared.setting.Setting.TheVariants.{Generate, Waits, Races, Debug}
 
 -- ---- the option that a word names
 
@@ -14,7 +16,10 @@ known name =
     (if bytes_eq name (name_of Limit) then Some Limit else
     (if bytes_eq name (name_of Record) then Some Record else
     (if bytes_eq name (name_of Replay) then Some Replay else
-    (if bytes_eq name (name_of Generate) then Some Generate else None)))))
+    (if bytes_eq name (name_of Generate) then Some Generate else
+    (if bytes_eq name (name_of Waits) then Some Waits else
+    (if bytes_eq name (name_of Races) then Some Races else
+    (if bytes_eq name (name_of Debug) then Some Debug else None))))))))
 
 -- what stands before the first `=`, and what stands after it
 abbrev pub before_sign : List ℕ → List ℕ
@@ -37,6 +42,9 @@ told_name Limit = refl
 told_name Record = refl
 told_name Replay = refl
 told_name Generate = refl
+told_name Waits = refl
+told_name Races = refl
+told_name Debug = refl
 
 pub told_joined : (setting : Setting) (value : List ℕ) → told (name_of setting ++ (61 ∷ value)) ≡ (Some setting, Some value)
 unfolding told
@@ -46,10 +54,25 @@ told_joined Limit value = refl
 told_joined Record value = refl
 told_joined Replay value = refl
 told_joined Generate value = refl
+told_joined Waits value = refl
+told_joined Races value = refl
+told_joined Debug value = refl
 
 pub told_mark : told mark ≡ (None, None)
 unfolding told
 told_mark = refl
+
+-- a name is the bare one after two dashes
+pub name_is : (setting : Setting) → name_of setting ≡ 45 ∷ 45 ∷ bare setting
+name_is Workers = refl
+name_is Steps = refl
+name_is Limit = refl
+name_is Record = refl
+name_is Replay = refl
+name_is Generate = refl
+name_is Waits = refl
+name_is Races = refl
+name_is Debug = refl
 
 -- an option's word is dashed
 pub dashed_name : (setting : Setting) → is_dashed (name_of setting) ≡ true
@@ -59,6 +82,9 @@ dashed_name Limit = refl
 dashed_name Record = refl
 dashed_name Replay = refl
 dashed_name Generate = refl
+dashed_name Waits = refl
+dashed_name Races = refl
+dashed_name Debug = refl
 
 pub dashed_joined : (setting : Setting) (value : List ℕ) → is_dashed (name_of setting ++ (61 ∷ value)) ≡ true
 dashed_joined Workers value = refl
@@ -67,6 +93,9 @@ dashed_joined Limit value = refl
 dashed_joined Record value = refl
 dashed_joined Replay value = refl
 dashed_joined Generate value = refl
+dashed_joined Waits value = refl
+dashed_joined Races value = refl
+dashed_joined Debug value = refl
 
 -- ---- inequalities between words
 
@@ -115,25 +144,36 @@ FirstIs P (word ∷ rest) = P word
 -- words that begin with an option begin with a dashed word that is no mark
 pub front_dashed : {words rest : List (List ℕ)} {given : Given} →
     BeginsWith words given rest → FirstIs (λ word. is_dashed word ≡ true) words
-front_dashed (next setting e plain) = ap is_dashed e ∙ dashed_name setting
-front_dashed (same_word setting {word} {value} e) = ap is_dashed e ∙ dashed_joined setting value
+front_dashed (next setting takes e plain) = ap is_dashed e ∙ dashed_name setting
+front_dashed (same_word setting {word} {value} takes e) = ap is_dashed e ∙ dashed_joined setting value
+front_dashed (flag setting takes e) = ap is_dashed e ∙ dashed_name setting
 
 pub front_no_mark : {words rest : List (List ℕ)} {given : Given} →
     BeginsWith words given rest → FirstIs (λ word. word ≢ mark) words
-front_no_mark (next setting e plain) = λ m. mark_no_name setting (sym m ∙ e)
-front_no_mark (same_word setting {word} {value} e) = λ m. mark_not_joined setting value (sym m ∙ e)
+front_no_mark (next setting takes e plain) = λ m. mark_no_name setting (sym m ∙ e)
+front_no_mark (same_word setting {word} {value} takes e) = λ m. mark_not_joined setting value (sym m ∙ e)
+front_no_mark (flag setting takes e) = λ m. mark_no_name setting (sym m ∙ e)
 
 -- an option with its value
 abbrev pub giving : Setting → List ℕ → Given
 giving setting value = record { setting = setting; value = value }
 
+-- one that takes a value is no flag
+one_takes : (one other : Setting) → one ≡ other → takes_value one ≡ true → takes_value other ≡ false → ⊥
+one_takes one other same takes none = let e : true ≡ false = sym takes ∙ (ap takes_value same ∙ none) in cc
+
 -- words begin with one option at most
 pub one_front : {words rest second : List (List ℕ)} {given other : Given} →
     BeginsWith words given rest → BeginsWith words other second → (given ≡ other) × (rest ≡ second)
-one_front (next s {name} {value} e plain) (next t f flat) =
+one_front (next s {name} {value} a e plain) (next t b f flat) =
     (ap (λ (of : Setting). giving of value) (one_name s t (sym e ∙ f)), refl)
-one_front (next s e plain) (same_word t {word} {value} f) = absurd (name_not_joined s t value (sym e ∙ f))
-one_front (same_word s {word} {value} e) (next t f flat) = absurd (name_not_joined t s value (sym f ∙ e))
-one_front (same_word s {word} {value} e) (same_word t {word = same} {value = second} f) =
+one_front (next s a e plain) (same_word t {word} {value} b f) = absurd (name_not_joined s t value (sym e ∙ f))
+one_front (next s a e plain) (flag t b f) = absurd (one_takes s t (one_name s t (sym e ∙ f)) a b)
+one_front (same_word s {word} {value} a e) (next t b f flat) = absurd (name_not_joined t s value (sym f ∙ e))
+one_front (same_word s {word} {value} a e) (same_word t {word = same} {value = second} b f) =
     let parts = one_joined s t value second (sym e ∙ f) in
     (ap (λ (of : Setting). giving of value) parts.0 ∙ ap (giving t) parts.1, refl)
+one_front (same_word s {word} {value} a e) (flag t b f) = absurd (name_not_joined t s value (sym f ∙ e))
+one_front (flag s a e) (next t b f flat) = absurd (one_takes t s (one_name t s (sym f ∙ e)) b a)
+one_front (flag s a e) (same_word t {word} {value} b f) = absurd (name_not_joined s t value (sym e ∙ f))
+one_front (flag s a e) (flag t b f) = (ap (λ (of : Setting). giving of []) (one_name s t (sym e ∙ f)), refl)

@@ -6,9 +6,11 @@ use Rattle.std.specs.Str.{IsUtf8, chars, encode_utf8_all}
 use Rattle.std.proofs.lemmas.Str.{chars_past_char, encodes-chars}
 use Rattle.clap.specs.Lexer.{long_of, short_of}
 use Rattle.clap.specs.Walk.{Text, arg_by_long}
-use Rattle.tt_words.specs.Splitting.{is_dashed, mark, name_of}
+use Rattle.tt_words.specs.Splitting.{is_dashed, mark, name_of, takes_value}
 use Rattle.tt_words.specs.declared.setting.Setting.{Setting}
-use Rattle.tt_words.specs.declared.setting.Setting.TheVariants.{Workers, Steps, Limit, Record, Replay, Generate}
+use Rattle.tt_words.specs.declared.setting.Setting.TheVariants.{Workers, Steps, Limit, Record, Replay}
+use Rattle.tt_words.specs.declared.setting.Setting.TheVariants.{Generate, Waits, Races, Debug}
+use Rattle.tt_words.proofs.FrontLemmas.{name_is}
 use Rattle.tt_words.proofs.RowLemmas.{same_text}
 use Rattle.tt_words.specs.inside.Program.{bare}
 use Rattle.tt_words.proofs.RuleLemmas.{by_no_long, top}
@@ -58,38 +60,33 @@ pub data Naming : Text → Type 0 where
   named : (setting : Setting) {name : Text} → name ≡ bare setting → Naming name
   unnamed : {name : Text} → ((setting : Setting) → bytes_eq (bare setting) name ≡ false) → Naming name
 
-name_is : (setting : Setting) → name_of setting ≡ 45 ∷ 45 ∷ bare setting
-name_is Workers = refl
-name_is Steps = refl
-name_is Limit = refl
-name_is Record = refl
-name_is Replay = refl
-name_is Generate = refl
-
 none_named : (name : Text) →
     bytes_eq (bare Workers) name ≡ false → bytes_eq (bare Steps) name ≡ false → bytes_eq (bare Limit) name ≡ false →
     bytes_eq (bare Record) name ≡ false → bytes_eq (bare Replay) name ≡ false → bytes_eq (bare Generate) name ≡ false →
+    bytes_eq (bare Waits) name ≡ false → bytes_eq (bare Races) name ≡ false → bytes_eq (bare Debug) name ≡ false →
     (setting : Setting) → bytes_eq (bare setting) name ≡ false
-none_named name a b c d e f Workers = a
-none_named name a b c d e f Steps = b
-none_named name a b c d e f Limit = c
-none_named name a b c d e f Record = d
-none_named name a b c d e f Replay = e
-none_named name a b c d e f Generate = f
+none_named name a b c d e f g h i Workers = a
+none_named name a b c d e f g h i Steps = b
+none_named name a b c d e f g h i Limit = c
+none_named name a b c d e f g h i Record = d
+none_named name a b c d e f g h i Replay = e
+none_named name a b c d e f g h i Generate = f
+none_named name a b c d e f g h i Waits = g
+none_named name a b c d e f g h i Races = h
+none_named name a b c d e f g h i Debug = i
 
-by_tests : (name : Text) (a b c d e f : Bool) →
-    bytes_eq (bare Workers) name ≡ a → bytes_eq (bare Steps) name ≡ b → bytes_eq (bare Limit) name ≡ c →
-    bytes_eq (bare Record) name ≡ d → bytes_eq (bare Replay) name ≡ e → bytes_eq (bare Generate) name ≡ f → Naming name
-by_tests name true b c d e f p q r s t u = named Workers (sym (same_text (bare Workers) name p))
-by_tests name false true c d e f p q r s t u = named Steps (sym (same_text (bare Steps) name q))
-by_tests name false false true d e f p q r s t u = named Limit (sym (same_text (bare Limit) name r))
-by_tests name false false false true e f p q r s t u = named Record (sym (same_text (bare Record) name s))
-by_tests name false false false false true f p q r s t u = named Replay (sym (same_text (bare Replay) name t))
-by_tests name false false false false false true p q r s t u = named Generate (sym (same_text (bare Generate) name u))
-by_tests name false false false false false false p q r s t u = unnamed (none_named name p q r s t u)
+-- a text is the name of this option, or another's
+named_or : (setting : Setting) (name : Text) (is : Bool) → bytes_eq (bare setting) name ≡ is →
+    (bytes_eq (bare setting) name ≡ false → Naming name) → Naming name
+named_or setting name true e others = named setting (sym (same_text (bare setting) name e))
+named_or setting name false e others = others e
 
 naming : (name : Text) → Naming name
-naming name = by_tests name _ _ _ _ _ _ refl refl refl refl refl refl
+naming name =
+    named_or Workers name _ refl (λ a. named_or Steps name _ refl (λ b. named_or Limit name _ refl (λ c.
+    named_or Record name _ refl (λ d. named_or Replay name _ refl (λ e. named_or Generate name _ refl (λ f.
+    named_or Waits name _ refl (λ g. named_or Races name _ refl (λ h. named_or Debug name _ refl (λ i.
+    unnamed (none_named name a b c d e f g h i))))))))))
 
 -- ---- characters
 
@@ -120,23 +117,38 @@ has_char next rest utf8 =
 pub data Kind (word : Text) : Type 0 where
   plain : is_dashed word ≡ false → Kind word
   is_mark : word ≡ mark → Kind word
-  option_name : (setting : Setting) → word ≡ name_of setting → Kind word
-  option_value : (setting : Setting) (value : Text) → word ≡ name_of setting ++ (61 ∷ value) → Kind word
+  option_name : (setting : Setting) → takes_value setting ≡ true → word ≡ name_of setting → Kind word
+  option_value : (setting : Setting) (value : Text) → takes_value setting ≡ true →
+      word ≡ name_of setting ++ (61 ∷ value) → Kind word
+  flag_name : (setting : Setting) → takes_value setting ≡ false → word ≡ name_of setting → Kind word
+  flag_value : (setting : Setting) (value : Text) → takes_value setting ≡ false →
+      word ≡ name_of setting ++ (61 ∷ value) → Kind word
   unknown_long : (name : Text) (value : Option Text) → bytes_eq word (45 ∷ 45 ∷ []) ≡ false →
       long_of word ≡ Some (name, value) → arg_by_long top.rules name ≡ None → Kind word
   unknown_short : (flag : ℕ) (flags : Text) → bytes_eq word (45 ∷ 45 ∷ []) ≡ false →
       long_of word ≡ None → short_of word ≡ Some (flag ∷ flags) → HasChar (flag ∷ flags) → Kind word
 
+-- the name of an option or a flag
+name_kind : (word : Text) (setting : Setting) (takes : Bool) → takes_value setting ≡ takes → word ≡ name_of setting → Kind word
+name_kind word setting true takes is = option_name setting takes is
+name_kind word setting false takes is = flag_name setting takes is
+
+value_kind : (word : Text) (setting : Setting) (value : Text) (takes : Bool) → takes_value setting ≡ takes →
+    word ≡ name_of setting ++ (61 ∷ value) → Kind word
+value_kind word setting value true takes is = option_value setting value takes is
+value_kind word setting value false takes is = flag_value setting value takes is
+
 -- after two dashes
 long_sign : (x : ℕ) (xs : Text) (sign : Bool) → list_any (λ b. b == 61) (x ∷ xs) ≡ sign →
     Naming (before_first (λ b. b == 61) (x ∷ xs)) → Kind (45 ∷ 45 ∷ x ∷ xs)
 long_sign x xs true has (named setting is) =
-    option_value setting (after_first (λ b. b == 61) (x ∷ xs))
+    value_kind (45 ∷ 45 ∷ x ∷ xs) setting (after_first (λ b. b == 61) (x ∷ xs)) (takes_value setting) refl
     (ap (λ (t : Text). 45 ∷ 45 ∷ t) (split_at (x ∷ xs) has
     ∙ ap (λ (t : Text). t ++ (61 ∷ after_first (λ b. b == 61) (x ∷ xs))) is)
     ∙ ap (λ (t : Text). t ++ (61 ∷ after_first (λ b. b == 61) (x ∷ xs))) (sym (name_is setting)))
 long_sign x xs false has (named setting is) =
-    option_name setting (ap (λ (t : Text). 45 ∷ 45 ∷ t) (sym (whole (x ∷ xs) has) ∙ is) ∙ sym (name_is setting))
+    name_kind (45 ∷ 45 ∷ x ∷ xs) setting (takes_value setting) refl
+    (ap (λ (t : Text). 45 ∷ 45 ∷ t) (sym (whole (x ∷ xs) has) ∙ is) ∙ sym (name_is setting))
 long_sign x xs sign has (unnamed other) =
     unknown_long (before_first (λ b. b == 61) (x ∷ xs)) _ refl refl (by_no_long (before_first (λ b. b == 61) (x ∷ xs)) other)
 

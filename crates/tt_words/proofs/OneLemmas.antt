@@ -1,7 +1,7 @@
 -- Options and ordinary words ask for one thing at most.
-use Rattle.std.proofs.Common.{◌≡◌, ℕ, List, [], ◌∷◌, Option, Some, None, refl, sym, ap, ◌∙◌, subst}
+use Rattle.std.proofs.Common.{◌≡◌, ℕ, Bool, true, false, List, [], ◌∷◌, Option, Some, None, refl, sym, ap, ◌∙◌, subst}
 use Rattle.tt_words.specs.Asked.{Asked, plain, replay, generate, Plain, Replay, Generate, PartsAskFor, HasFile}
-use Rattle.tt_words.specs.Asked.{HasNumber, IsPlain, IsReplay, IsGenerate, WordsAskFor, Values, WritesWithin}
+use Rattle.tt_words.specs.Asked.{Report, HasReport, HasNumber, IsPlain, IsReplay, IsGenerate, WordsAskFor, Values, WritesWithin}
 use Rattle.tt_words.proofs.ReadingLemmas.{asks_of}
 
 -- ---- numbers, files and scripts
@@ -22,6 +22,17 @@ one_file None (Some name) other a b = absurd a
 one_file (Some value) None other a b = absurd a
 one_file (Some value) (Some name) None a b = absurd b
 one_file (Some value) (Some name) (Some second) a b = ap (λ (n : List ℕ). Some n) (a.0 ∙ sym b.0)
+
+one_report : (waits races : Bool) (debug : Option (List ℕ)) (one other : Report) →
+    HasReport waits races debug one → HasReport waits races debug other → one ≡ other
+one_report false false None one other a b = a ∙ sym b
+one_report false false (Some file) one other a b = a.0 ∙ sym b.0
+one_report true false None one other a b = a ∙ sym b
+one_report true false (Some file) one other a b = absurd a
+one_report false true None one other a b = a ∙ sym b
+one_report false true (Some file) one other a b = absurd a
+one_report true true None one other a b = absurd a
+one_report true true (Some file) one other a b = absurd a
 
 same_some : (one other : List ℕ) → Some one ≡ Some other → one ≡ other
 same_some one other e = cc
@@ -46,10 +57,11 @@ same_plain : (s s' : List ℕ) (a a' : List (List ℕ)) (w w' n n' l l' : ℕ) (
     ≡ plain (record { script = s'; arguments = a'; workers = w'; steps = n'; limit = l'; kept = k' })
 same_plain s s' a a' w w' n n' l l' k k' p q r t u v = rw (p, q, r, t, u, v) refl
 
-same_replay : (f f' s s' : List ℕ) (a a' : List (List ℕ)) (l l' : ℕ) → f ≡ f' → s ≡ s' → a ≡ a' → l ≡ l' →
-    replay (record { schedule = f; script = s; arguments = a; limit = l })
-    ≡ replay (record { schedule = f'; script = s'; arguments = a'; limit = l' })
-same_replay f f' s s' a a' l l' p q r t = rw (p, q, r, t) refl
+same_replay : (f f' s s' : List ℕ) (a a' : List (List ℕ)) (l l' : ℕ) (w w' : Report) →
+    f ≡ f' → s ≡ s' → a ≡ a' → l ≡ l' → w ≡ w' →
+    replay (record { schedule = f; script = s; arguments = a; limit = l; report = w })
+    ≡ replay (record { schedule = f'; script = s'; arguments = a'; limit = l'; report = w' })
+same_replay f f' s s' a a' l l' w w' p q r t u = rw (p, q, r, t, u) refl
 
 same_generate : (s s' : List ℕ) (m m' z z' n n' l l' : ℕ) (k k' : Option (List ℕ)) →
     s ≡ s' → m ≡ m' → z ≡ z' → n ≡ n' → l ≡ l' → k ≡ k' →
@@ -75,11 +87,13 @@ one_replay : (values : Values) (ordinary : List (List ℕ)) (one other : Replay)
 one_replay values ordinary one other a b =
     let words = sym a.script.words ∙ b.script.words in
     same_replay one.schedule other.schedule one.script other.script one.arguments other.arguments one.limit other.limit
+    one.report other.report
     (same_some one.schedule other.schedule
     (one_file values.replay (Some one.schedule) (Some other.schedule) a.schedule b.schedule))
     (same_first one.script other.script one.arguments other.arguments words)
     (same_rest one.script other.script one.arguments other.arguments words)
     (one_number 1 4611686018427387904 4611686018427387904 values.limit one.limit other.limit a.limit b.limit)
+    (one_report values.waits values.races values.debug one.report other.report a.report b.report)
 
 one_generate : (values : Values) (ordinary : List (List ℕ)) (one other : Generate) →
     IsGenerate values ordinary one → IsGenerate values ordinary other → generate one ≡ generate other

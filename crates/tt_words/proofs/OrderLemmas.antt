@@ -2,9 +2,10 @@
 use Rattle.std.proofs.Common.{◌≡◌, ◌≤◌, ℕ, Bool, true, false, List, ◌∷◌, ◌++◌, length, bytes_eq, if◌then◌else◌, refl, sym, ap, ◌∙◌, subst, arith}
 use Rattle.tt_words.specs.Asked.{Asked, PartsAskFor, WordsAskFor, Values, values_in, values_of}
 use Rattle.tt_words.specs.WordLaws.{AreWhole, IsOption, none, ordinary as whole_word, option as whole_option}
-use Rattle.tt_words.specs.Splitting.{BeginsWith, next, same_word, Given, Splits, ordinary, option, is_dashed, name_of}
+use Rattle.tt_words.specs.Splitting.{BeginsWith, next, same_word, flag, Given, Splits, ordinary, option, is_dashed, name_of}
 use Rattle.tt_words.specs.declared.setting.Setting.{Setting}
-use Rattle.tt_words.specs.declared.setting.Setting.TheVariants.{Workers, Steps, Limit, Record, Replay, Generate}
+use Rattle.tt_words.specs.declared.setting.Setting.TheVariants.{Workers, Steps, Limit, Record, Replay}
+use Rattle.tt_words.specs.declared.setting.Setting.TheVariants.{Generate, Waits, Races, Debug}
 use Rattle.tt_words.proofs.SplitLemmas.{only_option, only_word}
 
 -- ---- options in another order
@@ -56,8 +57,9 @@ Moves all other = (options : List Given) (words : List (List ℕ)) → Splits al
 -- more words after an option and its value
 pub front_more : {words rest : List (List ℕ)} {given : Given} (more : List (List ℕ)) →
     BeginsWith words given rest → BeginsWith (words ++ more) given (rest ++ more)
-front_more more (next setting e plain) = next setting e plain
-front_more more (same_word setting e) = same_word setting e
+front_more more (next setting takes e plain) = next setting takes e plain
+front_more more (same_word setting takes e) = same_word setting takes e
+front_more more (flag setting takes e) = flag setting takes e
 
 with_word : (word : List ℕ) (rest : List (List ℕ)) (options : List Given) (words left : List (List ℕ)) →
     is_dashed word ≡ false → words ≡ word ∷ left → MovesTo rest options left → MovesTo (word ∷ rest) options words
@@ -138,7 +140,17 @@ few_moved values others e few = rw e few
 same_values : (options others : List Given) → ((setting : Setting) → values_of setting others ≡ values_of setting options) →
     values_in options ≡ values_in others
 same_values options others same =
-    rw (same Workers, same Steps, same Limit, same Record, same Replay, same Generate) refl
+    rw (
+      same Workers,
+      same Steps,
+      same Limit,
+      same Record,
+      same Replay,
+      same Generate,
+      same Waits,
+      same Races,
+      same Debug,
+    ) refl
 
 -- words ask for the same
 pub reads_moved : (all other : List (List ℕ)) (asked : Asked) → Moves all other → WordsAskFor all asked → WordsAskFor other asked

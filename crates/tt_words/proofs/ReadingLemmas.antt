@@ -4,7 +4,8 @@ use Rattle.std.specs.Option.{option_map}
 use Rattle.tt_words.specs.Asked.{Asked, PartsAskFor, IsReading, WordsAskFor, values_in, values_of}
 use Rattle.clap.specs.declared.parser.matches.ArgMatches.{ArgMatches}
 use Rattle.tt_words.specs.inside.Program.{bare}
-use Rattle.tt_words.specs.declared.setting.Setting.TheVariants.{Workers, Steps, Limit, Record, Replay, Generate}
+use Rattle.tt_words.specs.declared.setting.Setting.TheVariants.{Workers, Steps, Limit, Record, Replay}
+use Rattle.tt_words.specs.declared.setting.Setting.TheVariants.{Generate, Waits, Races, Debug}
 use Rattle.tt_words.specs.Splitting.{Given, Splits}
 use Rattle.tt_words.specs.CodeValues.{asked_as_text}
 use Rattle.tt_words.specs.inside.Matches.{HasParts, IsOnceBy, given_in, values_by}
@@ -68,6 +69,9 @@ values_are words matches parts =
       parts.of_options Record,
       parts.of_options Replay,
       parts.of_options Generate,
+      parts.of_options Waits,
+      parts.of_options Races,
+      parts.of_options Debug,
     ) refl
 
 pub once_is : (words : List (List ℕ)) (matches : ArgMatches) (parts : HasParts words matches) →

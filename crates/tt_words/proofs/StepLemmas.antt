@@ -12,7 +12,7 @@ use Rattle.clap.specs.declared.parser.matches.ValueSource.TheVariants.{CommandLi
 use Rattle.tt_words.specs.Splitting.{is_dashed, mark}
 use Rattle.tt_words.proofs.RowLemmas.{same_test, same_text}
 use Rattle.tt_words.specs.inside.Program.{words_name}
-use Rattle.tt_words.proofs.RuleLemmas.{TakesOne, by_index, by_no_short, top, words_several, words_take, words_trailing}
+use Rattle.tt_words.proofs.RuleLemmas.{TakesNone, TakesOne, by_index, by_no_short, top, words_several, words_take, words_trailing}
 
 -- ---- small facts
 
@@ -63,6 +63,14 @@ use_is_right again rule id value rows one = rw (one.range, one.most, one.action,
 pub use_lacks : (again : Bool) (rule : Rule) (id : Text) (rows : List Row) → TakesOne rule id →
     use_fault again rule [] rows ≡ kind.InvalidValue ∷ []
 use_lacks again rule id rows one = rw one.range refl
+
+pub flag_used_is : (rule : Rule) (id : Text) (rows : List Row) → TakesNone rule id →
+    used rule [] rows ≡ with_values id reading.AsWritten CommandLine ([] ∷ []) rows
+flag_used_is rule id rows none = rw (none.missing, none.action, none.named, none.reading) refl
+
+flag_use_is_right : (again : Bool) (rule : Rule) (id : Text) (rows : List Row) → TakesNone rule id →
+    use_fault again rule [] rows ≡ []
+flag_use_is_right again rule id rows none = rw (none.range, none.most, none.missing, none.action, none.parser) refl
 
 -- ---- where the walk stands between two words
 
@@ -178,6 +186,39 @@ module _ (rows : List Row) (pending : Option (Text × List Text)) (word id : Tex
   joined_refused value idle k more is wrong = rw (no_mark, is, found, one.takes, wrong) refl
   joined_refused value (option other) k more is wrong = rw (no_mark, is, found, one.takes, wrong) refl
   joined_refused value positional k more is wrong = rw (no_mark, is, found, one.takes, wrong) refl
+
+-- ---- flags
+
+module _ (rows : List Row) (pending : Option (Text × List Text)) (word id : Text) (rule : Rule)
+    (no_mark : bytes_eq word (45 ∷ 45 ∷ []) ≡ false) (found : arg_by_long top.rules id ≡ Some rule) (none : TakesNone rule id) where
+  pub flag_walked : (waiting : Waiting) → long_of word ≡ Some (id, None) →
+      walked top.rules [] (at rows pending waiting false) word ≡ at (used rule [] (with_pending rows pending)) None idle false
+  unfolding walked
+  flag_walked idle is = rw (no_mark, is, found, none.takes) refl
+  flag_walked (option other) is = rw (no_mark, is, found, none.takes) refl
+  flag_walked positional is = rw (no_mark, is, found, none.takes) refl
+
+  pub flag_fault : (waiting : Waiting) → long_of word ≡ Some (id, None) → pending_fault rows pending ≡ [] →
+      turn_fault top [] (at rows pending waiting false) word ≡ []
+  flag_fault idle is fine =
+      rw (no_mark, is, found, none.takes, fine, flag_use_is_right top.args_override_self rule id (with_pending rows pending) none) refl
+  flag_fault (option other) is fine =
+      rw (no_mark, is, found, none.takes, fine, flag_use_is_right top.args_override_self rule id (with_pending rows pending) none) refl
+  flag_fault positional is fine =
+      rw (no_mark, is, found, none.takes, fine, flag_use_is_right top.args_override_self rule id (with_pending rows pending) none) refl
+
+  pub flag_refused : (waiting : Waiting) (k : ErrorKind) (more : Kinds) → long_of word ≡ Some (id, None) →
+      pending_fault rows pending ≡ k ∷ more → turn_fault top [] (at rows pending waiting false) word ≡ k ∷ more
+  flag_refused idle k more is wrong = rw (no_mark, is, found, none.takes, wrong) refl
+  flag_refused (option other) k more is wrong = rw (no_mark, is, found, none.takes, wrong) refl
+  flag_refused positional k more is wrong = rw (no_mark, is, found, none.takes, wrong) refl
+
+  -- a flag takes no value
+  pub value_refused : (value : Text) (waiting : Waiting) → long_of word ≡ Some (id, Some value) →
+      turn_fault top [] (at rows pending waiting false) word ≡ kind.TooManyValues ∷ []
+  value_refused value idle is = rw (no_mark, is, found, none.takes) refl
+  value_refused value (option other) is = rw (no_mark, is, found, none.takes) refl
+  value_refused value positional is = rw (no_mark, is, found, none.takes) refl
 
 -- ---- words that name nothing
 

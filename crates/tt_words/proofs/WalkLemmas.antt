@@ -10,17 +10,19 @@ use Rattle.clap.specs.declared.builder.value_parser.Reading.TheVariants as readi
 use Rattle.clap.specs.declared.error.kind.ErrorKind.TheVariants as kind
 use Rattle.clap.specs.declared.parser.matches.ValueSource.TheVariants.{CommandLine}
 use Rattle.tt_words.specs.Asked.{values_of}
-use Rattle.tt_words.specs.Splitting.{next, same_word, Given, Splits, nothing, end_mark, ordinary, option as given_option, mark, name_of}
+use Rattle.tt_words.specs.Splitting.{next, same_word, flag, Given, Splits, nothing, end_mark, ordinary, option as given_option, mark, name_of, takes_value}
 use Rattle.tt_words.specs.declared.setting.Setting.{Setting}
-use Rattle.tt_words.specs.declared.setting.Setting.TheVariants.{Workers, Steps, Limit, Record, Replay, Generate}
-use Rattle.tt_words.proofs.FrontLemmas.{mark_no_name, mark_not_joined}
+use Rattle.tt_words.specs.declared.setting.Setting.TheVariants.{Workers, Steps, Limit, Record, Replay}
+use Rattle.tt_words.specs.declared.setting.Setting.TheVariants.{Generate, Waits, Races, Debug}
+use Rattle.tt_words.proofs.FrontLemmas.{mark_no_name, mark_not_joined, name_is, one_name}
 use Rattle.tt_words.proofs.RowLemmas.{same_text, values_at, values_more, values_same}
 use Rattle.tt_words.specs.inside.Program.{bare, words_name}
-use Rattle.tt_words.proofs.RuleLemmas.{TakesOne, by_id, by_long, by_words, long_joined, long_name, option_of, option_takes, top, words, words_take}
+use Rattle.tt_words.proofs.RuleLemmas.{TakesOne, by_id, by_long, by_words, flag_by_long, flag_of, flag_takes}
+use Rattle.tt_words.proofs.RuleLemmas.{long_joined, long_name, option_of, option_takes, top, words, words_take}
 use Rattle.tt_words.proofs.StepLemmas.{IsFree, at, joined_walked, mark_fault, mark_walked, named_fault, named_walked}
 use Rattle.tt_words.proofs.StepLemmas.{pending_fault, plain_fault, plain_walked, trailing_fault, trailing_walked}
 use Rattle.tt_words.proofs.StepLemmas.{use_is_right, use_lacks, used_is, value_fault, value_walked, with_pending}
-use Rattle.tt_words.proofs.StepLemmas.{joined_fault}
+use Rattle.tt_words.proofs.StepLemmas.{flag_fault, flag_used_is, flag_walked, joined_fault}
 
 -- ---- the whole walk
 
@@ -81,6 +83,9 @@ differ Limit = refl
 differ Record = refl
 differ Replay = refl
 differ Generate = refl
+differ Waits = refl
+differ Races = refl
+differ Debug = refl
 
 differ_back : (setting : Setting) → bytes_eq words_name (bare setting) ≡ false
 differ_back Workers = refl
@@ -89,6 +94,9 @@ differ_back Limit = refl
 differ_back Record = refl
 differ_back Replay = refl
 differ_back Generate = refl
+differ_back Waits = refl
+differ_back Races = refl
+differ_back Debug = refl
 
 -- what rows have of options and ordinary words
 pub record Grows (old new : List Row) (options : List Given) (more : List Text) : Type 0 where
@@ -120,60 +128,18 @@ pub data Compared : Setting → Setting → Type 0 where
       Compared one two
 
 compare : (one two : Setting) → Compared one two
-compare Workers two =
-    elim two as (λ t. Compared Workers t) [
-      | Workers ↦ same
-      | Steps ↦ other refl refl
-      | Limit ↦ other refl refl
-      | Record ↦ other refl refl
-      | Replay ↦ other refl refl
-      | Generate ↦ other refl refl
-    ]
-compare Steps two =
-    elim two as (λ t. Compared Steps t) [
-      | Workers ↦ other refl refl
-      | Steps ↦ same
-      | Limit ↦ other refl refl
-      | Record ↦ other refl refl
-      | Replay ↦ other refl refl
-      | Generate ↦ other refl refl
-    ]
-compare Limit two =
-    elim two as (λ t. Compared Limit t) [
-      | Workers ↦ other refl refl
-      | Steps ↦ other refl refl
-      | Limit ↦ same
-      | Record ↦ other refl refl
-      | Replay ↦ other refl refl
-      | Generate ↦ other refl refl
-    ]
-compare Record two =
-    elim two as (λ t. Compared Record t) [
-      | Workers ↦ other refl refl
-      | Steps ↦ other refl refl
-      | Limit ↦ other refl refl
-      | Record ↦ same
-      | Replay ↦ other refl refl
-      | Generate ↦ other refl refl
-    ]
-compare Replay two =
-    elim two as (λ t. Compared Replay t) [
-      | Workers ↦ other refl refl
-      | Steps ↦ other refl refl
-      | Limit ↦ other refl refl
-      | Record ↦ other refl refl
-      | Replay ↦ same
-      | Generate ↦ other refl refl
-    ]
-compare Generate two =
-    elim two as (λ t. Compared Generate t) [
-      | Workers ↦ other refl refl
-      | Steps ↦ other refl refl
-      | Limit ↦ other refl refl
-      | Record ↦ other refl refl
-      | Replay ↦ other refl refl
-      | Generate ↦ same
-    ]
+compare one two = by_names (bytes_eq (bare one) (bare two)) refl (bytes_eq (name_of two) (name_of one)) refl
+  where
+    same_bare : bare one ≡ bare two → one ≡ two
+    same_bare e = one_name one two (name_is one ∙ (ap (λ (t : Text). 45 ∷ 45 ∷ t) e ∙ sym (name_is two)))
+
+    by_names : (a : Bool) → bytes_eq (bare one) (bare two) ≡ a → (b : Bool) → bytes_eq (name_of two) (name_of one) ≡ b →
+        Compared one two
+    by_names true e b f =
+        subst (λ (t : Setting). Compared one t) (same_bare (same_text (bare one) (bare two) e)) same
+    by_names false e true f =
+        subst (λ (t : Setting). Compared one t) (sym (one_name two one (same_text (name_of two) (name_of one) f))) same
+    by_names false e false f = other e f
 
 own_name : (setting : Setting) → bytes_eq (name_of setting) (name_of setting) ≡ true
 own_name Workers = refl
@@ -182,6 +148,9 @@ own_name Limit = refl
 own_name Record = refl
 own_name Replay = refl
 own_name Generate = refl
+own_name Waits = refl
+own_name Races = refl
+own_name Debug = refl
 
 -- one option
 grows_option : (rows : List Row) (given : Given) →
@@ -296,11 +265,11 @@ grows_pending_word rows word =
     (grows_word rows word)
 
 -- an option is pending
-grows_pending_option : (rows : List Row) (setting : Setting) (value : Text) →
+grows_pending_option : (rows : List Row) (setting : Setting) (value : Text) → takes_value setting ≡ true →
     Grows rows (with_pending rows (Some (bare setting, value ∷ []))) (record { setting = setting; value = value } ∷ []) []
-grows_pending_option rows setting value =
+grows_pending_option rows setting value takes =
     subst (λ (new : List Row). Grows rows new (record { setting = setting; value = value } ∷ []) [])
-    (sym (with_pending_is rows (bare setting) value (option_of setting) (by_id setting) (option_takes setting)))
+    (sym (with_pending_is rows (bare setting) value (option_of setting) (by_id setting takes) (option_takes setting)))
     (grows_option rows (record { setting = setting; value = value }))
 
 -- after the mark
@@ -345,37 +314,52 @@ ends_split rows pending waiting all options more free fine (ordinary {word} {res
     (ends_split (with_pending rows pending) (Some (words_name, word ∷ [])) positional rest o w tt
     (pending_right (with_pending rows pending) words_name word words by_words words_take) after)
 ends_split rows pending waiting all options more free fine
-    (given_option {options = o} {words = w} (next setting {name} {value} {rest} is plain) after) =
+    (given_option {options = o} {words = w} (next setting {name} {value} {rest} takes is plain) after) =
     let no_mark = name_not_mark setting name is in
     let long : long_of name ≡ Some (bare setting, None) = ap long_of is ∙ long_name setting in
     let one = option_takes setting in
     let named : Reaches (at rows pending waiting false) (at (with_pending rows pending) (Some (bare setting, [])) (option (bare setting)) false)
     (name ∷ value ∷ rest) (value ∷ rest) =
     reach _ _ name (value ∷ rest)
-    (named_walked rows pending name (bare setting) (option_of setting) no_mark (by_long setting) one waiting long)
-    (named_fault rows pending name (bare setting) (option_of setting) no_mark (by_long setting) one waiting long ∙ fine) in
+    (named_walked rows pending name (bare setting) (option_of setting) no_mark (by_long setting takes) one waiting long)
+    (named_fault rows pending name (bare setting) (option_of setting) no_mark (by_long setting takes) one waiting long ∙ fine) in
     let valued : Reaches (at (with_pending rows pending) (Some (bare setting, [])) (option (bare setting)) false)
     (at (with_pending rows pending) (Some (bare setting, value ∷ [])) idle false) (value ∷ rest) rest =
     reach _ _ value rest
-    (value_walked (with_pending rows pending) value (bare setting) (option_of setting) plain (by_id setting) one)
-    (value_fault (with_pending rows pending) value (bare setting) (option_of setting) plain (by_id setting) one) in
+    (value_walked (with_pending rows pending) value (bare setting) (option_of setting) plain (by_id setting takes) one)
+    (value_fault (with_pending rows pending) value (bare setting) (option_of setting) plain (by_id setting takes) one) in
     ends_on rows (with_pending rows pending) pending (Some (bare setting, value ∷ [])) waiting idle false false
     (name ∷ value ∷ rest) rest (record { setting = setting; value = value } ∷ []) o [] w
     (reach_on _ _ _ (name ∷ value ∷ rest) (value ∷ rest) rest named valued)
-    (grows_pending_option (with_pending rows pending) setting value)
+    (grows_pending_option (with_pending rows pending) setting value takes)
     (ends_split (with_pending rows pending) (Some (bare setting, value ∷ [])) idle rest o w tt
-    (pending_right (with_pending rows pending) (bare setting) value (option_of setting) (by_id setting) one) after)
+    (pending_right (with_pending rows pending) (bare setting) value (option_of setting) (by_id setting takes) one) after)
 ends_split rows pending waiting all options more free fine
-    (given_option {options = o} {words = w} (same_word setting {word} {value} {rest} is) after) =
+    (given_option {options = o} {words = w} (same_word setting {word} {value} {rest} takes is) after) =
     let no_mark = joined_not_mark setting word value is in
     let long : long_of word ≡ Some (bare setting, Some value) = ap long_of is ∙ long_joined setting value in
     let one = option_takes setting in
     ends_on rows (used (option_of setting) (value ∷ []) (with_pending rows pending)) pending None waiting idle false false
     (word ∷ rest) rest (record { setting = setting; value = value } ∷ []) o [] w
     (reach _ _ word rest
-    (joined_walked rows pending word (bare setting) (option_of setting) no_mark (by_long setting) one value waiting long)
-    (joined_fault rows pending word (bare setting) (option_of setting) no_mark (by_long setting) one value waiting long fine))
+    (joined_walked rows pending word (bare setting) (option_of setting) no_mark (by_long setting takes) one value waiting long)
+    (joined_fault rows pending word (bare setting) (option_of setting) no_mark (by_long setting takes) one value waiting long fine))
     (subst (λ (new : List Row). Grows (with_pending rows pending) new (record { setting = setting; value = value } ∷ []) [])
     (sym (used_is (option_of setting) (bare setting) value (with_pending rows pending) one))
     (grows_option (with_pending rows pending) (record { setting = setting; value = value })))
     (ends_split (used (option_of setting) (value ∷ []) (with_pending rows pending)) None idle rest o w tt refl after)
+ends_split rows pending waiting all options more free fine
+    (given_option {options = o} {words = w} (flag setting {word} {rest} takes is) after) =
+    let no_mark = name_not_mark setting word is in
+    let long : long_of word ≡ Some (bare setting, None) = ap long_of is ∙ long_name setting in
+    let found = flag_by_long setting takes in
+    let none = flag_takes setting in
+    ends_on rows (used (flag_of setting) [] (with_pending rows pending)) pending None waiting idle false false
+    (word ∷ rest) rest (record { setting = setting; value = [] } ∷ []) o [] w
+    (reach _ _ word rest
+    (flag_walked rows pending word (bare setting) (flag_of setting) no_mark found none waiting long)
+    (flag_fault rows pending word (bare setting) (flag_of setting) no_mark found none waiting long fine))
+    (subst (λ (new : List Row). Grows (with_pending rows pending) new (record { setting = setting; value = [] } ∷ []) [])
+    (sym (flag_used_is (flag_of setting) (bare setting) (with_pending rows pending) none))
+    (grows_option (with_pending rows pending) (record { setting = setting; value = [] })))
+    (ends_split (used (flag_of setting) [] (with_pending rows pending)) None idle rest o w tt refl after)

@@ -1,6 +1,6 @@
 -- What a command line asks for, by its options and its ordinary words.
 use Rattle.std.specs.Prelude.{◌≡◌, ◌≢◌, ◌≤◌, ⊤, ℕ, List, [], ◌∷◌, length, IsTrue, bytes_eq, Option, Some, None}
-use Rattle.std.specs.Prelude.{if◌then◌else◌}
+use Rattle.std.specs.Prelude.{Bool, true, false, is_some, if◌then◌else◌}
 use Rattle.std.specs.Char.{is_ascii_digit}
 use Rattle.std.specs.List.{list_all}
 use Rattle.std.specs.Str.Parse.{digits_value}
@@ -19,12 +19,20 @@ pub record Plain : Type 0 where
   pub limit : ℕ
   pub kept : Option (List ℕ)
 
+-- what a replay reports of itself: nothing more, who waits for whom, which steps race, or what commands in a file ask
+pub data Report : Type 0 where
+  NoReport : Report
+  Waits : Report
+  Races : Report
+  Debug : (file : List ℕ) → Report
+
 -- a script with its arguments, after the schedule in a file
 pub record Replay : Type 0 where
   pub schedule : List ℕ
   pub script : List ℕ
   pub arguments : List (List ℕ)
   pub limit : ℕ
+  pub report : Report
 
 -- a script that is made of a number, of as many jobs as the word in its place says, its schedule kept in a file or not
 pub record Generate : Type 0 where
@@ -54,7 +62,7 @@ abbrev pub first : List (List ℕ) → Option (List ℕ)
 first [] = None
 first (value ∷ values) = Some value
 
--- what each option has
+-- what each option has, and whether each flag is given
 pub record Values : Type 0 where
   pub workers : Option (List ℕ)
   pub steps : Option (List ℕ)
@@ -62,6 +70,9 @@ pub record Values : Type 0 where
   pub kept : Option (List ℕ)
   pub replay : Option (List ℕ)
   pub generate : Option (List ℕ)
+  pub waits : Bool
+  pub races : Bool
+  pub debug : Option (List ℕ)
 
 abbrev pub values_in : List Given → Values
 values_in options = record {
@@ -71,6 +82,9 @@ values_in options = record {
   kept = first (values_of setting.Record options);
   replay = first (values_of setting.Replay options);
   generate = first (values_of setting.Generate options);
+  waits = is_some (first (values_of setting.Waits options));
+  races = is_some (first (values_of setting.Races options));
+  debug = first (values_of setting.Debug options);
 }
 
 -- ---- numbers and names
@@ -110,6 +124,14 @@ HasSteps = HasNumber 1 16777216 16777216
 abbrev pub HasLimit : Option (List ℕ) → ℕ → Type 0
 HasLimit = HasNumber 1 4611686018427387904 4611686018427387904
 
+-- what a replay reports, by the flags and the value of `--debug`, of which one at most is given
+abbrev pub HasReport : (waits races : Bool) → (debug : Option (List ℕ)) → Report → Type 0
+HasReport false false None report = report ≡ NoReport
+HasReport true false None report = report ≡ Waits
+HasReport false true None report = report ≡ Races
+HasReport false false (Some file) report = (report ≡ Debug file) × (file ≢ [])
+HasReport _ _ _ _ = ⊥
+
 -- ---- the three modes
 
 -- the first ordinary word is the script, and the rest are its arguments
@@ -125,12 +147,16 @@ pub record IsPlain (values : Values) (ordinary : List (List ℕ)) (plain : Plain
   pub kept : HasFile values.kept plain.kept
   pub no_replay : values.replay ≡ None
   pub no_generate : values.generate ≡ None
+  pub no_waits : values.waits ≡ false
+  pub no_races : values.races ≡ false
+  pub no_debug : values.debug ≡ None
 
--- `--replay` excludes each other option but `--limit`
+-- `--replay` excludes each other option but `--limit` and those of the report, which need it
 pub record IsReplay (values : Values) (ordinary : List (List ℕ)) (replay : Replay) : Type 0 where
   pub script : HasScript ordinary replay.script replay.arguments
   pub limit : HasLimit values.limit replay.limit
   pub schedule : HasFile values.replay (Some replay.schedule)
+  pub report : HasReport values.waits values.races values.debug replay.report
   pub no_workers : values.workers ≡ None
   pub no_steps : values.steps ≡ None
   pub no_kept : values.kept ≡ None
@@ -148,6 +174,9 @@ pub record IsGenerate (values : Values) (ordinary : List (List ℕ)) (generate :
   pub kept : HasFile values.kept generate.kept
   pub no_workers : values.workers ≡ None
   pub no_replay : values.replay ≡ None
+  pub no_waits : values.waits ≡ false
+  pub no_races : values.races ≡ false
+  pub no_debug : values.debug ≡ None
 
 -- what options and ordinary words ask for
 abbrev pub PartsAskFor : Values → (ordinary : List (List ℕ)) → Asked → Type 0

@@ -1,8 +1,8 @@
-ghost use Rattle.std.specs.Prelude.{◌≡◌, ◌≤◌, ℕ, List, map, IfSome, IfNone, Some};
+ghost use Rattle.std.specs.Prelude.{◌≡◌, ◌≤◌, ◌||◌, ℕ, List, map, IfSome, IfNone, Some, is_some};
 ghost use Rattle.std.specs.Option.{option_map};
 ghost use Rattle.tt_words.specs.Asked as spec;
 ghost use Rattle.tt_words.specs.CodeValues.{asked_as_text, generate_as_text, plain_as_text, replay_as_text};
-ghost use Rattle.tt_words.specs.CodeValues.{text_of, values_as_text};
+ghost use Rattle.tt_words.specs.CodeValues.{report_as_text, text_of, values_as_text};
 
 use crate::numbers::{number, number_within};
 use crate::values::Values;
@@ -37,6 +37,19 @@ pub struct Plain<'a> {
     pub kept: Option<&'a str>,
 }
 
+/// What a replay reports of itself.
+#[derive(Clone, Copy, Debug)]
+pub enum Report<'a> {
+    /// Nothing more.
+    None,
+    /// Who waits for whom, if the schedule ends before the run.
+    Waits,
+    /// Which steps on shared arrays nothing orders.
+    Races,
+    /// What the commands ask in the file of this name, which is not empty.
+    Debug(&'a str),
+}
+
 /// A script with its arguments, after the schedule in a file.
 #[derive(Debug, Drop)]
 pub struct Replay<'a> {
@@ -47,6 +60,8 @@ pub struct Replay<'a> {
     pub arguments: Vec<&'a str>,
     /// The most units of one thread, from 1 to 2^62.
     pub limit: u64,
+    /// What it reports of itself.
+    pub report: Report<'a>,
 }
 
 /// A script that is made of a number.
@@ -104,7 +119,7 @@ fn read_plain<'a>(values: &Values<'a>, ordinary: Vec<&'a str>) -> Option<Plain<'
     ensures none { IfNone result ((plain : spec.Plain) →
         ¬ spec.IsPlain (values_as_text values.now) (map text_of ordinary.entry.items) plain) }
 {
-    if values.replay.is_some() || values.generate.is_some() {
+    if values.replay.is_some() || values.generate.is_some() || asks_report(values) {
         return None;
     }
     let workers = number(values.workers, 1, MOST_WORKERS, DEFAULT_WORKERS)?;
@@ -137,12 +152,14 @@ fn read_replay<'a>(values: &Values<'a>, ordinary: Vec<&'a str>) -> Option<Replay
     }
     let limit = number(values.limit, 1, MOST_UNITS, MOST_UNITS)?;
     let schedule = file(values.replay)??;
+    let report = read_report(values)?;
     let (script, arguments) = script(ordinary)?;
     Some(Replay {
         schedule,
         script,
         arguments,
         limit,
+        report,
     })
 }
 
@@ -153,7 +170,7 @@ fn read_generate<'a>(values: &Values<'a>, ordinary: &[&'a str]) -> Option<Genera
     ensures none { IfNone result ((generate : spec.Generate) →
         ¬ spec.IsGenerate (values_as_text values.now) (map text_of ordinary.now) generate) }
 {
-    if values.workers.is_some() || values.replay.is_some() {
+    if values.workers.is_some() || values.replay.is_some() || asks_report(values) {
         return None;
     }
     let [word] = ordinary else {
@@ -172,6 +189,31 @@ fn read_generate<'a>(values: &Values<'a>, ordinary: &[&'a str]) -> Option<Genera
         limit,
         kept,
     })
+}
+
+/// What a replay reports of itself; `None` exactly if more than one report is asked for, or the debugger's file has an
+/// empty name.
+fn read_report<'a>(values: &Values<'a>) -> Option<Report<'a>>
+    ensures found { IfSome result (λ report.
+        spec.HasReport values.now.waits values.now.races (option_map text_of values.now.debug)
+        (report_as_text report)) }
+    ensures none { IfNone result ((report : spec.Report) →
+        ¬ spec.HasReport values.now.waits values.now.races (option_map text_of values.now.debug) report) }
+{
+    match (values.waits, values.races, values.debug) {
+        (false, false, None) => Some(Report::None),
+        (true, false, None) => Some(Report::Waits),
+        (false, true, None) => Some(Report::Races),
+        (false, false, Some(file)) if !file.is_empty() => Some(Report::Debug(file)),
+        _ => None,
+    }
+}
+
+/// Whether a report is asked for, which only a replay makes.
+fn asks_report(values: &Values<'_>) -> bool
+    ensures { result ≡ (values.now.waits || (values.now.races || is_some values.now.debug)) }
+{
+    values.waits || values.races || values.debug.is_some()
 }
 
 /// The file that the option names, or none if it isn't given; `None` exactly if its name is empty.

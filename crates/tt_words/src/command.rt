@@ -1,6 +1,6 @@
 ghost use Rattle.std.specs.Prelude.{◌≡◌, IfOk, false};
 ghost use Rattle.clap.specs.Words.{app_of, rule_of};
-ghost use Rattle.tt_words.specs.inside.Program.{option_rule, program};
+ghost use Rattle.tt_words.specs.inside.Program.{flag_rule, option_rule, program, words_rule};
 
 use crate::setting::Setting;
 use clap::{Arg, ArgAction, Command, Error};
@@ -9,7 +9,7 @@ use std::alloc::Global;
 /// Under what name the ordinary words are found.
 pub(crate) const WORDS: &str = "words";
 
-/// The program's options and its ordinary words. There is no `--help` among them.
+/// The program's options, its flags and its ordinary words. There is no `--help` among them.
 pub(crate) fn command<'a>(alloc: Global) -> Result<Command<'a>, Error>
     ensures { IfOk result (λ command. app_of command ≡ program) }
 {
@@ -19,7 +19,10 @@ pub(crate) fn command<'a>(alloc: Global) -> Result<Command<'a>, Error>
     let record = option(alloc, Setting::Record.name());
     let replay = option(alloc, Setting::Replay.name());
     let generate = option(alloc, Setting::Generate.name());
-    let words = Arg::new(alloc, WORDS).action(ArgAction::Append);
+    let waits = flag(alloc, Setting::Waits.name());
+    let races = flag(alloc, Setting::Races.name());
+    let debug = option(alloc, Setting::Debug.name());
+    let words = words(alloc);
     let command = Command::new(alloc, "tclthread")
         .no_binary_name(true)
         .disable_help_flag(true)
@@ -30,6 +33,9 @@ pub(crate) fn command<'a>(alloc: Global) -> Result<Command<'a>, Error>
         .arg(record)?
         .arg(replay)?
         .arg(generate)?
+        .arg(waits)?
+        .arg(races)?
+        .arg(debug)?
         .arg(words)?;
     Ok(command)
 }
@@ -40,4 +46,20 @@ fn option<'a>(alloc: Global, name: &'a str) -> Arg<'a>
     ensures local { result.global ≡ false }
 {
     Arg::new(alloc, name).long(name).action(ArgAction::Append)
+}
+
+/// A flag: each use is one with an empty value, so that they are counted as those of options are.
+fn flag<'a>(alloc: Global, name: &'a str) -> Arg<'a>
+    ensures rule { rule_of result ≡ flag_rule name.entry.now }
+    ensures local { result.global ≡ false }
+{
+    option(alloc, name).num_args(0).default_missing_value("")
+}
+
+/// The ordinary words.
+fn words<'a>(alloc: Global) -> Arg<'a>
+    ensures rule { rule_of result ≡ words_rule }
+    ensures local { result.global ≡ false }
+{
+    Arg::new(alloc, WORDS).action(ArgAction::Append)
 }

@@ -11,8 +11,8 @@ mod setting;
 mod values;
 
 pub use asked::{
-    Asked, DEFAULT_WORKERS, Generate, MOST_STEPS, MOST_UNITS, MOST_WORKERS, Plain, Replay, file,
-    script,
+    Asked, DEFAULT_WORKERS, Generate, MOST_STEPS, MOST_UNITS, MOST_WORKERS, Plain, Replay, Report,
+    file, script,
 };
 pub use numbers::number;
 pub use reading::{USAGE, read_words};

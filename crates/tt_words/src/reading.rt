@@ -12,14 +12,17 @@ use tt_text::NoMemory;
 /// How the program is called.
 pub const USAGE: &[u8] =
     b"tclthread [--workers N] [--steps N] [--limit N] [--record FILE] [--replay FILE] [--generate NUMBER] \
-      SCRIPT [ARG ...]";
+      [--waits] [--races] [--debug FILE] SCRIPT [ARG ...]";
 
 /// What the words after the program's name ask for (`USAGE`).
 ///
 /// The value of an option is the next word, unless that begins with `-` and is longer than `-`, or follows `=` in the
-/// same word. Each option comes at most once, before or after other words, and up to the word `--`; the words after
-/// that are ordinary. A number is 1 to 20 digits, and a name is not empty. `--replay` excludes each other option but
-/// `--limit`; `--generate` excludes `--workers`, and then the one ordinary word is a number of jobs.
+/// same word. `--waits` and `--races` are flags: they have no value. Each option and each flag comes at most once,
+/// before or after other words, and up to the word `--`; the words after that are ordinary. A number is 1 to 20 digits,
+/// and a name is not empty.
+///
+/// `--replay` excludes each other option but `--limit` and one of `--waits`, `--races` and `--debug`, which need it.
+/// `--generate` excludes `--workers`, and then the one ordinary word is a number of jobs.
 ///
 /// `None` exactly if the words are not so. `NoMemory` if memory for the words is refused.
 pub fn read_words(alloc: Global, words: &[String]) -> Result<Option<Asked<'_>>, NoMemory>

@@ -1,7 +1,7 @@
 ghost use Rattle.std.specs.Prelude.{◌≡◌};
 ghost use Rattle.tt_words.specs.inside.Program.{bare};
 
-/// An option of the program.
+/// An option of the program, or a flag.
 #[derive(Clone, Copy)]
 pub(crate) enum Setting {
     /// How many workers carry the threads.
@@ -16,6 +16,12 @@ pub(crate) enum Setting {
     Replay,
     /// The number that the script is made of.
     Generate,
+    /// The flag for the report on who waits for whom.
+    Waits,
+    /// The flag for the report on steps that race.
+    Races,
+    /// The file that has the debugger's commands.
+    Debug,
 }
 
 impl Setting {
@@ -30,6 +36,9 @@ impl Setting {
             Setting::Record => "record",
             Setting::Replay => "replay",
             Setting::Generate => "generate",
+            Setting::Waits => "waits",
+            Setting::Races => "races",
+            Setting::Debug => "debug",
         }
     }
 }

@@ -1,4 +1,4 @@
-ghost use Rattle.std.specs.Prelude.{◌≡◌, ◌≤◌, ◌<◌, IfSome, IfNone, IfOk, map, length};
+ghost use Rattle.std.specs.Prelude.{◌≡◌, ◌≤◌, ◌<◌, IfSome, IfNone, IfOk, is_some, map, length};
 ghost use Rattle.std.specs.Option.{option_map};
 ghost use Rattle.tt_words.specs.Asked.{first};
 ghost use Rattle.tt_words.specs.inside.Program.{bare, words_name};
@@ -11,7 +11,7 @@ use clap::ArgMatches;
 use std::alloc::Global;
 use tt_text::NoMemory;
 
-/// What each option has.
+/// What each option has, and whether each flag is given.
 #[derive(Clone, Copy)]
 pub(crate) struct Values<'a> {
     pub(crate) workers: Option<&'a str>,
@@ -20,9 +20,12 @@ pub(crate) struct Values<'a> {
     pub(crate) kept: Option<&'a str>,
     pub(crate) replay: Option<&'a str>,
     pub(crate) generate: Option<&'a str>,
+    pub(crate) waits: bool,
+    pub(crate) races: bool,
+    pub(crate) debug: Option<&'a str>,
 }
 
-/// What each option has; `None` exactly if one comes twice.
+/// What each option has, and whether each flag is given; `None` exactly if one comes twice.
 pub(crate) fn read_values<'a>(matches: &ArgMatches<'a>) -> Option<Values<'a>>
     ensures found { IfSome result (λ values.
         values_as_text values ≡ values_by (λ setting. given_in matches.now (bare setting))) }
@@ -36,7 +39,20 @@ pub(crate) fn read_values<'a>(matches: &ArgMatches<'a>) -> Option<Values<'a>>
         kept: value(matches, Setting::Record)?,
         replay: value(matches, Setting::Replay)?,
         generate: value(matches, Setting::Generate)?,
+        waits: is_given(matches, Setting::Waits)?,
+        races: is_given(matches, Setting::Races)?,
+        debug: value(matches, Setting::Debug)?,
     })
+}
+
+/// Whether a flag is given; `None` exactly if it is given twice.
+fn is_given(matches: &ArgMatches<'_>, setting: Setting) -> Option<bool>
+    ensures found { IfSome result (λ given. given ≡ is_some (first (given_in matches.now (bare setting)))) }
+    ensures once { IfSome result (λ given. length (given_in matches.now (bare setting)) ≤ 1) }
+    ensures none { IfNone result (1 < length (given_in matches.now (bare setting))) }
+{
+    let value = value(matches, setting)?;
+    Some(value.is_some())
 }
 
 /// The value that an option is given, if it is given one; `None` exactly if it is given two.

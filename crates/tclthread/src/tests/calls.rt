@@ -65,7 +65,7 @@ const OVER: Call = Call {
 const USAGE: Call = Call {
     exit: 106,
     errors: b"tclthread: usage: tclthread [--workers N] [--steps N] [--limit N] [--record FILE] [--replay FILE] \
-        [--generate NUMBER] SCRIPT [ARG ...]\n",
+        [--generate NUMBER] [--waits] [--races] [--debug FILE] SCRIPT [ARG ...]\n",
     ..OVER
 };
 

@@ -11,6 +11,8 @@ use Rattle.tt_core.specs.inside.Crew.{ArePlaced, Places}
 use Rattle.tt_core.specs.Faithful.{IsFaithful, is_cut}
 use Rattle.tt_core.specs.Parts.{HoldsLastPart}
 use Rattle.tt_core.specs.Stage.{Stage}
+use Rattle.tt_core.specs.declared.told.Telling.{Telling}
+use Rattle.tt_core.specs.declared.told.Telling.TheVariants as telling
 use Rattle.tt_core.specs.declared.told.Told.{Told}
 
 -- what the threads share, and what standard input still has, are the machine's
@@ -59,3 +61,8 @@ pub record IsOf (told : Told) (asked : Option Request) (acted : Acted) : Type 0 
   pub request : asked ≡ Some told.request
   pub reply : told.reply ≡ acted.reply
   pub made : told.made ≡ acted.made
+
+-- a step answers what it was
+abbrev pub IsTold : Telling → Type 0
+IsTold telling.Nothing = ⊥
+IsTold telling.Step = ⊤

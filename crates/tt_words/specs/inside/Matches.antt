@@ -1,5 +1,5 @@
 -- What the parser found in the words of a command line.
-use Rattle.std.specs.Prelude.{◌≡◌, ◌≤◌, ℕ, List, [], length, Option, Some, None}
+use Rattle.std.specs.Prelude.{◌≡◌, ◌≤◌, ℕ, List, [], length, Option, Some, None, is_some}
 use Rattle.std.specs.Option.{option_map_or}
 use Rattle.clap.specs.Words.{found_of, matched_of, raw_values}
 use Rattle.clap.specs.declared.parser.matches.ArgMatches.{ArgMatches}
@@ -7,13 +7,14 @@ use Rattle.tt_words.specs.Asked.{Values, first, values_of}
 use Rattle.tt_words.specs.inside.Program.{bare, words_name}
 use Rattle.tt_words.specs.Splitting.{Given, Splits}
 use Rattle.tt_words.specs.declared.setting.Setting.{Setting}
-use Rattle.tt_words.specs.declared.setting.Setting.TheVariants.{Workers, Steps, Limit, Record, Replay, Generate}
+use Rattle.tt_words.specs.declared.setting.Setting.TheVariants.{Workers, Steps, Limit, Record, Replay}
+use Rattle.tt_words.specs.declared.setting.Setting.TheVariants.{Generate, Waits, Races, Debug}
 
 -- the values under a name, in order
 abbrev pub given_in : ArgMatches → List ℕ → List (List ℕ)
 given_in matches name = option_map_or raw_values (matched_of (found_of matches) name) []
 
--- each option has the first of its values
+-- each option has the first of its values, and a flag is given if it has one
 abbrev pub values_by : (Setting → List (List ℕ)) → Values
 values_by given = record {
   workers = first (given Workers);
@@ -22,6 +23,9 @@ values_by given = record {
   kept = first (given Record);
   replay = first (given Replay);
   generate = first (given Generate);
+  waits = is_some (first (given Waits));
+  races = is_some (first (given Races));
+  debug = first (given Debug);
 }
 
 -- each option is given at most once

@@ -1,4 +1,4 @@
-use Rattle.std.proofs.Common.{refl}
+use Rattle.std.proofs.Common.{[], refl}
 use Rattle.tt_search.proofs.searching.show.Goals as goal
 
 pub returns : goal.returns
@@ -14,9 +14,12 @@ returns g c = record {
         setup = _;
         mode = _;
         finish = c.run_course-finish.result;
+        asks = tt;
         begins = c.requires.begins;
         leaves = c.run_course-finish.ensures;
         records = c.close-status.ensures.records;
+        more = [];
+        report = refl;
         line = rw c.faults-before.ensures at c.close-status.ensures.line;
         schedule = c.close-status.ensures.schedule;
         input = c.close-status.ensures.streams.0;

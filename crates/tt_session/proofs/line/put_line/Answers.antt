@@ -1,16 +1,22 @@
 use Rattle.tt_session.proofs.line.put_line.Goals as goal
 
 pub returns-in-Usage-clause-put : goal.returns-in-Usage-clause-put
-returns-in-Usage-clause-put g c = rw c.in-Usage.is c.put_words-in-Usage.ensures.put
+returns-in-Usage-clause-put g c = rw c.in-Usage.is c.put_words.ensures.put
 
 pub returns-in-Usage-clause-part : goal.returns-in-Usage-clause-part
-returns-in-Usage-clause-part g c = rw c.in-Usage.is c.put_words-in-Usage.ensures.part
+returns-in-Usage-clause-part g c = rw c.in-Usage.is c.put_words.ensures.part
 
 pub returns-in-NoFile-clause-put : goal.returns-in-NoFile-clause-put
 returns-in-NoFile-clause-put g c = rw (c.in-NoFile.is, ← c.as_bytes.ensures.bytes) c.put_words-in-NoFile.ensures.put
 
 pub returns-in-NoFile-clause-part : goal.returns-in-NoFile-clause-part
 returns-in-NoFile-clause-part g c = rw (c.in-NoFile.is, ← c.as_bytes.ensures.bytes) c.put_words-in-NoFile.ensures.part
+
+pub returns-in-TooLong-clause-put : goal.returns-in-TooLong-clause-put
+returns-in-TooLong-clause-put g c = rw c.in-TooLong.is c.put_words-in-TooLong.ensures.put
+
+pub returns-in-TooLong-clause-part : goal.returns-in-TooLong-clause-part
+returns-in-TooLong-clause-part g c = rw c.in-TooLong.is c.put_words-in-TooLong.ensures.part
 
 pub returns-in-ScheduleEnded-clause-put : goal.returns-in-ScheduleEnded-clause-put
 returns-in-ScheduleEnded-clause-put g c = rw c.in-ScheduleEnded.is c.put_words-in-ScheduleEnded.ensures.put

@@ -1,4 +1,4 @@
-use Rattle.std.proofs.Common.{◌∙◌}
+use Rattle.std.proofs.Common.{[], ◌∙◌, refl}
 use Rattle.tt_session.specs.Answer.{ran, refused}
 use Rattle.tt_session.proofs.CloseLemmas.{records-after}
 use Rattle.tt_session.proofs.on_workers.start.Goals as goal
@@ -9,10 +9,13 @@ returns-in-Ok g c =
       setup = _;
       mode = _;
       finish = c.run_freely-finish.result;
+      asks = tt;
       begins = c.in-Ok.ensures.ready;
       leaves = c.run_freely-finish.ensures;
       records = records-after g.F.Files _ _ _ c.args.files.now c.prepare_plain.new.files c.close.new.files _ c.in-Ok.ensures.same
           c.in-Ok.ensures.no_write c.close.ensures.records;
+      more = [];
+      report = refl;
       line = rw c.faults-before.ensures at c.close.ensures.line;
       schedule = c.close.ensures.schedule;
       input = c.close.ensures.streams.0;

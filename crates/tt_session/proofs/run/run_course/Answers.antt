@@ -1,4 +1,5 @@
 use Rattle.std.proofs.Common.{ap, refl}
+use Rattle.tt_core.specs.Faithful.{is_cut}
 use Rattle.tt_session.proofs.RunLemmas.{idle-leaves, machine-of, taken-leaves}
 use Rattle.tt_session.proofs.run.run_course.Goals as goal
 
@@ -17,4 +18,4 @@ returns-in-Ok g c =
     done.schedule done.devices.0 done.devices.1 done.devices.2
     took.allowed took.no_output took.no_errors took.read_fault took.reads_steady took.write_fault took.writes_steady
     (machine-of g.S.Source g.K.Sink g.E.Sink _ _ _ c.in-Ok.system c.take-end.new.system _ is.setup is.given is.untouched took.same_beginning
-    done.schedule took.kept done.devices.1 done.devices.2 done.faithful done.left took.ends)
+    done.schedule (ap is_cut took.kept) done.devices.1 done.devices.2 done.faithful done.left took.ends)

@@ -1,4 +1,4 @@
-use Rattle.std.proofs.Common.{refl}
+use Rattle.std.proofs.Common.{[], refl}
 use Rattle.tt_session.specs.Answer.{ran, refused}
 use Rattle.tt_session.specs.declared.status.Refusal.TheVariants.{NoMemory}
 use Rattle.tt_session.proofs.without_workers.generate.Goals as goal
@@ -9,9 +9,12 @@ returns-in-Ok g c =
       setup = _;
       mode = _;
       finish = c.run_course-finish.result;
+      asks = tt;
       begins = (c.in-Ok.ensures, refl);
       leaves = c.run_course-finish.ensures;
       records = c.close.ensures.records;
+      more = [];
+      report = refl;
       line = rw c.faults-before.ensures at c.close.ensures.line;
       schedule = c.close.ensures.schedule;
       input = c.close.ensures.streams.0;

@@ -245,3 +245,21 @@ one_writer state reached small text other reader writer bytes ended there reads 
     ids_differ OfChannel (2 * one.number + 1) (2 * two.number + 1) (omega (arith, below_one, small)) (omega (arith, below_two, small)) alike in
     let next : 2 * two.number + 2 ≡ 2 * one.number + 2 = omega (arith, numbers) in
     second.0 ∙ ap (id OfChannel) next ∙ sym first.1
+
+-- no write end has another one for its other end
+pub reads_other : (state : State) → Reached state → NumbersFit state → (text : List ℕ) (channel reader : Channel)
+    → channel_of state.channels text ≡ Some channel → channel.end ≡ Writes → channel_of state.channels channel.other ≡ Some reader
+    → reader.end ≡ Writes → ⊥
+reads_other state reached small text channel reader there writes found also =
+    let pipes = reached_pipes state reached small in
+    let table = state.channels in
+    let one : IsEnd table.next text channel = subst (λ found. IfSome found (IsEnd table.next text)) there (pipes.ends text) in
+    let two : IsEnd table.next channel.other reader =
+    subst (λ found. IfSome found (IsEnd table.next channel.other)) found (pipes.ends channel.other) in
+    let first : IsPart one.number text channel.other false = subst (λ end. IsPart one.number text channel.other (is_read end)) writes one.part in
+    let second : IsPart two.number channel.other reader.other false =
+    subst (λ end. IsPart two.number channel.other reader.other (is_read end)) also two.part in
+    let same : 2 * one.number + 1 ≡ 2 * two.number + 2 =
+    ids_differ OfChannel (2 * one.number + 1) (2 * two.number + 2) (omega (arith, one.below, small)) (omega (arith, two.below, small))
+    (sym first.1 ∙ second.0) in
+    absurd (omega (arith, same))
