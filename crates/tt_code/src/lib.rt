@@ -8,6 +8,7 @@ mod expressions;
 mod kind;
 pub mod laws;
 mod making;
+mod quick;
 mod running;
 mod stack;
 mod steps;

@@ -1,11 +1,12 @@
 //! Running code.
-ghost use Rattle.std.specs.Prelude.{◌≡◌, ◌<◌, length, IfOk, OnOk};
+ghost use Rattle.std.specs.Prelude.{◌≡◌, ◌<◌, length, IfNone, IfOk, IfSome, OnOk};
 ghost use Rattle.std.specs.Arc.{arc_value};
 ghost use Rattle.tt_code.specs.Code.{needs_of, needs_from};
 ghost use Rattle.tt_code.specs.Running.{halt_needs, needs, with_value};
 ghost use Rattle.tt_code.specs.inside.Turns.{IsFurther, turn_needs};
 
 use crate::code::{Code, Instruction};
+use crate::quick::perform_quickly;
 use crate::stack::Stack;
 use crate::steps::{Halt, Step, perform};
 use std::alloc::Global;
@@ -52,6 +53,14 @@ impl Running {
         ensures halts { IfOk result (λ halt. needs self.old ≡ halt_needs halt (with_value self.new)) }
     {
         'steps: while self.place < self.code.instructions.len() {
+            if let Some(place) = quick_turn(
+                &self.code.instructions,
+                self.place,
+                &mut self.values,
+            )? {
+                self.place = place;
+                continue 'steps;
+            }
             let step = turn(
                 self.alloc,
                 &self.code.instructions,
@@ -80,7 +89,29 @@ impl Running {
     }
 }
 
+/// The instruction at a place, if it is one of the quick ones: the place to which it goes.
+fn quick_turn(
+    instructions: &[Instruction],
+    place: usize,
+    values: &mut Stack,
+) -> Result<Option<usize>, NoMemory>
+    requires { place < length instructions.now }
+    ensures same { IfOk result (λ gone. IfSome gone (λ to. needs_from instructions.now place values.old
+        ≡ needs_from instructions.now to values.new)) }
+    ensures further { IfOk result (λ gone. IfSome gone (λ to. place < to)) }
+    ensures none { IfOk result (λ gone. IfNone gone (values.new ≡ values.old)) }
+{
+    match perform_quickly(&instructions[place], values)? {
+        Some(count) => {
+            let next = (place + 1).checked_add(count).ok_or(NoMemory)?;
+            Ok(Some(next))
+        }
+        None => Ok(None),
+    }
+}
+
 /// The instruction at a place: the place to which it goes, or where it halts.
+#[inline(never)]
 fn turn(
     alloc: Global,
     instructions: &[Instruction],

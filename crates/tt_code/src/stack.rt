@@ -1,5 +1,6 @@
 //! The values so far.
-ghost use Rattle.std.specs.Prelude.{◌≡◌, ◌∷◌, ◌++◌, [], drop, reverse, take, MatchOption, OnOk};
+ghost use Rattle.std.specs.Prelude.{◌≡◌, ◌∷◌, ◌++◌, [], drop, reverse, take, IfSome, MatchOption, OnOk};
+ghost use Rattle.std.specs.Fmt.{signed_decimal};
 
 use std::alloc::Global;
 use std::marker::Model;
@@ -32,11 +33,33 @@ impl Stack {
         }
     }
 
+    #[inline]
     pub(crate) fn push(&mut self, value: Value) -> Result<(), NoMemory>
+        ensures { OnOk result (self.new ≡ value ∷ self.old) }
+    {
+        if self.values.len() < self.values.capacity() {
+            self.values.push_reserved(value);
+            return Ok(());
+        }
+        self.push_more(value)
+    }
+
+    #[inline(never)]
+    fn push_more(&mut self, value: Value) -> Result<(), NoMemory>
         ensures { OnOk result (self.new ≡ value ∷ self.old) }
     {
         self.values.push(value)?;
         Ok(())
+    }
+
+    /// The number that the newest keeps, if it keeps one.
+    pub(crate) fn newest_number(&self) -> Option<i64>
+        ensures { IfSome result (λ number. self.now ≡ signed_decimal number ∷ drop 1 self.now) }
+    {
+        match self.newest(1) {
+            [value] => value.number(),
+            _ => None,
+        }
     }
 
     /// Takes the newest.

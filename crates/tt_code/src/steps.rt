@@ -153,7 +153,7 @@ fn apply_to(alloc: Global, op: Op, count: usize, values: &mut Stack) -> Result<S
 }
 
 // What an operator gives on operands of which numbers are kept, if that is a number.
-fn on_numbers(op: Op, operands: &[Value]) -> Option<i64>
+pub(crate) fn on_numbers(op: Op, operands: &[Value]) -> Option<i64>
     requires { IsTrue (takes op (length operands.now)) }
     ensures { IfSome result (λ number. operator_outcome op operands.now ≡ fine (signed_decimal number)) }
 {

@@ -1,9 +1,11 @@
 //! What an evaluation gets for what it wants (Tcl(n), vwait(n)).
-ghost use Rattle.std.specs.Prelude.{◌≡◌, IfOk};
+ghost use Rattle.std.specs.Prelude.{◌≡◌, IfNone, IfOk, IfSome};
 ghost use Rattle.std.specs.Option.{option_copied};
+ghost use Rattle.tt_calls.specs.Outcomes.{fine};
 ghost use Rattle.tt_kept.specs.Answering as answering;
 ghost use Rattle.tt_kept.specs.Commands as commands;
 ghost use Rattle.tt_store.specs.Held.{after_end};
+ghost use Rattle.tt_outcomes.specs.declared.got.Got.TheVariants as gots;
 ghost use Rattle.tt_outcomes.specs.declared.want.Want.TheVariants as wants;
 
 use crate::Kept;
@@ -21,6 +23,29 @@ impl Kept {
     pub fn answer(&mut self, alloc: Global, want: Want) -> Result<Got, NoMemory>
         ensures answers { IfOk result (λ got. answering.Answers want self.old got self.new) }
     {
+        if let Some(value) = self.answer_often(&want) {
+            return Ok(Got::Value(Outcome::with_result(alloc, value)));
+        }
+        self.answer_any(alloc, want)
+    }
+
+    // The value that is got, for what is wanted most often; none if the way of all others is to be taken, and then
+    // nothing has changed.
+    fn answer_often(&mut self, want: &Want) -> Option<Value>
+        ensures some { IfSome result (λ value. answering.Answers want.now self.old (gots.Value (fine value)) self.new) }
+        ensures none { IfNone result (self.new ≡ self.old) }
+    {
+        match want {
+            Want::ReadVar { name, index } => self.store.value(name, index.as_ref()),
+            Want::RunWords { words } => self.run_often(words.as_slice()),
+            _ => None,
+        }
+    }
+
+    #[inline(never)]
+    fn answer_any(&mut self, alloc: Global, want: Want) -> Result<Got, NoMemory>
+        ensures { IfOk result (λ got. answering.Answers want self.old got self.new) }
+    {
         match want {
             Want::ReadVar { name, index } => self.read(&name, index.as_ref()),
             Want::WriteVar { name, index, value } => self.write(&name, index.as_ref(), value),
@@ -34,6 +59,7 @@ impl Kept {
         }
     }
 
+    #[inline(never)]
     fn read(&mut self, name: &Text, index: Option<&Text>) -> Result<Got, NoMemory>
         ensures { IfOk result (λ got.
             answering.Answers (wants.ReadVar name.now (option_copied index.entry)) self.old got self.new) }
@@ -52,6 +78,7 @@ impl Kept {
         Ok(Got::Value(outcome))
     }
 
+    #[inline(never)]
     fn write(&mut self, name: &Text, index: Option<&Text>, value: Value) -> Result<Got, NoMemory>
         ensures { IfOk result (λ got.
             answering.Answers (wants.WriteVar name.now (option_copied index.entry) value) self.old got self.new) }
@@ -70,6 +97,7 @@ impl Kept {
         Ok(Got::Value(outcome))
     }
 
+    #[inline(never)]
     fn run_words(&mut self, alloc: Global, words: Values) -> Result<Got, NoMemory>
         ensures { IfOk result (λ got. answering.Answers (wants.RunWords words) self.old got self.new) }
     {
@@ -80,6 +108,7 @@ impl Kept {
         }
     }
 
+    #[inline(never)]
     fn enter(&mut self, alloc: Global) -> Result<Got, NoMemory>
         ensures { IfOk result (λ got. answering.Answers wants.Enter self.old got self.new) }
     {
@@ -87,6 +116,7 @@ impl Kept {
         Ok(nothing(alloc))
     }
 
+    #[inline(never)]
     fn leave(&mut self, alloc: Global) -> Result<Got, NoMemory>
         ensures { IfOk result (λ got. (got ≡ answering.nothing)
             × (self.new ≡ commands.with_store self.old (after_end self.old.store))) }
@@ -95,6 +125,7 @@ impl Kept {
         Ok(nothing(alloc))
     }
 
+    #[inline(never)]
     fn watch(&mut self, alloc: Global, name: &Text) -> Result<Got, NoMemory>
         ensures { IfOk result (λ got. answering.Answers (wants.Watch name.now) self.old got self.new) }
     {
@@ -102,12 +133,14 @@ impl Kept {
         Ok(nothing(alloc))
     }
 
+    #[inline(never)]
     fn seen(&self, alloc: Global) -> Result<Got, NoMemory>
         ensures { IfOk result (λ got. answering.Answers wants.Seen self.now got self.now) }
     {
         truth(alloc, self.store.seen())
     }
 
+    #[inline(never)]
     fn unwatch(&mut self, alloc: Global) -> Result<Got, NoMemory>
         ensures { IfOk result (λ got. answering.Answers wants.Unwatch self.old got self.new) }
     {

@@ -1,7 +1,11 @@
 //! The commands that an interpreter does itself (proc(n), info(n)).
-ghost use Rattle.std.specs.Prelude.{◌≡◌, IfOk, codes, drop};
+ghost use Rattle.std.specs.Prelude.{◌≡◌, IfNone, IfOk, IfSome, IsTrue, None, bytes_eq, codes, drop};
+ghost use Rattle.std.specs.Map.{lookup};
+ghost use Rattle.tt_calls.specs.Outcomes.{fine};
 ghost use Rattle.tt_dictionaries.specs.Commands as dictionaries;
 ghost use Rattle.tt_kept.specs.Commands as commands;
+ghost use Rattle.tt_kept.specs.declared.commands.Own.TheVariants as own;
+ghost use Rattle.tt_store.specs.declared.answers.Answer.TheVariants as answers;
 ghost use Rattle.tt_variable_commands.specs.ArrayCommands as arrays;
 ghost use Rattle.tt_variable_commands.specs.LevelCommands as levels;
 
@@ -26,8 +30,49 @@ pub enum Own {
 }
 
 impl Kept {
+    /// The result of a command that is met often, its name first; none if the way of all others is to be taken, and then
+    /// nothing has changed.
+    pub(crate) fn run_often(&mut self, words: &[Value]) -> Option<Value>
+        ensures some { IfSome result (λ value. commands.Runs words.now self.old (answers.Outcome (fine value)) self.new) }
+        ensures none { IfNone result (self.new ≡ self.old) }
+    {
+        match words {
+            [name, words @ ..] if self.is_own(name, b"set") => self.store.set_often(words),
+            [name, words @ ..] if self.is_own(name, b"incr") => self.store.incr_often(words),
+            _ => None,
+        }
+    }
+
     /// What a whole command comes to, its name first.
     pub(crate) fn run(&mut self, alloc: Global, words: &[Value]) -> Result<Answer, NoMemory>
+        ensures { IfOk result (λ answer. commands.Runs words.now self.old answer self.new) }
+    {
+        match words {
+            [name, words @ ..] if self.is_own(name, b"append") => {
+                let outcome = self.store.append_often(words)?;
+                Ok(Answer::Outcome(outcome))
+            }
+            [name, words @ ..] if self.is_own(name, b"lappend") => {
+                let outcome = self.store.lappend_often(words)?;
+                Ok(Answer::Outcome(outcome))
+            }
+            _ => self.run_any(alloc, words),
+        }
+    }
+
+    // Whether a word is this name, and that of no procedure.
+    fn is_own(&self, word: &Value, name: &[u8]) -> bool
+        ensures name { IsTrue result → word.now ≡ name.now }
+        ensures procedure { IsTrue result → lookup (bytes_eq name.now) self.now.procedures ≡ None }
+    {
+        match word.as_text() {
+            Some(word) => word.as_bytes() == name && !self.procedures.has(word),
+            None => false,
+        }
+    }
+
+    #[inline(never)]
+    fn run_any(&mut self, alloc: Global, words: &[Value]) -> Result<Answer, NoMemory>
         ensures { IfOk result (λ answer. commands.Runs words.now self.old answer self.new) }
     {
         match self.procedures.call(words)? {
@@ -36,6 +81,7 @@ impl Kept {
         }
     }
 
+    #[inline(never)]
     fn call(&mut self, alloc: Global, words: &[Value], called: Called) -> Result<Answer, NoMemory>
         ensures { IfOk result (λ answer. commands.CallsBody called words.now self.old answer self.new) }
     {
@@ -52,21 +98,32 @@ impl Kept {
         }
     }
 
+    #[inline(never)]
     fn run_own(&mut self, alloc: Global, words: &[Value]) -> Result<Answer, NoMemory>
         ensures { IfOk result (λ answer.
             commands.RunsOwn (commands.own_of words.now) words.now self.old answer self.new) }
     {
         match own_of(alloc, words)? {
-            Own::Define => {
-                let words = texts_of(alloc, after(words, 1))?;
-                Ok(Answer::Outcome(self.procedures.define(words.as_slice())?))
-            }
-            Own::Names => {
-                let words = texts_of(alloc, after(words, 2))?;
-                Ok(Answer::Outcome(self.procedures.names(words.as_slice())?))
-            }
+            Own::Define => self.define(alloc, words),
+            Own::Names => self.names(alloc, words),
             Own::Other => on_variables(alloc, &mut self.store, words),
         }
+    }
+
+    #[inline(never)]
+    fn define(&mut self, alloc: Global, words: &[Value]) -> Result<Answer, NoMemory>
+        ensures { IfOk result (λ answer. commands.RunsOwn own.Define words.now self.old answer self.new) }
+    {
+        let words = texts_of(alloc, after(words, 1))?;
+        Ok(Answer::Outcome(self.procedures.define(words.as_slice())?))
+    }
+
+    #[inline(never)]
+    fn names(&mut self, alloc: Global, words: &[Value]) -> Result<Answer, NoMemory>
+        ensures { IfOk result (λ answer. commands.RunsOwn own.Names words.now self.old answer self.new) }
+    {
+        let words = texts_of(alloc, after(words, 2))?;
+        Ok(Answer::Outcome(self.procedures.names(words.as_slice())?))
     }
 }
 
@@ -80,6 +137,7 @@ fn on_variables(alloc: Global, store: &mut Store, words: &[Value]) -> Result<Ans
     }
 }
 
+#[inline(never)]
 fn on_levels(alloc: Global, store: &mut Store, words: &[Value]) -> Result<Answer, NoMemory>
     ensures { IfOk result (λ answer.
         commands.Either levels.Runs (commands.Either arrays.Runs dictionaries.Runs) words.now store.old answer
@@ -92,6 +150,7 @@ fn on_levels(alloc: Global, store: &mut Store, words: &[Value]) -> Result<Answer
     }
 }
 
+#[inline(never)]
 fn on_arrays(alloc: Global, store: &mut Store, words: &[Value]) -> Result<Answer, NoMemory>
     ensures { IfOk result (λ answer.
         commands.Either arrays.Runs dictionaries.Runs words.now store.old answer store.new) }
@@ -119,7 +178,10 @@ fn names_command(alloc: Global, name: &[u8], words: &[Value]) -> Result<bool, No
     ensures { IfOk result (λ named. named ≡ commands.names_command name.now words.now) }
 {
     match words {
-        [word, ..] => Ok(plain_name(word.to_text(alloc)?.as_bytes()) == name),
+        [word, ..] => match word.as_text() {
+            Some(word) => Ok(plain_name(word.as_bytes()) == name),
+            None => Ok(plain_name(word.to_text(alloc)?.as_bytes()) == name),
+        },
         [] => Ok(false),
     }
 }

@@ -51,7 +51,7 @@ impl<V> Storage<V> {
     {
         match self {
             Storage::Few(pairs) => few::place_of(pairs.as_slice(), name),
-            Storage::Many(map) => map.get_index_of(name),
+            Storage::Many(map) => hashed_place_of(map, name),
         }
     }
 
@@ -191,4 +191,13 @@ impl<V: Drop> Storage<V> {
             Storage::Many(_) => *self = Storage::Few(Vec::new(self.alloc())),
         }
     }
+}
+
+// Which of many names one is. It is a function of its own, so that the way of few names is short.
+#[inline(never)]
+fn hashed_place_of<V>(map: &IndexMap<Text, V>, name: &Text) -> Option<usize>
+    ensures place { result ≡ place_of map.now.entries name.now }
+    ensures within { IfSome result (λ place. place < length map.now.entries) }
+{
+    map.get_index_of(name)
 }

@@ -1,6 +1,6 @@
-ghost use Rattle.std.specs.Prelude.{◌≡◌, [], IfOk, OnErr};
+ghost use Rattle.std.specs.Prelude.{◌≡◌, [], ◌∷◌, IfOk, OnErr, bytes_eq, is_some};
 ghost use Rattle.std.specs.List.{filter};
-ghost use Rattle.std.specs.Map.{keys_of};
+ghost use Rattle.std.specs.Map.{keys_of, lookup};
 ghost use Rattle.std.specs.Option.{option_copied};
 ghost use Rattle.tt_calls.specs.Outcomes.{fine};
 ghost use Rattle.tt_lists.specs.Spelling.{list_of};
@@ -14,7 +14,7 @@ use indexmap::IndexMap;
 use std::alloc::Global;
 use std::marker::Model;
 use tt_calls::Outcome;
-use tt_script::plain_name;
+use tt_script::{global_name, plain_name};
 use tt_text::{NoMemory, Text, Texts, glob};
 use tt_value::Value;
 
@@ -103,21 +103,41 @@ impl Procedures {
         let [word, words @ ..] = words else {
             return Ok(None);
         };
-        let word = word.to_text(*self.map.allocator())?;
-        match self.named_by(&word)? {
+        match word.as_text() {
+            Some(word) => self.call_by(word, words),
+            None => self.call_by(&word.to_text(*self.map.allocator())?, words),
+        }
+    }
+
+    fn call_by(&self, word: &Text, words: &[Value]) -> Result<Option<Called>, NoMemory>
+        ensures { IfOk result (λ called. called ≡ procedures.call self.now (word.now ∷ words.now)) }
+    {
+        match self.named_by(word)? {
             Some(procedure) => {
-                let called = call_of(*self.map.allocator(), &word, words, procedure)?;
+                let called = call_of(*self.map.allocator(), word, words, procedure)?;
                 Ok(Some(called))
             }
             None => Ok(None),
         }
     }
 
+    /// Whether there is a procedure of this name.
+    pub fn has(&self, name: &Text) -> bool
+        ensures { result ≡ is_some (lookup (bytes_eq name.now) self.now) }
+    {
+        !self.map.is_empty() && self.map.contains_key(name)
+    }
+
     fn named_by(&self, word: &Text) -> Result<Option<&Procedure>, NoMemory>
         ensures { IfOk result (λ found. option_copied found ≡ procedures.procedure_named word.now self.now) }
     {
-        let name = Text::from_bytes(*self.map.allocator(), plain_name(word.as_bytes()))?;
-        Ok(self.map.get(&name))
+        match global_name(word.as_bytes()) {
+            None => Ok(self.map.get(word)),
+            Some(name) => {
+                let name = Text::from_bytes(*self.map.allocator(), name)?;
+                Ok(self.map.get(&name))
+            }
+        }
     }
 
     /// `info procs ?pattern?` of info(n), by the words after `procs`: the list of the names, in the order of their

@@ -55,7 +55,7 @@ module _ (change : List ℕ → ListAnswer) (missing : List ℕ) (word : List �
       from-made new (Made text) outcome changed-at
       (Yes, record { writes = changed-at.1; marks = marks; rest = ap (λ levels. record { levels = levels; watches = new.watches }) rest }, told)
 
-  same : (new : Held) → new.levels ≡ with_frames old.levels new.levels.frames → new.levels.frames ≡ old.levels.frames → new.watches ≡ old.watches → new ≡ old
+  pub same : (new : Held) → new.levels ≡ with_frames old.levels new.levels.frames → new.levels.frames ≡ old.levels.frames → new.watches ≡ old.watches → new ≡ old
   same new rest frames watches =
       ap (λ levels. record { levels = levels; watches = new.watches }) (rest ∙ ap (with_frames old.levels) frames)
       ∙ ap (λ w. record { levels = old.levels; watches = w }) watches

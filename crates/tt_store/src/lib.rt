@@ -3,6 +3,7 @@
 #![tactic(auto)]
 
 mod answers;
+mod appending;
 mod arrays;
 mod calling;
 mod changing;
@@ -11,6 +12,7 @@ mod increment;
 mod listed;
 mod messages;
 mod nesting;
+mod often;
 mod rereads;
 mod row;
 mod run;

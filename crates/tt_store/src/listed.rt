@@ -14,6 +14,7 @@ use tt_value::{Value, texts_of};
 use tt_vars::Written;
 
 impl Store {
+    #[inline(never)]
     pub(crate) fn lassign(&mut self, usage: &[u8], words: &[Value]) -> Result<Outcome, NoMemory>
         ensures { IfOk result (λ outcome. listed.lassign usage.now words.now self.old outcome self.new) }
     {

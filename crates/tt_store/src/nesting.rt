@@ -209,6 +209,38 @@ impl Nesting {
             .read(self.frame_of(spot), &spot.name, spot.index.as_ref())
     }
 
+    /// The value of a name of the current frame.
+    pub(crate) fn read_here(&self, name: &Text, index: Option<&Text>) -> Result<&Value, VarFault>
+        ensures { Reads self.now.frames (place_of self.now.current name.now (option_copied index.entry))
+            (lent_text result) }
+    {
+        self.vars.read(self.current, name, index)
+    }
+
+    /// Writes a value to a name of the current frame.
+    pub(crate) fn write_here(&mut self, name: &Text, value: Value) -> Result<Written, NoMemory>
+        ensures written { IfOk result (λ answer.
+            Writes self.old.frames (place_of self.old.current name.now None) value self.new.frames answer) }
+        ensures rest { self.new ≡ with_frames self.old self.new.frames }
+        ensures unchanged { OnErr result (self.new ≡ self.old) }
+    {
+        self.vars.write(self.current, name, None, value)
+    }
+
+    /// Changes the value of a name of the current frame.
+    pub(crate) fn change_here<C: Changing>(
+        &mut self,
+        name: &Text,
+        changing: &C,
+    ) -> Result<Result<Made, VarFault>, NoMemory>
+        ensures changed { IfOk result (λ answer.
+            Changes (C.meaning changing.now) self.old.frames (place_of self.old.current name.now None) self.new.frames
+            answer) }
+        ensures rest { self.new ≡ with_frames self.old self.new.frames }
+    {
+        self.vars.change(self.current, name, None, changing)
+    }
+
     /// The value of a name is kept as a list, if it is one and there is memory for its items. No text changes.
     pub(crate) fn keep_items(&mut self, spot: &Spot)
         ensures same { self.new ≡ self.old }

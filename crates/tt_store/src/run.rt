@@ -1,5 +1,5 @@
 //! What a whole command comes to.
-ghost use Rattle.std.specs.Prelude.{◌≡◌, IfOk, bytes_eq, codes};
+ghost use Rattle.std.specs.Prelude.{◌≡◌, ◌∷◌, IfOk, bytes_eq, codes};
 ghost use Rattle.std.specs.Option.{option_map};
 ghost use Rattle.tt_pure.specs.Table as pure_table;
 ghost use Rattle.tt_store.specs.Commands as table;
@@ -24,33 +24,41 @@ impl Store {
         ensures runs { IfOk result (λ answer. table.Runs words.now self.old answer self.new) }
     {
         match words {
-            [word, words @ ..] => {
-                let word = word.to_text(self.alloc)?;
-                let name = Text::from_bytes(self.alloc, plain_name(word.as_bytes()))?;
-                self.run_command(&name, words)
-            }
+            [word, words @ ..] => match word.as_text() {
+                Some(word) => self.run_command(plain_name(word.as_bytes()), words),
+                None => self.run_made(word, words),
+            },
             [] => Ok(Answer::Outcome(Outcome::fine(self.alloc, Text::new(self.alloc)))),
         }
     }
 
-    fn run_command(&mut self, name: &Text, words: &[Value]) -> Result<Answer, NoMemory>
+    // A command whose name is made by a number or a list.
+    #[inline(never)]
+    fn run_made(&mut self, word: &Value, words: &[Value]) -> Result<Answer, NoMemory>
+        ensures { IfOk result (λ answer. table.Runs (word.now ∷ words.now) self.old answer self.new) }
+    {
+        let word = word.to_text(self.alloc)?;
+        self.run_command(plain_name(word.as_bytes()), words)
+    }
+
+    fn run_command(&mut self, name: &[u8], words: &[Value]) -> Result<Answer, NoMemory>
         ensures { IfOk result (λ answer.
             table.IsCommand (table.first_named table.commands name.now) name.now words.now self.old answer self.new) }
     {
-        match command_of(name.as_bytes()) {
+        match command_of(name) {
             Some(command) => self.by_row(command, words),
             None => self.run_pure(name, words),
         }
     }
 
-    fn run_pure(&self, name: &Text, words: &[Value]) -> Result<Answer, NoMemory>
+    fn run_pure(&self, name: &[u8], words: &[Value]) -> Result<Answer, NoMemory>
         ensures { IfOk result (λ answer.
             table.IsPure (pure_table.is_pure name.now) name.now words.now self.now answer self.now) }
     {
-        if !is_pure(name.as_bytes()) {
+        if !is_pure(name) {
             return Ok(Answer::Other);
         }
-        let outcome = pure(self.alloc, name.as_bytes(), words)?;
+        let outcome = pure(self.alloc, name, words)?;
         Ok(Answer::Outcome(outcome))
     }
 
@@ -72,6 +80,7 @@ impl Store {
         Ok(Answer::Outcome(outcome))
     }
 
+    #[inline(never)]
     fn eval(&mut self, usage: &[u8], words: &[Value]) -> Result<Answer, NoMemory>
         ensures { IfOk result (λ answer. table.eval usage.now words.now self.old answer self.new) }
     {
@@ -87,6 +96,7 @@ impl Store {
         })
     }
 
+    #[inline(never)]
     fn flush(&self, usage: &[u8], words: &[Value]) -> Result<Outcome, NoMemory>
         ensures { IfOk result (λ outcome. table.flush usage.now words.now self.now outcome self.now) }
     {
@@ -96,6 +106,7 @@ impl Store {
         }
     }
 
+    #[inline(never)]
     fn package(&self, usage: &[u8], words: &[Value]) -> Result<Outcome, NoMemory>
         ensures { IfOk result (λ outcome. table.package_require usage.now words.now self.now outcome self.now) }
     {

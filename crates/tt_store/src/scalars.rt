@@ -13,6 +13,7 @@ use tt_value::{Value, texts_of};
 use tt_vars::VarFault;
 
 impl Store {
+    #[inline(never)]
     pub(crate) fn set(&mut self, usage: &[u8], words: &[Value]) -> Result<Outcome, NoMemory>
         ensures { IfOk result (λ outcome. scalars.set_meaning usage.now words.now self.old outcome self.new) }
     {
@@ -29,6 +30,7 @@ impl Store {
         }
     }
 
+    #[inline(never)]
     pub(crate) fn unset(&mut self, words: &[Value]) -> Result<Outcome, NoMemory>
         ensures { IfOk result (λ outcome.
             scalars.UnsetsIf (scalars.first_unknown words.now) words.now self.old outcome self.new) }

@@ -141,6 +141,16 @@ impl Value {
         }
     }
 
+    /// The text, if it is kept as such; of another value nothing is said.
+    pub fn as_text(&self) -> Option<&Text>
+        ensures text { IfSome result (λ text. text.now ≡ self.now) }
+    {
+        match &self.kept {
+            Kept::Text(text) => Some(text),
+            _ => None,
+        }
+    }
+
     /// The whole number that is kept, whose decimal text this is; of another value nothing is said.
     pub fn number(&self) -> Option<i64>
         ensures written { IfSome result (λ number. self.now ≡ signed_decimal number) }

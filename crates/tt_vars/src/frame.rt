@@ -1,9 +1,9 @@
 ghost use Rattle.std.specs.Prelude.{◌≡◌, ℕ, List, [], Some, Ok, Err, cond, length, slice_get, remove, bytes_eq, IfOk};
-ghost use Rattle.std.specs.Prelude.{IfErr, OnOk, OnErr};
+ghost use Rattle.std.specs.Prelude.{IfErr, IfNone, IfSome, IsFalse, IsTrue, OnOk, OnErr};
 ghost use Rattle.std.specs.Map.{keys_of, values_of};
 ghost use Rattle.std.specs.Option.{option_copied, option_map, ok_or};
 ghost use Rattle.tt_vars.specs.declared.answers.VarFault.TheVariants.{IsArray};
-ghost use Rattle.tt_vars.specs.declared.variable.Variable.TheVariants.{Link};
+ghost use Rattle.tt_vars.specs.declared.variable.Variable.TheVariants.{Link, Scalar};
 ghost use Rattle.tt_vars.specs.Variables.{Name, variable_named, is_set, leads, elements_of, reading_of};
 ghost use Rattle.tt_vars.specs.Variables.{variable_after_write, with, frame_after_removal};
 ghost use Rattle.tt_vars.specs.Variables.{result_of, Puts};
@@ -14,7 +14,7 @@ ghost use Rattle.tt_vars.specs.inside.Ending.{KeepsLinks};
 use crate::links::owned_index;
 use crate::reading::Reading;
 use crate::variable::{
-    Found, Place, Variable, change_in, first_written, read_in, remove_from, write_to,
+    Found, Place, Variable, change_in, exchange, first_written, read_in, remove_from, write_to,
 };
 use crate::{VarFault, Written};
 use std::alloc::Global;
@@ -92,6 +92,57 @@ impl Frame {
             (Variable::Array(_), None) => Err(VarFault::IsArray),
             (Variable::Scalar(_) | Variable::Link(_), _) => Err(VarFault::NotArray),
         }
+    }
+
+    /// The value of a name that is a scalar, or of an element of one that is an array; None if there is none, and if the
+    /// name is a link.
+    pub(crate) fn value(&self, name: &Text, index: Option<&Text>) -> Option<&Value>
+        ensures link { IfSome result (λ value. leads (variable_named self.now name.now) ≡ None) }
+        ensures value { IfSome result (λ value. (missing : VarFault) →
+            reading_of missing (variable_named self.now name.now) (option_copied index.entry) ≡ Ok value.now) }
+    {
+        match (self.names.get(name)?, index) {
+            (Variable::Scalar(value), None) => Some(value),
+            (Variable::Array(elements), Some(index)) => elements.get(index),
+            _ => None,
+        }
+    }
+
+    /// Exchanges the value of a name that is a scalar; false if it is none, and then nothing has changed.
+    pub(crate) fn exchange(&mut self, name: &Text, value: &mut Value) -> bool
+        ensures scalar { IsTrue result → (old : List ℕ) × (variable_named self.old name.now ≡ Some (Scalar old)) }
+        ensures written { IsTrue result → self.new ≡ with self.old name.now (Scalar value.old) }
+        ensures unchanged { IsFalse result → self.new ≡ self.old }
+        ensures kept { IsFalse result → value.new ≡ value.old }
+        ensures links { KeepsLinks self.old self.new }
+    {
+        if let Some(variable) = self.names.get_mut(name) {
+            return exchange(variable, value);
+        }
+        false
+    }
+
+    /// Changes the value of a name that is a scalar; None if it is none, and then nothing has changed.
+    ///
+    /// `NoMemory` if memory is refused; then nothing is said of the value.
+    pub(crate) fn change<C: Changing>(
+        &mut self,
+        name: &Text,
+        changing: &C,
+    ) -> Result<Option<Made>, NoMemory>
+        ensures scalar { IfOk result (λ answer. IfSome answer (λ made.
+            (old : List ℕ)
+            × (variable_named self.old name.now ≡ Some (Scalar old))
+            × (made ≡ C.meaning changing.now old)
+            × (self.new ≡ after_change (λ text. with self.old name.now (Scalar text)) self.old (Some made)))) }
+        ensures none { IfOk result (λ answer. IfNone answer (self.new ≡ self.old)) }
+        ensures links { KeepsLinks self.old self.new }
+    {
+        let alloc = self.names.alloc();
+        if let Some(variable) = self.names.get_mut(name) {
+            return change_in(alloc, variable, None, changing);
+        }
+        Ok(None)
     }
 
     /// Writes a value to a name, or to its element. A new name goes last. The name is looked for at the hint first.

@@ -1,4 +1,5 @@
-ghost use Rattle.std.specs.Prelude.{◌≡◌, Some, None, Ok, IfOk, OnErr};
+ghost use Rattle.std.specs.Prelude.{◌≡◌, ℕ, List, Some, None, Ok, IfOk, IsFalse, IsTrue, OnErr};
+ghost use Rattle.tt_vars.specs.declared.variable.Variable.TheVariants.{Scalar};
 ghost use Rattle.tt_vars.specs.Variables.{leads, variable_after_write, Puts};
 ghost use Rattle.tt_vars.specs.inside.Found.{after_change, put_in, text_in, without_at};
 ghost use Rattle.std.specs.Option.{option_copied, option_map};
@@ -7,6 +8,7 @@ use crate::elements::Elements;
 use crate::reading::Reading;
 use crate::{VarFault, Written};
 use std::alloc::Global;
+use std::mem::swap;
 use tt_text::{NoMemory, Text};
 use tt_value::{Changing, Made, Value};
 
@@ -76,6 +78,23 @@ pub(crate) fn write_to(
         }
     }
     Ok(Written::Yes)
+}
+
+/// Exchanges the value of a scalar; false if the variable is none, and then nothing has changed.
+pub(crate) fn exchange(variable: &mut Variable, value: &mut Value) -> bool
+    ensures scalar { IsTrue result → (old : List ℕ) × (variable.old ≡ Scalar old) }
+    ensures written { IsTrue result → variable.new ≡ Scalar value.old }
+    ensures unchanged { IsFalse result → variable.new ≡ variable.old }
+    ensures kept { IsFalse result → value.new ≡ value.old }
+    ensures link { leads (Some variable.new) ≡ leads (Some variable.old) }
+{
+    match variable {
+        Variable::Scalar(scalar) => {
+            swap(scalar, value);
+            true
+        }
+        _ => false,
+    }
 }
 
 /// Removes an element of an array.

@@ -95,22 +95,37 @@ impl Vars {
         ensures read { Reads self.now (place_of frame name.now (option_copied index.entry)) (lent_text result) }
     {
         let frames = self.frames.as_slice();
-        let spot = follow(
-            frames,
-            Spot {
-                frame,
-                name,
-                index,
-                hint: 0,
-            },
-        );
-        read_spot(frames, index, spot)
+        match frame_in(frames, frame).value(name, index) {
+            Some(value) => Ok(value),
+            None => read_linked(frames, frame, name, index),
+        }
     }
 
     /// Writes a value to a name (set(n)).
     ///
     /// `NoMemory` if memory for it is refused; then nothing has changed.
     pub fn write(
+        &mut self,
+        frame: u64,
+        name: &Text,
+        index: Option<&Text>,
+        value: Value,
+    ) -> Result<Written, NoMemory>
+        requires { frame < length self.old }
+        ensures written { IfOk result (λ answer.
+            Writes self.old (place_of frame name.now (option_copied index.entry)) value self.new answer) }
+        ensures unchanged { OnErr result (self.new ≡ self.old) }
+    {
+        let mut value = value;
+        if index.is_none() && self.frames[frame as usize].exchange(name, &mut value) {
+            return Ok(Written::Yes);
+        }
+        self.write_linked(frame, name, index, value)
+    }
+
+    // The same, of a name that may be a link or missing.
+    #[inline(never)]
+    fn write_linked(
         &mut self,
         frame: u64,
         name: &Text,
@@ -165,6 +180,29 @@ impl Vars {
     ///
     /// `NoMemory` if memory is refused; then nothing is said of the value.
     pub fn change<C: Changing>(
+        &mut self,
+        frame: u64,
+        name: &Text,
+        index: Option<&Text>,
+        changing: &C,
+    ) -> Result<Result<Made, VarFault>, NoMemory>
+        requires { frame < length self.old }
+        ensures changed { IfOk result (λ answer.
+            Changes (C.meaning changing.now) self.old (place_of frame name.now (option_copied index.entry)) self.new
+            answer) }
+        ensures frames { length self.new ≡ length self.old }
+    {
+        if index.is_none() {
+            if let Some(made) = self.frames[frame as usize].change(name, changing)? {
+                return Ok(Ok(made));
+            }
+        }
+        self.change_linked(frame, name, index, changing)
+    }
+
+    // The same, of a name that may be a link or missing.
+    #[inline(never)]
+    fn change_linked<C: Changing>(
         &mut self,
         frame: u64,
         name: &Text,
@@ -375,6 +413,30 @@ fn taken_or_new(alloc: Global, spare: &mut Option<Frame>) -> Frame
         Some(frame) => frame,
         None => Frame::new(alloc),
     }
+}
+
+// The value of a name that may be a link or missing.
+#[inline(never)]
+fn read_linked<'a>(
+    frames: &'a [Frame],
+    frame: u64,
+    name: &Text,
+    index: Option<&Text>,
+) -> Result<&'a Value, VarFault>
+    requires ends { LinksEnd frames.now }
+    requires there { frame < length frames.now }
+    ensures read { Reads frames.now (place_of frame name.now (option_copied index.entry)) (lent_text result) }
+{
+    let spot = follow(
+        frames,
+        Spot {
+            frame,
+            name,
+            index,
+            hint: 0,
+        },
+    );
+    read_spot(frames, index, spot)
 }
 
 // Where what a name stands for is looked for first.
