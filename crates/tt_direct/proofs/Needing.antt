@@ -3,16 +3,12 @@ use Rattle.std.proofs.Common.{◌≡◌, ℕ, List, [], ◌∷◌, Option, None,
 use Rattle.tt_code.specs.Needs.{Needs, Refused, Script, Values, Variable}
 use Rattle.tt_code.specs.Running.{needs, with_value}
 use Rattle.tt_code.specs.declared.running.Running.{Running}
-use Rattle.tt_evaluation.specs.Frames.{plan_of}
-use Rattle.tt_evaluation.specs.Plans.{Ends}
-use Rattle.tt_evaluation.specs.declared.language.Move.TheVariants.{Call}
-use Rattle.tt_frames.specs.Expressions.{came_to, needs_then, ending_for, first_of}
-use Rattle.tt_frames.specs.Frames.{after, on_got}
+use Rattle.tt_evaluation.specs.Plans.{Calls, Goes}
+use Rattle.tt_frames.specs.Frames.{after}
 use Rattle.tt_frames.specs.Scripts.{OnValues, needing}
-use Rattle.tt_frames.specs.Vocabulary.{OnEnding, TclPlan, ending_of, same_ending}
-use Rattle.tt_frames.specs.declared.job.Frame.TheVariants as frames
+use Rattle.tt_frames.specs.Vocabulary.{OnEnding, TclPlan, ending_of}
+use Rattle.tt_frames.specs.declared.job.Frame.{Frame}
 use Rattle.tt_frames.specs.declared.job.Job.TheVariants as job
-use Rattle.tt_frames.specs.declared.job.Purpose.{Purpose}
 use Rattle.tt_frames.specs.declared.state.Counts.{Counts}
 use Rattle.tt_kept.specs.Answering.{Answers}
 use Rattle.tt_kept.specs.declared.kept.Kept.{Kept}
@@ -21,9 +17,10 @@ use Rattle.tt_outcomes.specs.declared.ending.Ending.{Ending}
 use Rattle.tt_outcomes.specs.declared.got.Got.{Got}
 use Rattle.tt_outcomes.specs.declared.want.Want.TheVariants.{ReadVar}
 use Rattle.tt_direct.proofs.Remains.{given, goes_on, stays}
-use Rattle.tt_direct.specs.Leading.{GoesOn}
+use Rattle.tt_direct.proofs.Staying.{called_on, called_then, settled, stays_as, stays_then}
+use Rattle.tt_direct.specs.Leading.{GoesOn, Stays, TclStack}
+use Rattle.tt_direct.specs.inside.Coming.{CalledOn, CameOn}
 use Rattle.tt_direct.specs.inside.Needing.{after_ending, then_met, then_needed}
-use Rattle.tt_direct.specs.inside.Coming.{then_came}
 use Rattle.tt_direct.specs.declared.came.Came.{Came}
 use Rattle.tt_direct.specs.declared.needs.Met.{Met}
 use Rattle.tt_direct.specs.declared.needs.Met.TheVariants as met
@@ -93,23 +90,29 @@ pub value_on : (began now : Running) (value : List ℕ) (kept : Kept) → needs 
 value_on began now value kept is finish quit state =
     stays (finish (value ∷ []) state) (needing finish quit (needs began) state) kept (ap (λ (n : Needs). needing finish quit n state) is)
 
--- ---- expressions ----
+-- ---- on stacks ----
 
--- what came of an expression is its ending
-pub computed_to : {kept held : Kept} (what : Met) (now began : Running) (purpose : Purpose) (values : List (List ℕ)) (ending : Ending) (state : Counts)
-    → Meets what now kept began held → then_met what now (came_to purpose) same_ending state ≡ came_to purpose values state
-    → ending ≡ ending_for purpose (first_of values)
-    → GoesOn (Ends ending state) kept (needs_then purpose (needs began) state) held
-computed_to {kept} {held} what now began purpose values ending state meets is same =
-    subst (λ (p : TclPlan). GoesOn p kept (needs_then purpose (needs began) state) held)
-    (is ∙ ap (λ (e : Ending). same_ending e state) (sym same)) (meets (came_to purpose) same_ending state)
+-- what is met follows, on the stack
+pub met_as : {kept held first : Kept} {whole : TclPlan} {before : TclStack} (what : Met) (now began : Running) (finish : OnValues) (quit : OnEnding)
+    (plan : TclPlan) (stack : TclStack)
+    → Meets what now kept began held → then_met what now finish quit stack.state ≡ plan
+    → Stays (needing finish quit (needs began) stack.state) stack held whole before first
+    → Stays plan stack kept whole before first
+met_as {kept} {held} what now began finish quit plan stack meets is on =
+    stays_as (then_met what now finish quit stack.state) plan stack is
+    (stays_then on (settled (then_met what now finish quit stack.state) (needing finish quit (needs began) stack.state) stack stack
+    (meets finish quit stack.state) refl refl))
 
--- an expression needs a script
-pub script_met : {kept held : Kept} (what : Met) (now began : Running) (purpose : Purpose) (text : List ℕ) (came : Came) (state : Counts)
-    → Meets what now kept began held → what ≡ met.Script text
-    → plan_of after on_got (Call None (job.Script text) (frames.Expression purpose now)) state ≡ then_came came state
-    → GoesOn (then_came came state) kept (needs_then purpose (needs began) state) held
-script_met {kept} {held} what now began purpose text came state meets is same =
-    subst (λ (p : TclPlan). GoesOn p kept (needs_then purpose (needs began) state) held)
-    (ap (λ (m : Met). then_met m now (came_to purpose) same_ending state) is ∙ same)
-    (meets (came_to purpose) same_ending state)
+-- the script that is needed is called
+pub script_called : {held first : Kept} {whole : TclPlan} {before : TclStack} (new kept : Kept) (what : Met) (now began : Running)
+    (finish : OnValues) (quit : OnEnding) (frame : Frame) (text : List ℕ) (came : Came) (stack middle : TclStack)
+    → Meets what now kept began held → what ≡ met.Script text → after_ending now finish quit ≡ after frame
+    → Stays (needing finish quit (needs began) middle.state) middle held whole before first
+    → CameOn came stack new (Goes (job.Script text) middle.state) middle kept
+    → CalledOn frame came stack new whole before first
+script_called new kept what now began finish quit frame text came stack middle meets is same on goes =
+    called_then new stack came frame
+    (met_as what now began finish quit (Calls None (job.Script text) middle.state (after frame)) middle meets
+    (ap (λ (m : Met). then_met m now finish quit middle.state) is
+    ∙ ap (λ (go : OnEnding). Calls None (job.Script text) middle.state go) same) on)
+    (called_on new kept came frame (job.Script text) middle.state stack middle goes)

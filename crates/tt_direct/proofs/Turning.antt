@@ -1,15 +1,9 @@
 -- How turns of loops go.
-use Rattle.std.proofs.Common.{◌≡◌, ℕ, ◌+◌, List, [], ◌∷◌, ◌++◌, drop, Option, None, Some, refl, sym, ap, subst, ◌∙◌}
-use Rattle.std.specs.Arc.{arc_value}
+use Rattle.std.proofs.Common.{◌≡◌, ℕ, ◌+◌, IsTrue, List, Option, None, Some, refl, sym, subst, ◌∙◌}
 use Rattle.tt_calls.specs.declared.request.Request.TheVariants.{Pause}
-use Rattle.tt_code.specs.Needs.{Needs}
-use Rattle.tt_evaluation.specs.Frames.{plan_of}
-use Rattle.tt_evaluation.specs.Plans.{Asks, Calls, Ends, Goes}
-use Rattle.tt_frames.specs.Expressions.{needs_then, text_needs}
-use Rattle.tt_frames.specs.Frames.{after, on_got}
+use Rattle.tt_evaluation.specs.Plans.{Asks, Calls, Goes}
+use Rattle.tt_frames.specs.Frames.{after}
 use Rattle.tt_frames.specs.Loops.{bodily, following, looping, next_turn, turning}
-use Rattle.tt_frames.specs.Programs.{steps_of}
-use Rattle.tt_frames.specs.Scripts.{commands}
 use Rattle.tt_frames.specs.Tcl.{plan}
 use Rattle.tt_frames.specs.Units.{past_limit, counts_after_unit, unit_of}
 use Rattle.tt_frames.specs.Vocabulary.{TclPlan, Then, same_ending}
@@ -20,21 +14,16 @@ use Rattle.tt_frames.specs.declared.job.Job.TheVariants as job
 use Rattle.tt_frames.specs.declared.job.Loop.{Loop}
 use Rattle.tt_frames.specs.declared.job.Purpose.TheVariants.{Condition}
 use Rattle.tt_frames.specs.declared.state.Counts.{Counts}
-use Rattle.tt_evaluation.specs.declared.language.Move.TheVariants.{Done}
 use Rattle.tt_frames.specs.declared.state.Unit.TheVariants.{Past, Pauses, Spent}
-use Rattle.tt_kept.specs.Leading.{LeadsTo}
 use Rattle.tt_kept.specs.declared.kept.Kept.{Kept}
 use Rattle.tt_outcomes.specs.Endings.{error_ending}
-use Rattle.tt_outcomes.specs.declared.ending.Ending.{Ending}
-use Rattle.tt_outcomes.specs.declared.ending.Ending.TheVariants.{Fine}
-use Rattle.tt_outcomes.specs.declared.want.Want.TheVariants as want
+use Rattle.tt_outcomes.specs.declared.want.Want.TheVariants.{Ask}
 use Rattle.tt_direct.proofs.Spending.{unit_past, unit_pauses, unit_spent}
-use Rattle.tt_direct.proofs.Remains.{ended_in, framed, goes_over, leads, leads_of, same_next}
-use Rattle.tt_direct.specs.Leading.{GoesOn, LeadsOn, TclMove, TclStack, on_stack, within_calls}
-use Rattle.tt_direct.specs.inside.Coming.{then_came}
-use Rattle.tt_direct.specs.inside.Loops.{InFrame, loop_with, then_turned}
+use Rattle.tt_direct.proofs.Staying.{called_on, came_from, came_then, comes, over, same_plan, stays_then}
+use Rattle.tt_direct.specs.Leading.{Stays, TclStack}
+use Rattle.tt_direct.specs.inside.Coming.{CalledOn, CameOn, is_plain, then_came}
+use Rattle.tt_direct.specs.inside.Loops.{TurnedOn, loop_with}
 use Rattle.tt_direct.specs.declared.came.Came.{Came}
-use Rattle.tt_direct.specs.declared.came.Came.TheVariants as came_as
 use Rattle.tt_direct.specs.declared.loops.Turned.{Turned}
 use Rattle.tt_direct.specs.declared.loops.Turned.TheVariants as turned
 
@@ -49,12 +38,13 @@ next_is test body (Some next) state = refl
 -- a unit and a step are spent
 pub turn_begins : (kept : Kept) (whole : Loop) (stack before : TclStack) → looping whole before.state ≡ next_turn whole before.state
     → unit_of before.state ≡ Spent → stack.state ≡ counts_after_unit before.state → before.steps ≡ stack.steps + 1 → stack.calls.items ≡ before.calls.items
-    → LeadsOn (turning whole) stack kept (looping whole) before kept
+    → Stays (turning whole stack.state) stack kept (looping whole before.state) before kept
 turn_begins kept whole stack before next unit is spends same =
     let middle : TclStack = record before { state = stack.state } in
-    leads_of (Goes (job.Turn whole)) (looping whole) middle before
-    (next ∙ unit_spent (Goes (job.Turn whole)) (same_ending (error_ending past_limit)) before.state stack.state unit is) refl refl
-    (goes_over kept (job.Turn whole) stack middle refl spends same)
+    stays_then
+    (same_plan kept (Goes (job.Turn whole) stack.state) (looping whole before.state) middle before
+    (next ∙ unit_spent (Goes (job.Turn whole)) (same_ending (error_ending past_limit)) before.state stack.state unit is) refl refl)
+    (over kept (job.Turn whole) stack middle refl spends same)
 
 -- ---- the parts of a turn ----
 
@@ -81,65 +71,51 @@ script_follows test body next some state is = subst
     (λ (n : Option (List ℕ)). following (loop_with test body n) state ≡ Calls None (job.Script next) state (after (frames.LoopNext (loop_with test body n))))
     (sym is) refl
 
+-- what comes of a part that is evaluated for a step
+pub part_called : (kept held : Kept) (came : Came) (frame : Frame) (part : Job) (whole middle : TclPlan) (stack mid before : TclStack)
+    → CameOn came stack kept middle mid held → middle ≡ plan part mid.state → whole ≡ Calls None part mid.state (after frame)
+    → before.steps ≡ mid.steps + 1 → mid.calls.items ≡ before.calls.items
+    → CalledOn frame came stack kept whole before held
+part_called kept held came frame part whole middle stack mid before on is calls spent same =
+    subst (λ (p : TclPlan). CalledOn frame came stack kept p before held) (sym calls)
+    (called_on kept held came frame part mid.state stack before
+    (came_from kept held came (Goes part mid.state) (Goes part mid.state) stack (record before { state = mid.state }) before refl refl refl
+    (came_then kept stack came (over held part mid (record before { state = mid.state }) refl spent same)
+    (subst (λ (p : TclPlan). CameOn came stack kept p mid held) is on))))
+
 -- the loop goes on to its next turn
-pub turned_over : {kept held : Kept} (whole : Loop) (other : Then) (stack middle before : TclStack) → stack.state ≡ middle.state
-    → middle.steps ≡ stack.steps + 1 → stack.calls.items ≡ middle.calls.items
-    → LeadsOn (then_turned turned.Goes (Goes (job.Loop whole))) middle kept other before held
-    → LeadsOn (looping whole) stack kept other before held
-turned_over {kept} whole other stack middle before is spends same goes = leads (goes_over kept (job.Loop whole) stack middle is spends same) goes
+pub turned_over : {kept held : Kept} {all : TclPlan} {before : TclStack} (whole : Loop) (stack middle : TclStack)
+    → stack.state ≡ middle.state → middle.steps ≡ stack.steps + 1 → stack.calls.items ≡ middle.calls.items
+    → Stays (Goes (job.Loop whole) middle.state) middle kept all before held
+    → Stays (looping whole stack.state) stack kept all before held
+turned_over {kept} whole stack middle is spends same on = stays_then on (over kept (job.Loop whole) stack middle (sym is) spends same)
 
--- ---- what came of a part ----
+-- ---- by cases ----
 
--- it ended with a result
-pub part_fine : {kept held : Kept} (came : Came) (value : List ℕ) (what : Turned) (go whole : Then) (called : Job) (frame : Frame) (middle : TclPlan)
-    (stack before : TclStack)
-    → came ≡ came_as.Fine value → GoesOn (then_came came stack.state) kept middle held → middle ≡ plan called before.state
-    → whole before.state ≡ Calls None called before.state (after frame) → after frame (Fine value) stack.state ≡ then_turned what go stack.state
-    → before.steps ≡ stack.steps + 1 → stack.calls.items ≡ before.calls.items
-    → LeadsOn (then_turned what go) stack kept whole before held
-part_fine {kept} {held} came value what go whole called frame middle stack before is goes of calls ends spends same =
-    ended_in (Fine value) (then_turned what go) whole frame stack before
-    (framed (same_ending (Fine value)) whole called frame stack before calls
-    (subst (λ (p : TclPlan). GoesOn (same_ending (Fine value) stack.state) kept p held) of
-    (subst (λ (c : Came). GoesOn (then_came c stack.state) kept middle held) is goes)) spends same) ends
+pub turned_goes : (kept held : Kept) (all : TclPlan) (stack before : TclStack) (what : Turned) (go : Then)
+    → what ≡ turned.Goes → TurnedOn what go stack kept all before held → Stays (go stack.state) stack kept all before held
+turned_goes kept held all stack before what go is on = subst (λ (t : Turned). TurnedOn t go stack kept all before held) is on
 
--- it comes to a move
-pub part_moves : {kept held : Kept} (came : Came) (next : TclMove) (whole : Then) (called : Job) (frame : Frame) (middle : TclPlan)
-    (stack before : TclStack)
-    → came ≡ came_as.Moves next → GoesOn (then_came came stack.state) kept middle held → middle ≡ plan called before.state
-    → whole before.state ≡ Calls None called before.state (after frame)
-    → before.steps ≡ stack.steps + 1 → stack.calls.items ≡ before.calls.items
-    → InFrame (plan_of after on_got next) frame stack kept whole before held
-part_moves {kept} {held} came next whole called frame middle stack before is goes of calls spends same =
-    framed (plan_of after on_got next) whole called frame stack before calls
-    (subst (λ (p : TclPlan). GoesOn (plan_of after on_got next stack.state) kept p held) of
-    (subst (λ (c : Came). GoesOn (then_came c stack.state) kept middle held) is goes)) spends same
+pub turned_stops : (kept held : Kept) (all : TclPlan) (stack before : TclStack) (what : Turned) (came : Came) (go : Then)
+    → what ≡ turned.Stops came → TurnedOn what go stack kept all before held → CameOn came stack kept all before held
+turned_stops kept held all stack before what came go is on = subst (λ (t : Turned). TurnedOn t go stack kept all before held) is on
 
--- the move is its ending
-pub part_over : {kept held : Kept} (next : TclMove) (ending : Ending) (go whole : Then) (frame : Frame) (stack before : TclStack)
-    → next ≡ Done ending → after frame ending stack.state ≡ go stack.state
-    → InFrame (plan_of after on_got next) frame stack kept whole before held → LeadsOn go stack kept whole before held
-part_over {kept} {held} next ending go whole frame stack before is ends inside =
-    ended_in ending go whole frame stack before
-    (subst (λ (m : TclMove). InFrame (plan_of after on_got m) frame stack kept whole before held) is inside) ends
+-- ---- a turn that doesn't begin ----
 
--- a part that stops the turn stops it whatever was to follow
-pub stops_so : {kept held : Kept} (what : Turned) (next : TclMove) (go other whole : Then) (stack before : TclStack)
-    → what ≡ turned.Stops next → LeadsOn (then_turned what go) stack kept whole before held
-    → LeadsOn (then_turned (turned.Stops next) other) stack kept whole before held
-stops_so {kept} {held} what next go other whole stack before is goes =
-    subst (λ (t : Turned). LeadsOn (then_turned t go) stack kept whole before held) is goes
+pub turn_past : (kept : Kept) (came : Came) (whole : Loop) (stack before : TclStack) → looping whole before.state ≡ next_turn whole before.state
+    → unit_of before.state ≡ Past → stack.state ≡ counts_after_unit before.state → stack.steps ≡ before.steps → stack.calls.items ≡ before.calls.items
+    → IsTrue (is_plain came) → same_ending (error_ending past_limit) stack.state ≡ then_came came stack.state
+    → CameOn came stack kept (looping whole before.state) before kept
+turn_past kept came whole stack before next unit is steps same plain ends =
+    comes came stack plain
+    (same_plan kept (then_came came stack.state) (looping whole before.state) stack before
+    (next ∙ unit_past (Goes (job.Turn whole)) (same_ending (error_ending past_limit)) before.state stack.state unit is ∙ ends) same steps)
 
-pub goes_so : {kept held : Kept} (what : Turned) (go whole : Then) (stack before : TclStack)
-    → what ≡ turned.Goes → LeadsOn (then_turned what go) stack kept whole before held → LeadsOn go stack kept whole before held
-goes_so {kept} {held} what go whole stack before is goes =
-    subst (λ (t : Turned). LeadsOn (then_turned t go) stack kept whole before held) is goes
-
--- a loop of which the parts were made goes by their turns
-pub looped : {kept held : Kept} (next other : TclMove) (made whole : Loop) (stack middle before : TclStack)
-    → next ≡ other → made ≡ whole → middle.state ≡ before.state → middle.calls.items ≡ before.calls.items → middle.steps ≡ before.steps
-    → LeadsOn (plan_of after on_got next) stack kept (looping made) middle held → LeadsOn (plan_of after on_got other) stack kept (looping whole) before held
-looped {kept} {held} next other made whole stack middle before is same here calls steps goes =
-    leads_of (looping made) (looping whole) middle before
-    (ap (looping whole) (sym here) ∙ ap (λ (l : Loop). looping l middle.state) (sym same)) calls steps
-    (subst (λ (m : TclMove). LeadsTo (on_stack (plan_of after on_got m) stack) kept (on_stack (looping made) middle) held) is goes)
+pub turn_pauses : (kept : Kept) (came : Came) (whole : Loop) (stack before : TclStack) → looping whole before.state ≡ next_turn whole before.state
+    → unit_of before.state ≡ Pauses → stack.state ≡ counts_after_unit before.state → stack.steps ≡ before.steps → stack.calls.items ≡ before.calls.items
+    → IsTrue (is_plain came) → Asks (Ask Pause) stack.state (λ got. Goes (job.Turn whole)) ≡ then_came came stack.state
+    → CameOn came stack kept (looping whole before.state) before kept
+turn_pauses kept came whole stack before next unit is steps same plain asks =
+    comes came stack plain
+    (same_plan kept (then_came came stack.state) (looping whole before.state) stack before
+    (next ∙ unit_pauses (Goes (job.Turn whole)) (same_ending (error_ending past_limit)) before.state stack.state unit is ∙ asks) same steps)

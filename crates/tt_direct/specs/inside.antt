@@ -1,3 +1,4 @@
+pub mod Choices
 pub mod Coming
 pub mod Needing
 pub mod Commands

@@ -1,21 +1,24 @@
-//! Commands of a script: their words, and what these do (Tcl(n), rules 1, 2 and 7 to 11).
-ghost use Rattle.std.specs.Prelude.{◌≡◌, ◌∷◌, [], IfOk};
-ghost use Rattle.tt_direct.specs.Leading.{GoesOn};
-ghost use Rattle.tt_direct.specs.inside.Coming.{then_came};
-ghost use Rattle.tt_direct.specs.inside.Commands.{begun_command, then_done, then_stop};
-ghost use Rattle.tt_frames.specs.Frames.{command_ended, command_given, command_needs};
+//! Commands of a script: what their words do, and how they end (Tcl(n), rules 1, 2 and 7 to 11).
+ghost use Rattle.std.specs.Prelude.{◌≡◌, ◌∷◌, [], IfOk, IfSome, IsTrue, length};
+ghost use Rattle.tt_direct.specs.Leading.{GoesOn, TclStack};
+ghost use Rattle.tt_direct.specs.inside.Coming.{CameOn};
+ghost use Rattle.tt_direct.specs.inside.Commands.{DoneOn, begun_command, leaves_none, then_done, then_ran, then_spent};
+ghost use Rattle.tt_frames.specs.Frames.{command_ended};
 ghost use Rattle.tt_frames.specs.Scripts.{command_then, command_of_words};
+ghost use Rattle.tt_frames.specs.Vocabulary.{OnEnding, TclPlan};
 ghost use Rattle.tt_frames.specs.declared.state.Counts.{Counts};
+ghost use Rattle.tt_kept.specs.declared.kept.Kept.{Kept};
+ghost use Rattle.tt_direct.specs.declared.commands.Done.TheVariants as dones;
 
 use crate::came::Came;
 use crate::jobs::Next;
-use crate::needs::{Met, meet};
+use crate::leaving::leave;
 use std::alloc::Global;
 use tt_calls::{Boxed, Request};
-use tt_frames::{Asking, CommandFrame, Frame, Got, Job, State, Unit, Want};
+use tt_frames::{Asking, CommandFrame, Frame, Got, Job, Stack, State, Unit, Want};
 use tt_kept::Kept;
 use tt_outcomes::Ending;
-use tt_text::{NoMemory, Text};
+use tt_text::NoMemory;
 use tt_value::{Value, Values};
 
 /// What comes of a command.
@@ -34,126 +37,75 @@ pub(crate) enum Stop {
     Ended(Ending),
     /// There is a pause before it.
     Pauses,
-    /// Its words need the result of this script.
-    Needs(Text),
+    /// Its words need the result of a script, which came to this move.
+    Needs(Boxed<Next>),
+    /// It calls a job, which came to this move.
+    Calls(Boxed<Next>),
+}
+
+/// What the words of a command come to.
+#[derive(Debug, Drop)]
+pub(crate) enum AfterWords {
+    /// The command ended so.
+    Ended(Ending),
     /// It calls this job.
     Calls(Job),
 }
 
-/// A unit is spent for the command of the frame, and it is evaluated.
+/// A unit is spent for the command of the frame. If the command doesn't go on to its words, the answer says why.
 ///
 /// `NoMemory` if memory is refused.
-pub(crate) fn command(
+pub(crate) fn spend(
     alloc: Global,
-    kept: &mut Kept,
     state: &mut State,
-    frame: &mut CommandFrame,
-) -> Result<Done, NoMemory>
-    ensures runs { IfOk result (λ done. GoesOn (then_done done frame.new state.new) kept.new
-        (begun_command frame.old state.old) kept.old) }
+    frame: &CommandFrame,
+) -> Result<Option<Done>, NoMemory>
+    ensures spent { IfOk result (λ done.
+        begun_command frame.now state.old ≡ then_spent done frame.now state.new) }
+    ensures none { IfOk result (λ done. IfSome done (λ done. IsTrue (leaves_none done))) }
 {
     match state.spend() {
         Unit::Past => {
             let ending = Ending::failed_with(alloc, b"unit limit reached")?;
             let done = end(frame, ending)?;
-            Ok(done)
+            Ok(Some(done))
         }
-        Unit::Pauses => Ok(Done::Stops(Stop::Pauses)),
-        Unit::Spent => {
-            let done = words(alloc, kept, frame)?;
-            Ok(done)
-        }
+        Unit::Pauses => Ok(Some(Done::Stops(Stop::Pauses))),
+        Unit::Spent => Ok(None),
     }
 }
 
-/// The command of the frame goes on to its words, and they are run.
+/// The words of a command are run.
 ///
 /// `NoMemory` if memory is refused.
-pub(crate) fn words(
+pub(crate) fn run_words(
     alloc: Global,
     kept: &mut Kept,
-    frame: &mut CommandFrame,
-) -> Result<Done, NoMemory>
-    ensures runs { IfOk result (λ done. (state : Counts) → GoesOn (then_done done frame.new state) kept.new
-        (command_needs frame.old state) kept.old) }
-{
-    match meet(alloc, kept, &mut frame.running)? {
-        Met::Value(word) => {
-            let words = one(alloc, word)?;
-            let done = run(alloc, kept, frame, words)?;
-            Ok(done)
-        }
-        Met::Values(words) => {
-            let done = run(alloc, kept, frame, Values::from(words))?;
-            Ok(done)
-        }
-        Met::Quit(ending) => {
-            let done = end(frame, ending)?;
-            Ok(done)
-        }
-        Met::Script(text) => Ok(Done::Stops(Stop::Needs(text))),
-    }
-}
-
-/// The command of the frame is given what its words need.
-///
-/// `NoMemory` if memory is refused.
-pub(crate) fn give(
-    alloc: Global,
-    kept: &mut Kept,
-    frame: &mut CommandFrame,
-    ending: Ending,
-) -> Result<Done, NoMemory>
-    ensures runs { IfOk result (λ done. (state : Counts) → GoesOn (then_done done frame.new state) kept.new
-        (command_given frame.old ending state) kept.old) }
-{
-    match ending {
-        Ending::Fine(value) => {
-            frame.running.give(value)?;
-            let done = words(alloc, kept, frame)?;
-            Ok(done)
-        }
-        ending => {
-            let done = end(frame, ending)?;
-            Ok(done)
-        }
-    }
-}
-
-// The words of the command are run.
-fn run(
-    alloc: Global,
-    kept: &mut Kept,
-    frame: &CommandFrame,
     words: Values,
-) -> Result<Done, NoMemory>
-    ensures { IfOk result (λ done. (state : Counts) → GoesOn (then_done done frame.now state) kept.new
-        (command_of_words (command_ended frame.now) words state) kept.old) }
+) -> Result<AfterWords, NoMemory>
+    ensures runs { IfOk result (λ ran. (go : OnEnding) (state : Counts)
+        → GoesOn (then_ran ran go state) kept.new (command_of_words go words state) kept.old) }
 {
     let got = kept.answer(alloc, Want::RunWords { words })?;
-    let done = ran(alloc, frame, got)?;
-    Ok(done)
+    let ran = ran(alloc, got)?;
+    Ok(ran)
 }
 
-/// What the words of the command came to.
+/// What the words of a command came to.
 ///
 /// `NoMemory` if memory is refused.
-pub(crate) fn ran(alloc: Global, frame: &CommandFrame, got: Got) -> Result<Done, NoMemory>
-    ensures ran { IfOk result (λ done. (state : Counts)
-        → command_then (command_ended frame.now) got state ≡ then_done done frame.now state) }
+pub(crate) fn ran(alloc: Global, got: Got) -> Result<AfterWords, NoMemory>
+    ensures ran { IfOk result (λ ran. (go : OnEnding) (state : Counts)
+        → command_then go got state ≡ then_ran ran go state) }
 {
     match got {
         Got::Value(outcome) => {
             let ending = Ending::of_value(alloc, outcome)?;
-            let done = end(frame, ending)?;
-            Ok(done)
+            Ok(AfterWords::Ended(ending))
         }
-        Got::Own { words } => Ok(Done::Stops(Stop::Calls(Job::Own(words)))),
-        Got::RunBody { body, text } => Ok(Done::Stops(Stop::Calls(Job::Nested(body, text)))),
-        Got::Reply(_) => {
-            let done = end(frame, Ending::nothing(alloc))?;
-            Ok(done)
-        }
+        Got::Own { words } => Ok(AfterWords::Calls(Job::Own(words))),
+        Got::RunBody { body, text } => Ok(AfterWords::Calls(Job::Nested(body, text))),
+        Got::Reply(_) => Ok(AfterWords::Ended(Ending::nothing(alloc))),
     }
 }
 
@@ -163,6 +115,7 @@ pub(crate) fn ran(alloc: Global, frame: &CommandFrame, got: Got) -> Result<Done,
 pub(crate) fn end(frame: &CommandFrame, ending: Ending) -> Result<Done, NoMemory>
     ensures ended { IfOk result (λ done. (state : Counts)
         → command_ended frame.now ending state ≡ then_done done frame.now state) }
+    ensures none { IfOk result (λ done. IsTrue (leaves_none done)) }
 {
     match ending {
         Ending::Fine(value) => Ok(Done::Fine(value)),
@@ -173,36 +126,50 @@ pub(crate) fn end(frame: &CommandFrame, ending: Ending) -> Result<Done, NoMemory
     }
 }
 
-fn one(alloc: Global, word: Value) -> Result<Values, NoMemory>
-    ensures { IfOk result (λ words. words ≡ word ∷ []) }
+/// One word.
+///
+/// `NoMemory` if memory is refused.
+pub(crate) fn one(alloc: Global, word: Value) -> Result<Values, NoMemory>
+    ensures one { IfOk result (λ words. words ≡ word ∷ []) }
 {
     let mut words = Values::new(alloc);
     words.push(word)?;
     Ok(words)
 }
 
-/// The move that comes if the command of the frame goes no further.
+/// The command of the frame goes no further here, and neither does its script. There were so many calls before it.
 ///
 /// `NoMemory` if memory is refused.
-pub(crate) fn stopped(alloc: Global, frame: CommandFrame, stop: Stop) -> Result<Came, NoMemory>
-    ensures stopped { IfOk result (λ came. (state : Counts)
-        → then_stop stop frame state ≡ then_came came state) }
+pub(crate) fn stopped(
+    alloc: Global,
+    stack: &mut Stack,
+    place: usize,
+    frame: CommandFrame,
+    stop: Stop,
+) -> Result<Came, NoMemory>
+    ensures stopped { IfOk result (λ came. (kept held : Kept) (whole : TclPlan) (before : TclStack)
+        → length before.calls.items ≡ place
+        → DoneOn (dones.Stops stop) frame stack.old kept whole before held
+        → CameOn came stack.new kept whole before held) }
 {
     match stop {
-        Stop::Ended(ending) => Came::ended(alloc, ending),
+        Stop::Ended(ending) => {
+            let came = Came::ended(alloc, ending)?;
+            Ok(came)
+        }
         Stop::Pauses => {
             let request = Boxed::new(alloc, Request::Pause)?;
-            Came::moves(
-                alloc,
-                Next::Ask(Want::Ask { request }, Asking::Paused(frame)),
-            )
+            let next = Next::Ask(Want::Ask { request }, Asking::Paused(frame));
+            let came = Came::moves(alloc, next)?;
+            Ok(came)
         }
-        Stop::Needs(text) => {
-            Came::moves(
-                alloc,
-                Next::Call(None, Job::Script(text), Frame::Needs(frame)),
-            )
+        Stop::Needs(next) => {
+            let came = leave(stack, place, Frame::Needs(frame), next)?;
+            Ok(came)
         }
-        Stop::Calls(job) => Came::moves(alloc, Next::Call(None, job, Frame::Does(frame))),
+        Stop::Calls(next) => {
+            let came = leave(stack, place, Frame::Does(frame), next)?;
+            Ok(came)
+        }
     }
 }

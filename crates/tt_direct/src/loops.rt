@@ -1,30 +1,24 @@
-//! Turns of loops (while(n), for(n)).
-ghost use Rattle.std.specs.Prelude.{◌≡◌, ◌++◌, ◌∷◌, [], IfOk, OnOk, bytes_eq, codes};
-ghost use Rattle.tt_direct.specs.Leading.{LeadsOn, TclStack};
-ghost use Rattle.tt_direct.specs.inside.Loops.{InFrame, loop_of, plain_call, then_turned};
-ghost use Rattle.tt_evaluation.specs.Frames.{plan_of};
+//! Turns of loops: how they begin, and what follows each of their parts (while(n), for(n)).
+ghost use Rattle.std.specs.Prelude.{◌≡◌, IfOk, bytes_eq, codes, length};
+ghost use Rattle.tt_direct.specs.Leading.{Stays, TclStack};
+ghost use Rattle.tt_direct.specs.inside.Coming.{CalledOn};
+ghost use Rattle.tt_direct.specs.inside.Loops.{TurnedOn, loop_of};
 ghost use Rattle.tt_evaluation.specs.Plans.{Goes};
-ghost use Rattle.tt_frames.specs.Frames.{after, on_got};
+ghost use Rattle.tt_frames.specs.Loops as plans;
 ghost use Rattle.tt_frames.specs.Loops.{bodily, following, looping, turning};
-ghost use Rattle.tt_frames.specs.Vocabulary.{Then};
+ghost use Rattle.tt_frames.specs.Vocabulary.{TclPlan, Then};
 ghost use Rattle.tt_frames.specs.declared.job.Frame.TheVariants as frames;
 ghost use Rattle.tt_frames.specs.declared.job.Job.TheVariants as jobs;
 ghost use Rattle.tt_frames.specs.declared.job.Loop.{Loop};
-ghost use Rattle.tt_frames.specs.declared.state.Counts.{Counts};
 ghost use Rattle.tt_kept.specs.declared.kept.Kept.{Kept};
-ghost use Rattle.tt_outcomes.specs.declared.ending.Ending.TheVariants as endings;
 
 use crate::came::Came;
-use crate::expressions::compute;
 use crate::jobs::Next;
+use crate::leaving::leave;
 use crate::parts::Parts;
-use crate::scripts::script;
 use std::alloc::Global;
 use tt_calls::{Boxed, Request};
-use tt_code::Running;
-use tt_evaluation::Pending;
-use tt_frames::{Asking, Frame, Job, Purpose, Stack, Unit, Want};
-use tt_kept::Kept;
+use tt_frames::{Asking, Frame, Job, Stack, Unit, Want};
 use tt_outcomes::Ending;
 use tt_text::NoMemory;
 use tt_value::Value;
@@ -34,85 +28,29 @@ use tt_value::Value;
 pub(crate) enum Turned {
     /// The loop goes on.
     Goes,
-    /// It goes no further here, and this is the move.
-    Stops(Boxed<Next>),
+    /// It goes no further here, and this came of it.
+    Stops(Came),
 }
 
-impl Turned {
-    /// It goes no further here, and this is the move.
-    ///
-    /// `NoMemory` if memory is refused.
-    fn stops(alloc: Global, next: Next) -> Result<Self, NoMemory>
-        ensures stops { IfOk result (λ turned. (go : Then) → then_turned turned go ≡ plan_of after on_got next) }
-    {
-        Ok(Turned::Stops(Boxed::new(alloc, next)?))
-    }
-}
-
-/// Evaluates a loop, up to its end or to where it goes no further.
+/// A unit is spent for a turn, and a step for going over into it.
 ///
 /// `NoMemory` if memory is refused, or all steps are taken.
-pub(crate) fn turns(
-    alloc: Global,
-    kept: &mut Kept,
-    stack: &mut Stack,
-    parts: &Parts,
-) -> Result<Boxed<Next>, NoMemory>
-    ensures runs { IfOk result (λ next. LeadsOn (plan_of after on_got next) stack.new kept.new
-        (looping (loop_of parts.now)) stack.old kept.old) }
-{
-    'turns: for _ in 0..u64::MAX {
-        match turn(alloc, kept, stack, parts)? {
-            Turned::Goes => {}
-            Turned::Stops(next) => return Ok(next),
-        }
-    }
-    Err(NoMemory)
-}
-
-// One turn.
-fn turn(
-    alloc: Global,
-    kept: &mut Kept,
-    stack: &mut Stack,
-    parts: &Parts,
-) -> Result<Turned, NoMemory>
-    ensures { IfOk result (λ turned. LeadsOn (then_turned turned (looping (loop_of parts.now))) stack.new kept.new
-        (looping (loop_of parts.now)) stack.old kept.old) }
-{
-    match begin(alloc, stack, parts)? {
-        Turned::Goes => {}
-        Turned::Stops(next) => return Ok(Turned::Stops(next)),
-    }
-    match test(alloc, kept, stack, parts)? {
-        Turned::Goes => {}
-        Turned::Stops(next) => return Ok(Turned::Stops(next)),
-    }
-    match run_body(alloc, kept, stack, parts)? {
-        Turned::Goes => {}
-        Turned::Stops(next) => return Ok(Turned::Stops(next)),
-    }
-    let turned = follow(alloc, kept, stack, parts)?;
-    Ok(turned)
-}
-
-// A unit is spent for a turn, and a step for going over into it.
-fn begin(alloc: Global, stack: &mut Stack, parts: &Parts) -> Result<Turned, NoMemory>
-    ensures { IfOk result (λ turned. (kept : Kept)
-        → LeadsOn (then_turned turned (turning (loop_of parts.now))) stack.new kept
-        (looping (loop_of parts.now)) stack.old kept) }
+pub(crate) fn begin(alloc: Global, stack: &mut Stack, parts: &Parts) -> Result<Turned, NoMemory>
+    ensures begun { IfOk result (λ turned. (kept : Kept)
+        → TurnedOn turned (turning (loop_of parts.now)) stack.new kept
+        (looping (loop_of parts.now) stack.old.state) stack.old kept) }
 {
     match stack.state.spend() {
         Unit::Past => {
             let ending = Ending::failed_with(alloc, b"unit limit reached")?;
-            let turned = Turned::stops(alloc, Next::Done(ending))?;
-            Ok(turned)
+            let came = Came::ended(alloc, ending)?;
+            Ok(Turned::Stops(came))
         }
         Unit::Pauses => {
             let request = Boxed::new(alloc, Request::Pause)?;
             let asking = Asking::Begins(Job::Turn(parts.whole(alloc)?));
-            let turned = Turned::stops(alloc, Next::Ask(Want::Ask { request }, asking))?;
-            Ok(turned)
+            let came = Came::moves(alloc, Next::Ask(Want::Ask { request }, asking))?;
+            Ok(Turned::Stops(came))
         }
         Unit::Spent => {
             stack.steps = stack.steps.checked_sub(1).ok_or(NoMemory)?;
@@ -121,127 +59,44 @@ fn begin(alloc: Global, stack: &mut Stack, parts: &Parts) -> Result<Turned, NoMe
     }
 }
 
-// The test of a turn.
-fn test(
+/// What follows the test of a turn. There were so many calls before it.
+///
+/// `NoMemory` if memory is refused.
+pub(crate) fn after_test(
     alloc: Global,
-    kept: &mut Kept,
     stack: &mut Stack,
+    place: usize,
     parts: &Parts,
+    came: Came,
 ) -> Result<Turned, NoMemory>
-    ensures { IfOk result (λ turned. LeadsOn (then_turned turned (bodily (loop_of parts.now))) stack.new kept.new
-        (turning (loop_of parts.now)) stack.old kept.old) }
+    ensures tested { IfOk result (λ turned. (kept held : Kept) (whole : TclPlan) (before : TclStack)
+        → length before.calls.items ≡ place
+        → CalledOn (frames.Test (loop_of parts.now)) came stack.old kept whole before held
+        → TurnedOn turned (bodily (loop_of parts.now)) stack.new kept whole before held) }
 {
-    let code = Running::new(alloc, parts.test.code()?);
-    let came = compute(alloc, kept, Purpose::Condition, code)?;
-    stack.steps = stack.steps.checked_sub(1).ok_or(NoMemory)?;
     match came {
         Came::Fine(value) => {
-            let turned = tested(alloc, &value)?;
-            Ok(turned)
+            let holds = is_true(alloc, &value)?;
+            if holds {
+                Ok(Turned::Goes)
+            } else {
+                Ok(Turned::Stops(Came::Fine(Value::new(alloc))))
+            }
         }
+        Came::Ends(ending) => Ok(Turned::Stops(Came::Ends(ending))),
         Came::Moves(next) => {
-            let turned = after_test(alloc, stack, parts, next.into_inner())?;
-            Ok(turned)
+            let frame = Frame::Test(parts.whole(alloc)?);
+            let came = leave(stack, place, frame, next)?;
+            Ok(Turned::Stops(came))
         }
     }
 }
 
-// The body of a turn.
-fn run_body(
-    alloc: Global,
-    kept: &mut Kept,
-    stack: &mut Stack,
-    parts: &Parts,
-) -> Result<Turned, NoMemory>
-    ensures { IfOk result (λ turned. LeadsOn (then_turned turned (following (loop_of parts.now))) stack.new kept.new
-        (bodily (loop_of parts.now)) stack.old kept.old) }
-{
-    let came = script(alloc, kept, &mut stack.state, parts.body.clone()?)?;
-    stack.steps = stack.steps.checked_sub(1).ok_or(NoMemory)?;
-    match came {
-        Came::Fine(_) => Ok(Turned::Goes),
-        Came::Moves(next) => {
-            let turned = after_body(alloc, stack, parts, next.into_inner())?;
-            Ok(turned)
-        }
-    }
-}
-
-// What follows the body, up to the next turn.
-fn follow(
-    alloc: Global,
-    kept: &mut Kept,
-    stack: &mut Stack,
-    parts: &Parts,
-) -> Result<Turned, NoMemory>
-    ensures { IfOk result (λ turned. LeadsOn (then_turned turned (looping (loop_of parts.now))) stack.new kept.new
-        (following (loop_of parts.now)) stack.old kept.old) }
-{
-    match run_next(alloc, kept, stack, parts)? {
-        Turned::Goes => {
-            stack.steps = stack.steps.checked_sub(1).ok_or(NoMemory)?;
-            Ok(Turned::Goes)
-        }
-        Turned::Stops(next) => Ok(Turned::Stops(next)),
-    }
-}
-
-// The script after the body, if there is one (for(n)).
-fn run_next(
-    alloc: Global,
-    kept: &mut Kept,
-    stack: &mut Stack,
-    parts: &Parts,
-) -> Result<Turned, NoMemory>
-    ensures { IfOk result (λ turned.
-        LeadsOn (then_turned turned (Goes (jobs.Loop (loop_of parts.now)))) stack.new kept.new
-        (following (loop_of parts.now)) stack.old kept.old) }
-{
-    let Some(program) = &parts.next else {
-        return Ok(Turned::Goes);
-    };
-    let came = script(alloc, kept, &mut stack.state, program.clone()?)?;
-    stack.steps = stack.steps.checked_sub(1).ok_or(NoMemory)?;
-    match came {
-        Came::Fine(_) => Ok(Turned::Goes),
-        Came::Moves(next) => {
-            let turned = after_next(alloc, stack, parts, next.into_inner())?;
-            Ok(turned)
-        }
-    }
-}
-
-// A part of the turn goes no further here, and the frame goes on with its ending.
-fn leave(alloc: Global, stack: &mut Stack, frame: Frame, next: Next) -> Result<Turned, NoMemory>
-    ensures stops { IfOk result (λ turned. (go : Then) → then_turned turned go ≡ plan_of after on_got next) }
-    ensures calls { OnOk result (stack.new.calls.items ≡ stack.old.calls.items ++ plain_call frame ∷ []) }
-    ensures state { stack.new.state ≡ stack.old.state }
-    ensures steps { stack.new.steps ≡ stack.old.steps }
-{
-    stack.calls.push(Pending {
-        frame,
-        serves: None,
-    })?;
-    let turned = Turned::stops(alloc, next)?;
-    Ok(turned)
-}
-
-// The test came to this value.
-fn tested(alloc: Global, value: &Value) -> Result<Turned, NoMemory>
-    ensures { IfOk result (λ turned. (whole : Loop) (state : Counts)
-        → after (frames.Test whole) (endings.Fine value.now) state ≡ then_turned turned (bodily whole) state) }
-{
-    if is_true(alloc, value)? {
-        Ok(Turned::Goes)
-    } else {
-        let turned = Turned::stops(alloc, Next::Done(Ending::nothing(alloc)))?;
-        Ok(turned)
-    }
-}
-
-// Whether the value of a condition is 1.
-fn is_true(alloc: Global, value: &Value) -> Result<bool, NoMemory>
-    ensures { IfOk result (λ truth. truth ≡ bytes_eq value.now (codes "1")) }
+/// Whether the value of a condition is 1.
+///
+/// `NoMemory` if memory is refused.
+pub(crate) fn is_true(alloc: Global, value: &Value) -> Result<bool, NoMemory>
+    ensures holds { IfOk result (λ truth. truth ≡ bytes_eq value.now (codes "1")) }
 {
     match value.number() {
         Some(1) => Ok(true),
@@ -250,92 +105,110 @@ fn is_true(alloc: Global, value: &Value) -> Result<bool, NoMemory>
     }
 }
 
-// The test came to this move.
-fn after_test(
+/// What follows the body of a turn. There were so many calls before it.
+///
+/// `NoMemory` if memory is refused.
+pub(crate) fn after_body(
     alloc: Global,
     stack: &mut Stack,
+    place: usize,
     parts: &Parts,
-    next: Next,
+    came: Came,
 ) -> Result<Turned, NoMemory>
-    ensures { IfOk result (λ turned. (kept held : Kept) (whole : Then) (before : TclStack)
-        → InFrame (plan_of after on_got next) (frames.Test (loop_of parts.now)) stack.old kept whole before held
-        → LeadsOn (then_turned turned (bodily (loop_of parts.now))) stack.new kept whole before held) }
+    ensures done { IfOk result (λ turned. (kept held : Kept) (whole : TclPlan) (before : TclStack)
+        → length before.calls.items ≡ place
+        → CalledOn (frames.LoopBody (loop_of parts.now)) came stack.old kept whole before held
+        → TurnedOn turned (following (loop_of parts.now)) stack.new kept whole before held) }
 {
-    match next {
-        Next::Done(ending) => match ending {
-            Ending::Fine(value) => {
-                let turned = tested(alloc, &value)?;
-                Ok(turned)
-            }
-            ending => {
-                let turned = Turned::stops(alloc, Next::Done(ending))?;
-                Ok(turned)
-            }
-        },
-        next => {
-            let turned = leave(alloc, stack, Frame::Test(parts.whole(alloc)?), next)?;
+    match came {
+        Came::Fine(_) => Ok(Turned::Goes),
+        Came::Ends(ending) => {
+            let turned = body_ended(alloc, ending.into_inner())?;
             Ok(turned)
+        }
+        Came::Moves(next) => {
+            let frame = Frame::LoopBody(parts.whole(alloc)?);
+            let came = leave(stack, place, frame, next)?;
+            Ok(Turned::Stops(came))
         }
     }
 }
 
-// The body came to this move.
-fn after_body(
-    alloc: Global,
-    stack: &mut Stack,
-    parts: &Parts,
-    next: Next,
-) -> Result<Turned, NoMemory>
-    ensures { IfOk result (λ turned. (kept held : Kept) (whole : Then) (before : TclStack)
-        → InFrame (plan_of after on_got next) (frames.LoopBody (loop_of parts.now)) stack.old kept whole before held
-        → LeadsOn (then_turned turned (following (loop_of parts.now))) stack.new kept whole before held) }
+// The body ended so.
+fn body_ended(alloc: Global, ending: Ending) -> Result<Turned, NoMemory>
+    ensures { IfOk result (λ turned. (again : Then) (kept held : Kept) (whole : TclPlan) (stack before : TclStack)
+        → Stays (plans.after_body again ending stack.state) stack kept whole before held
+        → TurnedOn turned again stack kept whole before held) }
 {
-    match next {
-        Next::Done(ending) => match ending {
-            Ending::Fine(_) => Ok(Turned::Goes),
-            Ending::Continued(..) => Ok(Turned::Goes),
-            Ending::Broke(..) => {
-                let turned = Turned::stops(alloc, Next::Done(Ending::nothing(alloc)))?;
-                Ok(turned)
-            }
-            ending => {
-                let turned = Turned::stops(alloc, Next::Done(ending))?;
-                Ok(turned)
-            }
-        },
-        next => {
-            let turned = leave(alloc, stack, Frame::LoopBody(parts.whole(alloc)?), next)?;
-            Ok(turned)
+    match ending {
+        Ending::Fine(_) => Ok(Turned::Goes),
+        Ending::Continued(..) => Ok(Turned::Goes),
+        Ending::Broke(..) => Ok(Turned::Stops(Came::Fine(Value::new(alloc)))),
+        ending => {
+            let came = Came::ended(alloc, ending)?;
+            Ok(Turned::Stops(came))
         }
     }
 }
 
-// The script after the body came to this move (for(n)).
-fn after_next(
+/// What follows the script after a body (for(n)). There were so many calls before it.
+///
+/// `NoMemory` if memory is refused.
+pub(crate) fn after_next(
     alloc: Global,
     stack: &mut Stack,
+    place: usize,
     parts: &Parts,
-    next: Next,
+    came: Came,
 ) -> Result<Turned, NoMemory>
-    ensures { IfOk result (λ turned. (kept held : Kept) (whole : Then) (before : TclStack)
-        → InFrame (plan_of after on_got next) (frames.LoopNext (loop_of parts.now)) stack.old kept whole before held
-        → LeadsOn (then_turned turned (Goes (jobs.Loop (loop_of parts.now)))) stack.new kept whole before held) }
+    ensures done { IfOk result (λ turned. (kept held : Kept) (whole : TclPlan) (before : TclStack)
+        → length before.calls.items ≡ place
+        → CalledOn (frames.LoopNext (loop_of parts.now)) came stack.old kept whole before held
+        → TurnedOn turned (Goes (jobs.Loop (loop_of parts.now))) stack.new kept whole before held) }
 {
-    match next {
-        Next::Done(ending) => match ending {
-            Ending::Fine(_) => Ok(Turned::Goes),
-            Ending::Broke(..) => {
-                let turned = Turned::stops(alloc, Next::Done(Ending::nothing(alloc)))?;
-                Ok(turned)
-            }
-            ending => {
-                let turned = Turned::stops(alloc, Next::Done(ending))?;
-                Ok(turned)
-            }
-        },
-        next => {
-            let turned = leave(alloc, stack, Frame::LoopNext(parts.whole(alloc)?), next)?;
+    match came {
+        Came::Fine(_) => Ok(Turned::Goes),
+        Came::Ends(ending) => {
+            let turned = next_ended(alloc, ending.into_inner())?;
             Ok(turned)
         }
+        Came::Moves(next) => {
+            let frame = Frame::LoopNext(parts.whole(alloc)?);
+            let came = leave(stack, place, frame, next)?;
+            Ok(Turned::Stops(came))
+        }
+    }
+}
+
+// The script after a body ended so (for(n)).
+fn next_ended(alloc: Global, ending: Ending) -> Result<Turned, NoMemory>
+    ensures { IfOk result (λ turned. (again : Then) (kept held : Kept) (whole : TclPlan) (stack before : TclStack)
+        → Stays (plans.after_next again ending stack.state) stack kept whole before held
+        → TurnedOn turned again stack kept whole before held) }
+{
+    match ending {
+        Ending::Fine(_) => Ok(Turned::Goes),
+        Ending::Broke(..) => Ok(Turned::Stops(Came::Fine(Value::new(alloc)))),
+        ending => {
+            let came = Came::ended(alloc, ending)?;
+            Ok(Turned::Stops(came))
+        }
+    }
+}
+
+/// The loop goes over into its next turn, for a step, unless it goes no further.
+///
+/// `NoMemory` if all steps are taken.
+pub(crate) fn pass_over(stack: &mut Stack, turned: Turned) -> Result<Turned, NoMemory>
+    ensures over { IfOk result (λ turn. (kept held : Kept) (whole : Loop) (all : TclPlan) (before : TclStack)
+        → TurnedOn turned (Goes (jobs.Loop whole)) stack.old kept all before held
+        → TurnedOn turn (looping whole) stack.new kept all before held) }
+{
+    match turned {
+        Turned::Goes => {
+            stack.steps = stack.steps.checked_sub(1).ok_or(NoMemory)?;
+            Ok(Turned::Goes)
+        }
+        Turned::Stops(came) => Ok(Turned::Stops(came)),
     }
 }

@@ -1,116 +1,64 @@
-//! Scripts (Tcl(n)).
-ghost use Rattle.std.specs.Prelude.{◌≡◌, ◌+◌, [], IfOk, drop};
+//! Scripts, from one command to the next (Tcl(n)).
+ghost use Rattle.std.specs.Prelude.{◌≡◌, [], IfOk, IfSome, IsTrue, drop};
 ghost use Rattle.std.specs.Arc.{arc_value};
-ghost use Rattle.tt_direct.specs.Leading.{GoesOn};
-ghost use Rattle.tt_direct.specs.inside.Coming.{then_came};
-ghost use Rattle.tt_direct.specs.inside.Commands.{begun_command, then_done, then_passed};
+ghost use Rattle.tt_direct.specs.inside.Coming.{is_plain};
+ghost use Rattle.tt_direct.specs.inside.Commands.{commands_after, is_plain_first, then_first, then_passed};
 ghost use Rattle.tt_frames.specs.Programs.{steps_of};
 ghost use Rattle.tt_frames.specs.Scripts.{commands};
 ghost use Rattle.tt_frames.specs.declared.state.Counts.{Counts};
 
 use crate::came::Came;
-use crate::commands::{Done, command, stopped};
 use std::alloc::Global;
 use std::sync::Arc;
 use tt_code::Running;
-use tt_frames::{CommandFrame, Program, State, Step};
-use tt_kept::Kept;
+use tt_frames::{CommandFrame, Program, Step};
 use tt_text::NoMemory;
 use tt_value::Value;
 
-/// Evaluates a script from its first command on.
+/// How a script begins.
+#[derive(Debug, Drop)]
+pub(crate) enum Opening {
+    /// With this command.
+    Does(CommandFrame),
+    /// It is over.
+    Over(Came),
+}
+
+/// The first command of a script, if it has one.
 ///
 /// `NoMemory` if memory is refused.
-pub(crate) fn script(
-    alloc: Global,
-    kept: &mut Kept,
-    state: &mut State,
-    program: Arc<Program>,
-) -> Result<Came, NoMemory>
-    ensures runs { IfOk result (λ came. GoesOn (then_came came state.new) kept.new
-        (commands (arc_value program) (drop 0 (steps_of (arc_value program))) [] state.old) kept.old) }
+pub(crate) fn first(alloc: Global, program: Arc<Program>) -> Result<Opening, NoMemory>
+    ensures first { IfOk result (λ first. (state : Counts)
+        → commands (arc_value program) (drop 0 (steps_of (arc_value program))) [] state ≡ then_first first state) }
+    ensures plain { IfOk result (λ first. IsTrue (is_plain_first first)) }
 {
     let code = match program.step(0) {
-        None => return Ok(Came::Fine(Value::new(alloc))),
+        None => return Ok(Opening::Over(Came::Fine(Value::new(alloc)))),
         Some(Step::Wrong(fault, start)) => {
             let ending = program.unread(alloc, *fault, *start)?;
-            return Came::ended(alloc, ending);
+            let came = Came::ended(alloc, ending)?;
+            return Ok(Opening::Over(came));
         }
         Some(Step::Does(code, ..)) => code.clone()?,
     };
-    let frame = CommandFrame {
+    Ok(Opening::Does(CommandFrame {
         program,
         at: 0,
         running: Running::new(alloc, code),
-    };
-    let came = run(alloc, kept, state, frame)?;
-    Ok(came)
+    }))
 }
 
-// Evaluates a script from the command of the frame on.
-fn run(
-    alloc: Global,
-    kept: &mut Kept,
-    state: &mut State,
-    frame: CommandFrame,
-) -> Result<Came, NoMemory>
-    ensures { IfOk result (λ came. GoesOn (then_came came state.new) kept.new
-        (begun_command frame state.old) kept.old) }
-{
-    let mut frame = frame;
-    'commands: for _ in 0..u64::MAX {
-        match command(alloc, kept, state, &mut frame)? {
-            Done::Stops(stop) => {
-                let came = stopped(alloc, frame, stop)?;
-                return Ok(came);
-            }
-            Done::Fine(value) => {
-                if let Some(came) = pass(alloc, &mut frame, value)? {
-                    return Ok(came);
-                }
-            }
-        }
-    }
-    Err(NoMemory)
-}
-
-/// Goes on with a script once the command of the frame is done.
+/// The next command takes the place of one that has this result; or the script is over.
 ///
 /// `NoMemory` if memory is refused.
-pub(crate) fn go_on(
+pub(crate) fn pass(
     alloc: Global,
-    kept: &mut Kept,
-    state: &mut State,
-    frame: CommandFrame,
-    done: Done,
-) -> Result<Came, NoMemory>
-    ensures runs { IfOk result (λ came. GoesOn (then_came came state.new) kept.new
-        (then_done done frame state.old) kept.old) }
-{
-    match done {
-        Done::Stops(stop) => {
-            let came = stopped(alloc, frame, stop)?;
-            Ok(came)
-        }
-        Done::Fine(value) => {
-            let mut frame = frame;
-            match pass(alloc, &mut frame, value)? {
-                Some(came) => Ok(came),
-                None => {
-                    let came = run(alloc, kept, state, frame)?;
-                    Ok(came)
-                }
-            }
-        }
-    }
-}
-
-// The next command takes the place of one that has this result; or the script is over.
-fn pass(alloc: Global, frame: &mut CommandFrame, last: Value) -> Result<Option<Came>, NoMemory>
-    ensures { IfOk result (λ came. (state : Counts)
-        → commands (arc_value frame.old.program)
-        (drop (frame.old.at + 1) (steps_of (arc_value frame.old.program))) last state
-        ≡ then_passed came frame.new state) }
+    frame: &mut CommandFrame,
+    last: Value,
+) -> Result<Option<Came>, NoMemory>
+    ensures passed { IfOk result (λ came. (state : Counts)
+        → commands_after frame.old last state ≡ then_passed came frame.new state) }
+    ensures plain { IfOk result (λ came. IfSome came (λ came. IsTrue (is_plain came))) }
 {
     let at = frame.at.checked_add(1).ok_or(NoMemory)?;
     let code = match frame.program.step(at) {

@@ -45,7 +45,7 @@ impl Hosted<Tcl> for Direct {
         frame: Frame,
         outcome: Ending,
     ) -> Result<Next, NoMemory> {
-        let next = tt_direct::go_on(alloc, host, &mut stack.state, frame, outcome)?;
+        let next = tt_direct::go_on(alloc, host, stack, frame, outcome)?;
         Ok(next)
     }
 
@@ -56,7 +56,7 @@ impl Hosted<Tcl> for Direct {
         asking: Asking,
         got: Got,
     ) -> Result<Next, NoMemory> {
-        let next = tt_direct::take(alloc, host, &mut stack.state, asking, got)?;
+        let next = tt_direct::take(alloc, host, stack, asking, got)?;
         Ok(next)
     }
 

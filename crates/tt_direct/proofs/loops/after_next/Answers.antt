@@ -1,30 +1,41 @@
-use Rattle.std.proofs.Common.{rules, ◌≡◌, ◌∙◌, sym, ap}
-use Rattle.tt_frames.specs.Frames.{after}
+use Rattle.std.proofs.Common.{rules, ◌≡◌, ap}
 use Rattle.tt_evaluation.specs.Plans.{Goes}
-use Rattle.tt_frames.specs.declared.job.Job.TheVariants as job
-use Rattle.tt_frames.specs.Vocabulary.{Then}
 use Rattle.tt_frames.specs.declared.job.Frame.TheVariants as frames
-use Rattle.tt_direct.proofs.Turning.{part_over}
-use Rattle.tt_direct.specs.inside.Loops.{loop_of, then_turned}
+use Rattle.tt_frames.specs.declared.job.Job.TheVariants as job
+use Rattle.tt_frames.specs.declared.job.Loop.{Loop}
+use Rattle.tt_direct.proofs.Staying.{called_ends, called_fine, called_moves_as}
+use Rattle.tt_direct.specs.inside.Loops.{loop_of}
+use Rattle.tt_direct.specs.declared.came.Came.TheVariants as came
 use Rattle.tt_direct.proofs.loops.after_next.Goals as goal
 
 pub returns-in-Fine : goal.returns-in-Fine
-returns-in-Fine c kept held whole before inside =
+returns-in-Fine c =
     let loop = loop_of c.args.parts.now in
-    part_over c.args.next c.in-Done.ending (Goes (job.Loop loop)) whole (frames.LoopNext loop) c.args.stack.now before c.in-Done.is (search rules) inside
+    record {
+      done = λ kept held whole before here on.
+          called_fine kept held whole c.args.stack.now before c.args.came (frames.LoopNext loop) c.in-Fine.field-0 c.in-Fine.is on;
+    }
 
-pub returns-in_ok-turned-in-Broke : goal.returns-in_ok-turned-in-Broke
-returns-in_ok-turned-in-Broke c kept held whole before inside =
+pub returns-in-Ends : goal.returns-in-Ends
+returns-in-Ends c =
     let loop = loop_of c.args.parts.now in
-    let turned = c.in_ok-turned-in-Broke.turned in
-    let stops = c.in_ok-turned-in-Broke.ensures.stops (Goes (job.Loop loop)) in
-    part_over c.args.next c.in-Done.ending (then_turned turned (Goes (job.Loop loop))) whole (frames.LoopNext loop) c.args.stack.now before c.in-Done.is
-    (search (stops, rules)) inside
+    let old = c.args.stack.now in
+    let ending = c.into_inner.result in
+    let ends : c.args.came ≡ came.Ends ending = search rules in
+    record {
+      done = λ kept held whole before here on.
+          c.in_ok-turned-in-Ends.ensures (Goes (job.Loop loop)) kept held whole old before
+          (called_ends kept held whole old before c.args.came (frames.LoopNext loop) ending ends on).1;
+    }
 
-pub returns-in_ok-turned-in_default-ending : goal.returns-in_ok-turned-in_default-ending
-returns-in_ok-turned-in_default-ending c kept held whole before inside =
+pub returns : goal.returns
+returns c =
     let loop = loop_of c.args.parts.now in
-    let turned = c.in_ok-turned-in_default-ending.turned in
-    let stops = c.in_ok-turned-in_default-ending.ensures.stops (Goes (job.Loop loop)) in
-    part_over c.args.next c.in-Done.ending (then_turned turned (Goes (job.Loop loop))) whole (frames.LoopNext loop) c.args.stack.now before c.in-Done.is
-    (search (stops, rules)) inside
+    let made : Loop = c.in_ok-whole-in-Moves.field-0 in
+    let same : loop ≡ made = search rules in
+    record {
+      done = λ kept held whole before here on.
+          c.in_ok-came-in-Moves.ensures.left kept held whole before here
+          (called_moves_as kept held whole c.args.stack.now before c.args.came (frames.LoopNext loop) (frames.LoopNext made) c.in-Moves.next
+          (ap frames.LoopNext same) c.in-Moves.is on);
+    }

@@ -1,37 +1,42 @@
-use Rattle.std.proofs.Common.{rules, ◌≡◌, ◌∙◌, refl, sym, ap}
+use Rattle.std.proofs.Common.{rules, refl}
 use Rattle.std.specs.Arc.{arc_value}
 use Rattle.std.specs.Option.{option_map}
-use Rattle.tt_evaluation.specs.Plans.{Goes}
-use Rattle.tt_frames.specs.Loops.{looping, turning}
-use Rattle.tt_frames.specs.Units.{past_limit}
-use Rattle.tt_frames.specs.Vocabulary.{Then, same_ending}
-use Rattle.tt_frames.specs.declared.job.Job.TheVariants as job
-use Rattle.tt_outcomes.specs.Endings.{error_ending}
-use Rattle.tt_direct.proofs.Remains.{same_next}
-use Rattle.tt_direct.proofs.Spending.{unit_past}
-use Rattle.tt_direct.proofs.Turning.{next_is, turn_begins}
+use Rattle.tt_direct.proofs.Turning.{next_is, turn_begins, turn_past, turn_pauses}
 use Rattle.tt_direct.specs.Leading.{TclStack}
-use Rattle.tt_direct.specs.inside.Loops.{loop_of, then_turned}
+use Rattle.tt_direct.specs.inside.Loops.{loop_of}
 use Rattle.tt_direct.proofs.loops.begin.Goals as goal
 
-pub returns-in_ok-turned-in-Past : goal.returns-in_ok-turned-in-Past
-returns-in_ok-turned-in-Past c kept =
+pub returns-in_ok-came-in-Past : goal.returns-in_ok-came-in-Past
+returns-in_ok-came-in-Past c =
     let parts = c.args.parts.now in
-    let loop = loop_of parts in
-    let turned = c.in_ok-turned-in-Past.turned in
-    let old = c.args.stack.now.state in
-    let new = c.spend.new.self in
-    let stops = c.in_ok-turned-in-Past.ensures.stops (turning loop) in
-    let same : same_ending (error_ending past_limit) new ≡ then_turned turned (turning loop) new = search (stops, rules) in
-    same_next kept (then_turned turned (turning loop)) (looping loop) (record c.args.stack.now { state = new }) c.args.stack.now
-    (next_is parts.test (arc_value parts.body) (option_map arc_value parts.next) old
-    ∙ unit_past (Goes (job.Turn loop)) (same_ending (error_ending past_limit)) old new (search rules) (search rules) ∙ same) refl refl
+    let old = c.args.stack.now in
+    let stack : TclStack = record old { state = c.spend.new.self } in
+    let ended = c.in_ok-came-in-Past.ensures.ended stack.state in
+    record {
+      begun = λ kept. turn_past kept c.in_ok-came-in-Past.came (loop_of parts) stack old
+          (next_is parts.test (arc_value parts.body) (option_map arc_value parts.next) old.state)
+          (search rules) (search rules) refl refl (search rules) (search (ended, rules));
+    }
+
+pub returns-in_ok-came-in-Pauses : goal.returns-in_ok-came-in-Pauses
+returns-in_ok-came-in-Pauses c =
+    let parts = c.args.parts.now in
+    let old = c.args.stack.now in
+    let stack : TclStack = record old { state = c.spend.new.self } in
+    let moves = c.in_ok-came-in-Pauses.ensures.moves stack.state in
+    record {
+      begun = λ kept. turn_pauses kept c.in_ok-came-in-Pauses.came (loop_of parts) stack old
+          (next_is parts.test (arc_value parts.body) (option_map arc_value parts.next) old.state)
+          (search rules) (search rules) refl refl (search rules) (search (moves, rules));
+    }
 
 pub returns-in_ok-stack-in-Spent : goal.returns-in_ok-stack-in-Spent
-returns-in_ok-stack-in-Spent c kept =
+returns-in_ok-stack-in-Spent c =
     let parts = c.args.parts.now in
     let old = c.args.stack.now in
     let stack : TclStack = record old { state = c.spend.new.self; steps = c.in_ok-stack-in-Spent.field-0 } in
-    turn_begins kept (loop_of parts) stack old
-    (next_is parts.test (arc_value parts.body) (option_map arc_value parts.next) old.state)
-    (search rules) (search rules) (search rules) refl
+    record {
+      begun = λ kept. turn_begins kept (loop_of parts) stack old
+          (next_is parts.test (arc_value parts.body) (option_map arc_value parts.next) old.state)
+          (search rules) (search rules) (search rules) refl;
+    }

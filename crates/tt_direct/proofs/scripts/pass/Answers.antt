@@ -7,8 +7,8 @@ use Rattle.tt_frames.specs.declared.job.CommandFrame.{CommandFrame}
 use Rattle.tt_direct.proofs.Spending.{next_left}
 use Rattle.tt_direct.proofs.scripts.pass.Goals as goal
 
-pub returns : goal.returns
-returns c state =
+pub returns-clause-passed : goal.returns-clause-passed
+returns-clause-passed c state =
     let text = arc_value c.args.frame.now.program in
     let frame : CommandFrame = record { program = c.args.frame.now.program; at = c.in_ok-at.at; running = c.restart.new.self } in
     let here : c.args.frame.now.at + 1 ≡ c.in_ok-at.at = search rules in
